@@ -1,0 +1,112 @@
+-- Tables P and C of 01 with what its text says of them, and small tables that tell wrong definitions apart.
+-- Assumes nothing.
+use mathlib.Core.Path.{_≡_, refl}
+use mathlib.Core.List.{List, [], _∷_}
+use Prim.Native.Nat.{ℕ}
+use Rattle.simulation.specs.Sum.{below}
+use Rattle.simulation.specs.Table.{Entry, Transition, Table}
+use Rattle.simulation.specs.Round.{rank, rank-list, maximum, zeros}
+use Rattle.simulation.specs.Tree.{depth, tree, node-bytes}
+use Rattle.simulation.specs.Length.{pair-length, tree-length}
+
+abbrev pub entry : ℕ → ℕ → Entry
+entry t w = record { target = t; weight = w }
+
+abbrev pub on : ℕ → List Entry → Transition
+on a es = record { code = a; entries = es }
+
+-- to state 1 with weight w, to state 2 with weight 1
+abbrev pub either : ℕ → Transition
+either w = on 10 (entry 1 w ∷ entry 2 1 ∷ [])
+
+-- back to the state s
+abbrev pub stay : ℕ → ℕ → Transition
+stay a s = on a (entry s 1 ∷ [])
+
+abbrev pub with-first : ℕ → Table
+with-first w = record { codes = 10 ∷ 20 ∷ []; states = (either w ∷ []) ∷ (stay 20 1 ∷ []) ∷ [] ∷ [] }
+
+abbrev pub P : Table
+P = with-first 3
+
+abbrev pub C : Table
+C = with-first 1
+
+-- ranks
+
+unfoldable pub ranks-of : Table → Table → List (List ℕ)
+unfolding below rank
+ranks-of M N = below 0 3 (λ s. below 0 3 (rank M N s))
+
+pc : ranks-of P C ≡ (2 ∷ 1 ∷ 1 ∷ []) ∷ (1 ∷ 0 ∷ 1 ∷ []) ∷ (0 ∷ 0 ∷ 0 ∷ []) ∷ []
+unfolding ranks-of
+pc = refl
+
+pp : ranks-of P P ≡ (0 ∷ 1 ∷ 1 ∷ []) ∷ (1 ∷ 0 ∷ 1 ∷ []) ∷ (0 ∷ 0 ∷ 0 ∷ []) ∷ []
+unfolding ranks-of
+pp = refl
+
+-- two targets that can each be sent out alone, and not together
+abbrev pub twins : Table
+twins = record { codes = 10 ∷ 20 ∷ []; states = (either 1 ∷ []) ∷ (stay 20 1 ∷ []) ∷ (stay 20 2 ∷ []) ∷ [] }
+
+together : rank twins C 0 0 ≡ 2
+unfolding rank
+together = refl
+
+-- trees
+
+pc-tree : node-bytes (tree P C 0 0) ≡ 1 ∷ 10 ∷ 2 ∷ 1 ∷ 3 ∷ 0 ∷ 1 ∷ 20 ∷ 1 ∷ 1 ∷ 1 ∷ 0 ∷ 0 ∷ 2 ∷ 1 ∷ 0 ∷ 0 ∷ []
+unfolding node-bytes tree
+pc-tree = refl
+
+pc-length : tree-length P C 0 0 ≡ 17
+unfolding pair-length
+pc-length = refl
+
+-- a contract with two like-coded steps, both to be beaten; the second has sets {2} and {1, 2} of the largest excess
+abbrev pub pod : Table
+pod = record { codes = 10 ∷ 20 ∷ 30 ∷ []; states = (either 1 ∷ []) ∷ (stay 20 1 ∷ []) ∷ (stay 30 2 ∷ []) ∷ [] }
+
+abbrev pub contract : Table
+contract = record { codes = 10 ∷ 20 ∷ 30 ∷ []; states = (stay 10 1 ∷ either 1 ∷ []) ∷ (stay 20 1 ∷ []) ∷ [] ∷ [] }
+
+both-beaten : node-bytes (tree pod contract 0 0) ≡ 1 ∷ 10 ∷ 2 ∷ 1 ∷ 1 ∷ 0 ∷ 0 ∷ 2 ∷ 1 ∷ 0 ∷ 2 ∷ 30 ∷ 1 ∷ 2 ∷ 1 ∷ 0 ∷ 0 ∷ 30 ∷ 1 ∷ 2 ∷ 1 ∷ 0 ∷ 0 ∷ []
+unfolding node-bytes tree
+both-beaten = refl
+
+two-deep : depth (tree pod contract 0 0) ≡ 2
+unfolding depth tree
+two-deep = refl
+
+-- a target that is the pair's own state, which falls in the same round
+abbrev pub returning : ℕ → Table
+returning w = record { codes = 10 ∷ 20 ∷ []; states = (on 10 (entry 0 1 ∷ entry 1 w ∷ []) ∷ []) ∷ (stay 20 1 ∷ []) ∷ [] }
+
+round-before : node-bytes (tree (returning 3) (returning 1) 0 0) ≡ 1 ∷ 10 ∷ 2 ∷ 0 ∷ 1 ∷ 0 ∷ 0 ∷ 1 ∷ 3 ∷ 0 ∷ 1 ∷ 20 ∷ 1 ∷ 1 ∷ 1 ∷ 0 ∷ 0 ∷ []
+unfolding node-bytes tree
+round-before = refl
+
+-- two transitions that the contract has no answer to: the first is chosen
+abbrev pub two-ways : Table
+two-ways = record { codes = 10 ∷ 20 ∷ []; states = (stay 10 0 ∷ stay 20 0 ∷ []) ∷ [] }
+
+abbrev pub no-way : Table
+no-way = record { codes = []; states = [] ∷ [] }
+
+first-chosen : node-bytes (tree two-ways no-way 0 0) ≡ 1 ∷ 10 ∷ 1 ∷ 0 ∷ 1 ∷ 0 ∷ 0 ∷ []
+unfolding node-bytes tree
+first-chosen = refl
+
+-- all ranks, the count of rounds and the count of kept pairs
+pc-list : rank-list P C ≡ 2 ∷ 1 ∷ 1 ∷ 1 ∷ 0 ∷ 1 ∷ 0 ∷ 0 ∷ 0 ∷ []
+unfolding rank-list
+pc-list = refl
+
+pc-rounds : maximum (rank-list P C) ≡ 2
+unfolding maximum rank-list
+pc-rounds = refl
+
+pc-kept : zeros (rank-list P C) ≡ 4
+unfolding zeros rank-list
+pc-kept = refl

@@ -1,0 +1,34 @@
+-- How many bytes a pair's tree takes, from the lengths of pairs of lower rank: no tree is made.
+-- Assumes nothing.
+use Prim.Native.Nat.{ℕ, zero, suc, _+_, min}
+use lib.ListN.{length}
+use Rattle.simulation.specs.Sum.{sum, when}
+use Rattle.simulation.specs.Table.{Table, target-at, states-of}
+use Rattle.simulation.specs.Round.{round, rank}
+use Rattle.simulation.specs.Tree.{witness, apart, chosen, set-of}
+
+module _ (M N : Table) where
+  -- the bytes of a pair's transition, where `len` gives those of the pairs below it:
+  -- a code and a count, then for each target a state, a weight, a count and the transitions of its set
+  unfoldable pub one-length : (ℕ → ℕ → ℕ) → ℕ → ℕ → ℕ
+  unfolding sum round rank witness apart
+  one-length len s t =
+      2 + sum (length (chosen M N s t .entries)) (λ i. 4 + sum (states-of N) (λ t′. when (set-of M N s t i t′) (len (target-at (chosen M N s t) i) t′)))
+
+  -- the fuel is at least the pair's rank
+  unfoldable pub step-length : (fuel : ℕ) → ℕ → ℕ → ℕ
+  unfolding one-length
+  step-length zero s t = 0
+  step-length (suc fuel) s t = one-length (step-length fuel) s t
+
+  unfoldable pub pair-length : ℕ → ℕ → ℕ
+  unfolding step-length rank
+  pair-length s t = step-length (rank M N s t) s t
+
+  -- the root's count, then its one transition
+  abbrev pub tree-length : ℕ → ℕ → ℕ
+  tree-length s t = 1 + pair-length s t
+
+  -- no number above the limit
+  abbrev pub capped-length : (limit : ℕ) → ℕ → ℕ → ℕ
+  capped-length limit s t = min limit (pair-length s t)

@@ -1,0 +1,10 @@
+-- The definitions, in reading order.
+-- Assumes nothing.
+pub mod Sum
+pub mod Fit
+pub mod Table
+pub mod Round
+pub mod Tree
+pub mod Length
+pub mod Demands
+pub mod Examples
