@@ -1,7 +1,8 @@
--- Fitting one distribution to another: gains, lemma 1, the cut, and how fits combine.
+-- Fitting one distribution to another: gains, lemma 1, the cut, how fits combine, and what of a relation they look at.
 -- Assumes nothing.
 pub mod Gain
 pub mod Hall
 pub mod Cut
 pub mod Compose
 pub mod Lemma1
+pub mod Agree

@@ -1,0 +1,406 @@
+// A plain podcheck in C++ over LEMON's maximum flow, to measure the proved
+// one against.
+
+#include <lemon/preflow.h>
+#include <lemon/smart_graph.h>
+
+#include <algorithm>
+#include <bit>
+#include <cstdint>
+#include <cstdio>
+#include <iostream>
+#include <iterator>
+#include <memory>
+#include <optional>
+#include <queue>
+#include <string>
+#include <vector>
+
+namespace {
+
+using Set = std::uint64_t;
+using Bytes = std::vector<unsigned char>;
+
+constexpr std::uint32_t longest = 65535;
+
+struct Entry {
+  int target;
+  long weight;
+};
+
+struct Step {
+  int code;
+  long total = 0;
+  std::vector<Entry> entries;
+};
+
+struct Table {
+  std::vector<std::vector<Step>> states;
+  std::vector<Set> successors;
+};
+
+struct Refusal {
+  int number;
+};
+
+bool has(Set set, int member) { return set >> member & 1; }
+
+template <typename Work>
+void each(Set set, Work work) {
+  for (; set != 0; set &= set - 1) work(std::countr_zero(set));
+}
+
+class Reader {
+ public:
+  explicit Reader(const Bytes& bytes) : bytes_(bytes) {}
+
+  void need(std::size_t count) const {
+    if (bytes_.size() - at_ < count) throw Refusal{1};
+  }
+  int byte() {
+    need(1);
+    return bytes_[at_++];
+  }
+  int two() {
+    need(2);
+    int low = byte();
+    return low + 256 * byte();
+  }
+  bool done() const { return at_ == bytes_.size(); }
+
+ private:
+  const Bytes& bytes_;
+  std::size_t at_ = 0;
+};
+
+void rule(bool holds, int number) {
+  if (!holds) throw Refusal{number};
+}
+
+Table parse(const Bytes& bytes) {
+  Reader reader(bytes);
+  std::vector<int> codes(reader.byte());
+  reader.need(codes.size());
+  for (int& code : codes) code = reader.byte();
+  auto falls = std::adjacent_find(codes.begin(), codes.end(),
+                                  [](int a, int b) { return a >= b; });
+  rule(falls == codes.end(), 3);
+
+  int count = reader.byte();
+  rule(count >= 1 && count <= 64, 4);
+  reader.need(count);
+  Table table;
+  int sum = 0;
+  for (int s = 0; s < count; ++s) {
+    table.states.emplace_back(reader.byte());
+    sum += table.states.back().size();
+  }
+
+  count = reader.two();
+  rule(count <= 128 && count == sum, 5);
+  reader.need(2 * count);
+  sum = 0;
+  for (auto& steps : table.states) {
+    for (Step& step : steps) {
+      step.code = reader.byte();
+      rule(std::binary_search(codes.begin(), codes.end(), step.code), 6);
+      step.entries.resize(reader.byte());
+      rule(!step.entries.empty(), 8);
+      sum += step.entries.size();
+    }
+  }
+
+  count = reader.two();
+  rule(count <= 512 && count == sum, 7);
+  reader.need(3 * count);
+  for (auto& steps : table.states) {
+    Set successors = 0;
+    for (Step& step : steps) {
+      int last = -1;
+      for (Entry& entry : step.entries) {
+        entry.target = reader.byte();
+        rule(entry.target < int(table.states.size()) && entry.target > last, 9);
+        last = entry.target;
+        entry.weight = reader.two();
+        step.total += entry.weight;
+        rule(entry.weight >= 1 && step.total <= 65535, 10);
+        successors |= Set(1) << entry.target;
+      }
+    }
+    table.successors.push_back(successors);
+  }
+  rule(reader.done(), 2);
+  return table;
+}
+
+using Relation = std::vector<Set>;
+
+// The network of two steps: a source, the first step's entries, the
+// second's, a sink.
+class Network {
+ public:
+  Network(const Relation& relation, const Step& m, const Step& n)
+      : m_(m), n_(n), room_(graph_) {
+    int rows = m.entries.size();
+    int columns = n.entries.size();
+    graph_.reserveNode(rows + columns + 2);
+    for (int k = 0; k < rows + columns + 2; ++k) graph_.addNode();
+    source_ = graph_.nodeFromId(rows + columns);
+    sink_ = graph_.nodeFromId(rows + columns + 1);
+    for (int i = 0; i < rows; ++i) {
+      join(source_, row(i), m.entries[i].weight * n.total);
+      for (int j = 0; j < columns; ++j) {
+        if (has(relation[m.entries[i].target], n.entries[j].target)) {
+          join(row(i), column(j), m.total * n.total);
+        }
+      }
+    }
+    for (int j = 0; j < columns; ++j) {
+      join(column(j), sink_, n.entries[j].weight * m.total);
+    }
+  }
+
+  bool fits() {
+    Flow flow(graph_, room_, source_, sink_);
+    flow.runMinCut();
+    return flow.flowValue() == m_.total * n_.total;
+  }
+
+  // The entries of the first step that the residual network has a way to.
+  std::vector<bool> cut() {
+    Flow flow(graph_, room_, source_, sink_);
+    flow.run();
+    std::vector<bool> reached(graph_.nodeNum());
+    std::queue<Graph::Node> waiting;
+    auto reach = [&](Graph::Node node) {
+      if (!reached[graph_.id(node)]) {
+        reached[graph_.id(node)] = true;
+        waiting.push(node);
+      }
+    };
+    for (reach(source_); !waiting.empty(); waiting.pop()) {
+      Graph::Node node = waiting.front();
+      for (Graph::OutArcIt arc(graph_, node); arc != lemon::INVALID; ++arc) {
+        if (flow.flow(arc) < room_[arc]) reach(graph_.target(arc));
+      }
+      for (Graph::InArcIt arc(graph_, node); arc != lemon::INVALID; ++arc) {
+        if (flow.flow(arc) > 0) reach(graph_.source(arc));
+      }
+    }
+    reached.resize(m_.entries.size());
+    return reached;
+  }
+
+ private:
+  using Graph = lemon::SmartDigraph;
+  using Flow = lemon::Preflow<Graph, Graph::ArcMap<long>>;
+
+  Graph::Node row(int i) const { return graph_.nodeFromId(i); }
+  Graph::Node column(int j) const {
+    return graph_.nodeFromId(m_.entries.size() + j);
+  }
+  void join(Graph::Node from, Graph::Node to, long room) {
+    room_[graph_.addArc(from, to)] = room;
+  }
+
+  const Step& m_;
+  const Step& n_;
+  Graph graph_;
+  Graph::ArcMap<long> room_;
+  Graph::Node source_, sink_;
+};
+
+bool fits_some(const Relation& relation, const Step& m,
+               const std::vector<Step>& ns) {
+  return std::any_of(ns.begin(), ns.end(), [&](const Step& n) {
+    return n.code == m.code && Network(relation, m, n).fits();
+  });
+}
+
+struct Ranking {
+  std::vector<std::vector<int>> ranks;
+  int rounds = 0;
+  int kept = 0;
+};
+
+// A pair is looked at again only if its successors lost a pair in the round
+// before.
+Ranking rank(const Table& first, const Table& second) {
+  int height = first.states.size();
+  int width = second.states.size();
+  Relation relation(height, ~Set(0) >> (64 - width));
+  Relation lost(height);
+  Ranking ranking;
+  ranking.ranks.assign(height, std::vector<int>(width));
+  for (bool any = true; any;) {
+    Relation now(height);
+    any = false;
+    for (int s = 0; s < height; ++s) {
+      Set gone = 0;
+      each(first.successors[s], [&](int next) { gone |= lost[next]; });
+      if (ranking.rounds > 0 && gone == 0) continue;
+      each(relation[s], [&](int t) {
+        if (ranking.rounds > 0 && (gone & second.successors[t]) == 0) return;
+        const auto& ms = first.states[s];
+        bool kept = std::all_of(ms.begin(), ms.end(), [&](const Step& m) {
+          return fits_some(relation, m, second.states[t]);
+        });
+        if (!kept) {
+          now[s] |= Set(1) << t;
+          ranking.ranks[s][t] = ranking.rounds + 1;
+          any = true;
+        }
+      });
+    }
+    for (int s = 0; s < height; ++s) relation[s] &= ~now[s];
+    lost = now;
+    ranking.rounds += any;
+  }
+  for (Set row : relation) ranking.kept += std::popcount(row);
+  return ranking;
+}
+
+// The trees of pairs that are not kept.
+class Trees {
+ public:
+  Trees(const Table& first, const Table& second, const Ranking& ranking)
+      : first_(first), second_(second), ranks_(ranking.ranks) {
+    chosen_.resize(64 * 64);
+  }
+
+  // The length of a pair's transition, cut off above the longest.
+  std::uint32_t length(int s, int t) {
+    std::optional<Chosen>& chosen = chosen_[64 * s + t];
+    if (!chosen) {
+      Chosen found = choose(s, t);
+      std::uint32_t sum = 2;
+      for (std::size_t i = 0; i < found.sets.size(); ++i) {
+        sum += 4;
+        each(found.sets[i], [&](int other) {
+          sum = std::min(sum + length(found.m->entries[i].target, other),
+                         2 * longest);
+        });
+      }
+      found.length = sum;
+      chosen = std::move(found);
+    }
+    return chosen->length;
+  }
+
+  // Appends the node of a state and a set.
+  void write(int s, Set set, Bytes& bytes) const {
+    bytes.push_back(std::popcount(set));
+    each(set, [&](int t) {
+      const Chosen& chosen = *chosen_[64 * s + t];
+      bytes.push_back(chosen.m->code);
+      bytes.push_back(chosen.m->entries.size());
+      for (std::size_t i = 0; i < chosen.sets.size(); ++i) {
+        const Entry& entry = chosen.m->entries[i];
+        bytes.push_back(entry.target);
+        bytes.push_back(entry.weight % 256);
+        bytes.push_back(entry.weight / 256);
+        write(entry.target, chosen.sets[i], bytes);
+      }
+    });
+  }
+
+ private:
+  struct Chosen {
+    const Step* m;
+    std::vector<Set> sets;
+    std::uint32_t length;
+  };
+
+  Chosen choose(int s, int t) const {
+    Relation relation(first_.states.size());
+    each(first_.successors[s], [&](int i) {
+      each(second_.successors[t], [&](int j) {
+        bool related = ranks_[i][j] == 0 || ranks_[i][j] >= ranks_[s][t];
+        relation[i] |= Set(related) << j;
+      });
+    });
+    const auto& ns = second_.states[t];
+    const Step& m = *std::find_if(
+        first_.states[s].begin(), first_.states[s].end(),
+        [&](const Step& m) { return !fits_some(relation, m, ns); });
+    Chosen chosen{&m, std::vector<Set>(m.entries.size()), 0};
+    for (const Step& n : ns) {
+      if (n.code != m.code) continue;
+      std::vector<bool> cut = Network(relation, m, n).cut();
+      Set related = 0;
+      for (std::size_t i = 0; i < cut.size(); ++i) {
+        if (cut[i]) related |= relation[m.entries[i].target];
+      }
+      Set apart = 0;
+      for (const Entry& entry : n.entries) apart |= Set(1) << entry.target;
+      apart &= ~related;
+      for (std::size_t i = 0; i < cut.size(); ++i) {
+        if (cut[i]) chosen.sets[i] |= apart;
+      }
+    }
+    return chosen;
+  }
+
+  const Table& first_;
+  const Table& second_;
+  const std::vector<std::vector<int>>& ranks_;
+  std::vector<std::optional<Chosen>> chosen_;
+};
+
+// Takes a length and a table from the input.
+Bytes take(const Bytes& input, std::size_t& at) {
+  if (input.size() - at < 2) {
+    at = input.size();
+    return {};
+  }
+  std::size_t length = input[at] + 256 * input[at + 1];
+  auto start = input.begin() + at + 2;
+  length = std::min<std::size_t>(length, input.end() - start);
+  at += 2 + length;
+  return Bytes(start, start + length);
+}
+
+std::string answer(const Table& first, const Table& second) {
+  Ranking ranking = rank(first, second);
+  std::string text = "tables " + std::to_string(first.states.size()) + " " +
+                     std::to_string(second.states.size()) + "\n";
+  for (std::size_t s = 0; s < ranking.ranks.size(); ++s) {
+    text += "row " + std::to_string(s);
+    for (int rank : ranking.ranks[s]) text += " " + std::to_string(rank);
+    text += "\n";
+  }
+  bool yes = ranking.ranks[0][0] == 0;
+  text += "rounds " + std::to_string(ranking.rounds) + " kept " +
+          std::to_string(ranking.kept) + " verdict " + (yes ? "yes" : "no") +
+          "\n";
+  if (yes) return text;
+  Trees trees(first, second, ranking);
+  if (trees.length(0, 0) >= longest) return text + "tree refused 23\n";
+  Bytes bytes;
+  trees.write(0, 1, bytes);
+  text += "tree";
+  for (int byte : bytes) {
+    const char* digits = "0123456789abcdef";
+    text += {' ', digits[byte / 16], digits[byte % 16]};
+  }
+  return text + "\n";
+}
+
+}  // namespace
+
+int main() {
+  Bytes input(std::istreambuf_iterator<char>(std::cin), {});
+  std::size_t at = 0;
+  std::vector<Bytes> bytes = {take(input, at), take(input, at)};
+  std::vector<Table> tables;
+  for (const Bytes& table : bytes) {
+    try {
+      tables.push_back(parse(table));
+    } catch (const Refusal& refusal) {
+      std::printf("refused %d %d\n", int(tables.size()) + 1, refusal.number);
+      return 0;
+    }
+  }
+  std::string text = answer(tables[0], tables[1]);
+  std::fwrite(text.data(), 1, text.size(), stdout);
+}

@@ -1,0 +1,61 @@
+//! Calls the library on one input of podcheck's, all buffers on the heap, so that the stack is the library's own.
+//! With the word "idle" as first argument everything is done but the call.
+
+use std::io::Read;
+
+extern "C" {
+    fn pod_check(
+        first: *const u8,
+        first_len: usize,
+        second: *const u8,
+        second_len: usize,
+        s: usize,
+        t: usize,
+        ranks: *mut u16,
+        ranks_len: usize,
+        flow: *mut u8,
+        flow_len: usize,
+        tree: *mut u8,
+        tree_len: usize,
+        answer: *mut u32,
+        answer_len: usize,
+    );
+}
+
+fn table(input: &[u8]) -> (&[u8], &[u8]) {
+    let length = usize::from(input[0]) + 256 * usize::from(input[1]);
+    input[2..].split_at(length)
+}
+
+fn main() {
+    let mut input = Vec::new();
+    std::io::stdin().read_to_end(&mut input).unwrap();
+    let (first, rest) = table(&input);
+    let (second, _) = table(rest);
+    let mut ranks = vec![0u16; 4096];
+    let mut flow = vec![0u8; 196_993];
+    let mut tree = vec![0u8; 65_535];
+    let mut answer = vec![0u32; 8];
+    if std::env::args().nth(1).as_deref() != Some("idle") {
+        // SAFETY: every pointer is good for the length beside it, and the buffers do not overlap.
+        unsafe {
+            pod_check(
+                first.as_ptr(),
+                first.len(),
+                second.as_ptr(),
+                second.len(),
+                0,
+                0,
+                ranks.as_mut_ptr(),
+                ranks.len(),
+                flow.as_mut_ptr(),
+                flow.len(),
+                tree.as_mut_ptr(),
+                tree.len(),
+                answer.as_mut_ptr(),
+                answer.len(),
+            );
+        }
+    }
+    println!("{answer:?}");
+}

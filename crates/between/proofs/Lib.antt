@@ -1,0 +1,3 @@
+-- Laws of the rows.
+-- Assumes nothing.
+pub mod Laws

@@ -1,0 +1,3 @@
+-- What is written into a lent buffer.
+-- Assumes nothing.
+pub mod Buffer

@@ -1,0 +1,118 @@
+-- 01's starred examples: of each row's call every result that the contract allows is the one that 01 gives.
+-- Assumes nothing.
+use mathlib.Core.Path.{_≡_, refl, ap, _∙_}
+use mathlib.Core.List.{List, [], _∷_, _++_}
+use Prim.Native.Nat.{ℕ, _+_, _<_}
+use native.Mathlib.Omega.{arith}
+use native.Mathlib.Decide.{ℕ-discrete}
+use lib.Dec.{T}
+use lib.ListN.{length, replicate}
+use Rattle.simulation.specs.Sum.{sum}
+use Rattle.simulation.specs.Fit.{Amounts, Shares, total}
+use Rattle.simulation.specs.Round.{between, round, rank}
+use Rattle.simulation.specs.Demands.{Kept}
+use Rattle.simulation.specs.Tree.{node-bytes, tree}
+use Rattle.simulation.specs.Examples as tables
+use Rattle.table.specs.Bytes.{decode}
+use Rattle.witness.specs.Flow.{Right, place, flow-record, flow-row, flow-records, count, flow-of, flow-bytes}
+use Rattle.pod.specs.Check.{Result, left, success, with-flow, outcome, kept-outcome, checked, RightFor, Checked}
+use Rattle.pod.specs.Examples.{flow-CP, tree-fits, tree-short, itself, flow-fits, flow-short, one-state, no-bytes, cut-short, byte-more, codes-exchanged, second-cut-short, rows, Covered, All, done, _also_}
+
+-- the amounts of C, P: any right ones are 01's
+module _ (x : ℕ → Amounts) (right : Right tables.C tables.P 0 0 x) where
+  shares : Shares (λ i j. T (between (round tables.C tables.P 9) (tables.either 1) (tables.either 3) i j)) (1 ∷ 1 ∷ []) (3 ∷ 1 ∷ []) (x 0)
+  unfolding Right place round
+  shares = right 0 (omega arith)
+
+  unrelated : x 0 0 1 ≡ 0
+  unfolding round
+  unrelated = go (ℕ-discrete (x 0 0 1) 0)
+    where
+      go : Dec (x 0 0 1 ≡ 0) → x 0 0 1 ≡ 0
+      go (yes e) = e
+      go (no d) = absurd (shares .support 0 1 (omega arith) (omega arith) d)
+
+  row-0 : x 0 0 1 + (x 0 0 0 + 0) ≡ 4
+  unfolding total sum
+  row-0 = shares .sent 0 (omega arith)
+
+  row-1 : x 0 1 1 + (x 0 1 0 + 0) ≡ 4
+  unfolding total sum
+  row-1 = shares .sent 1 (omega arith)
+
+  column-1 : x 0 1 1 + (x 0 0 1 + 0) ≡ 2
+  unfolding total sum
+  column-1 = shares .taken 1 (omega arith)
+
+  flow-is : flow-bytes tables.C tables.P 0 0 x ≡ flow-CP
+  unfolding flow-bytes flow-of count flow-records flow-row flow-record place round
+  flow-is = simp (at-00, at-01, at-10, at-11)
+    where
+      at-00 : x 0 0 0 ≡ 4
+      at-00 = omega (arith, unrelated, row-0)
+
+      at-01 : x 0 0 1 ≡ 0
+      at-01 = unrelated
+
+      at-10 : x 0 1 0 ≡ 2
+      at-10 = omega (arith, unrelated, row-1, column-1)
+
+      at-11 : x 0 1 1 ≡ 2
+      at-11 = omega (arith, unrelated, column-1)
+
+on-tree-fits : Covered tree-fits
+unfolding checked decode node-bytes tree
+on-tree-fits r h = h .result
+
+on-tree-short : Covered tree-short
+unfolding checked decode node-bytes tree
+on-tree-short r h = h .result
+
+on-itself : Covered itself
+unfolding checked decode node-bytes tree
+on-itself r h = h .result
+
+kept-CP : Kept tables.C tables.P 0 0
+unfolding rank
+kept-CP = refl
+
+written-CP : left (success tables.C tables.P 0 0 (length flow-CP)) (with-flow tables.C tables.P flow-CP (flow-fits .buffers)) ≡ flow-fits .result
+unfolding success
+written-CP = refl
+
+on-flow-fits : Covered flow-fits
+unfolding checked outcome kept-outcome decode RightFor
+on-flow-fits r h =
+    let bytes-are : flow-bytes tables.C tables.P 0 0 (h .amounts) ≡ flow-CP = flow-is (h .amounts) (h .right (omega arith) (omega arith) kept-CP) in
+    h .result ∙ ap (λ (l : List ℕ). left (success tables.C tables.P 0 0 (length l)) (with-flow tables.C tables.P l (flow-fits .buffers))) bytes-are ∙ written-CP
+
+on-flow-short : Covered flow-short
+unfolding checked decode node-bytes tree
+on-flow-short r h = h .result
+
+on-one-state : Covered one-state
+unfolding checked decode node-bytes tree
+on-one-state r h = h .result
+
+on-no-bytes : Covered no-bytes
+unfolding checked decode node-bytes tree
+on-no-bytes r h = h .result
+
+on-cut-short : Covered cut-short
+unfolding checked decode node-bytes tree
+on-cut-short r h = h .result
+
+on-byte-more : Covered byte-more
+unfolding checked decode node-bytes tree
+on-byte-more r h = h .result
+
+on-codes-exchanged : Covered codes-exchanged
+unfolding checked decode node-bytes tree
+on-codes-exchanged r h = h .result
+
+on-second-cut-short : Covered second-cut-short
+unfolding checked decode node-bytes tree
+on-second-cut-short r h = h .result
+
+pub starred : All Covered rows
+starred = on-tree-fits also on-tree-short also on-itself also on-flow-fits also on-flow-short also on-one-state also on-no-bytes also on-cut-short also on-byte-more also on-codes-exchanged also on-second-cut-short also done

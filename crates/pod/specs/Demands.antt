@@ -1,0 +1,87 @@
+-- What a call of the check promises: 01's three demands, said of the answer and of what the lent buffers hold.
+-- `Checked`, in Check, is the contract of `check`; proofs/Demands proves from it alone what stands here.
+-- Assumes nothing.
+use mathlib.Core.Path.{_≡_}
+use mathlib.Core.List.{List}
+use mathlib.Core.Logic.{_≢_, _↔_}
+use Prim.Native.Nat.{ℕ, _+_, _*_, _≤_, _<_}
+use lib.ListN.{length, getD}
+use Rattle.simulation.specs.Fit.{Amounts, Fits, Weighting}
+use Rattle.simulation.specs.Table.{Table, states-of}
+use Rattle.simulation.specs.Round.{pairs, rank, rank-list, maximum, zeros}
+use Rattle.simulation.specs.Demands.{Kept, Keeping, Told}
+use Rattle.table.specs.Bytes.{refused, accepted, decode}
+use Rattle.witness.specs.Flow.{Right, flow-bytes, flow-room}
+use Rattle.buffer.specs.Buffer.{over}
+use Rattle.pod.specs.Check.{Buffers, Result, refusal, longest, tree-bytes, success, ranked, with-flow, with-tree}
+use Rattle.pod.specs.declared.Answer.{Answer}
+
+module _ (M N : Table) (s t : ℕ) (b : Buffers) where
+  abbrev pub Inside : Type 0
+  Inside = (s < states-of M) × (t < states-of N)
+
+  -- the chosen pair is a pair of states, and there is room for the ranks
+  abbrev pub Ready : Type 0
+  Ready = Inside × (pairs M N ≤ length (b .ranks))
+
+  -- Demand 1: when a call on two accepted tables gives which number
+  pub data Condition : ℕ → Type 0 where
+    outside : ¬ Inside → Condition 11
+    short-ranks : Inside → length (b .ranks) < pairs M N → Condition 20
+    short-flow : Ready → Kept M N s t → length (b .flow) < flow-room M N s → Condition 21
+    short-tree : Ready → ¬ Kept M N s t → length (tree-bytes M N s t) ≤ longest → length (b .tree) < length (tree-bytes M N s t) → Condition 22
+    long-tree : Ready → ¬ Kept M N s t → longest < length (tree-bytes M N s t) → Condition 23
+    flow-fits : Ready → Kept M N s t → flow-room M N s ≤ length (b .flow) → Condition 0
+    tree-fits : Ready → ¬ Kept M N s t → length (tree-bytes M N s t) ≤ longest → length (tree-bytes M N s t) ≤ length (b .tree) → Condition 0
+
+  -- what it answers and leaves in the buffers then; x are the amounts of a flow
+  abbrev pub result-of : (x : ℕ → Amounts) {n : ℕ} → Condition n → Result
+  result-of x (outside _) = record { answer = refusal 11 0 0; buffers = b }
+  result-of x (short-ranks _ _) = record { answer = refusal 20 0 (pairs M N); buffers = b }
+  result-of x (short-flow _ _ _) = record { answer = refusal 21 0 (flow-room M N s); buffers = ranked M N b }
+  result-of x (short-tree _ _ _ _) = record { answer = refusal 22 0 (length (tree-bytes M N s t)); buffers = ranked M N b }
+  result-of x (long-tree _ _ _) = record { answer = refusal 23 0 0; buffers = ranked M N b }
+  result-of x (flow-fits _ _ _) = record { answer = success M N s t (length (flow-bytes M N s t x)); buffers = with-flow M N (flow-bytes M N s t x) b }
+  result-of x (tree-fits _ _ _ _) = record { answer = success M N s t (length (tree-bytes M N s t)); buffers = with-tree M N (tree-bytes M N s t) b }
+
+module _ (first second : List ℕ) (s t : ℕ) (b : Buffers) where
+  -- Demand 1: when a call gives which number and names which table
+  pub data Call : (number table : ℕ) → Type 0 where
+    first-refused : {k : ℕ} → decode first ≡ refused k → Call k 1
+    second-refused : {M : Table} {k : ℕ} → decode first ≡ accepted M → decode second ≡ refused k → Call k 2
+    both-accepted : {M N : Table} {n : ℕ} → decode first ≡ accepted M → decode second ≡ accepted N → Condition M N s t b n → Call n 0
+
+  abbrev pub call-result : (x : ℕ → Amounts) {n k : ℕ} → Call n k → Result
+  call-result x (first-refused {k} _) = record { answer = refusal k 1 0; buffers = b }
+  call-result x (second-refused {M} {k} _ _) = record { answer = refusal k 2 0; buffers = b }
+  call-result x (both-accepted {M} {N} _ _ c) = result-of M N s t b x c
+
+  -- each number exactly under its condition, in 01's order, and with it the whole answer and all three buffers
+  pub record Demand1 (r : Result) : Type 0 where
+    pub amounts : ℕ → Amounts
+    pub exactly : (n k : ℕ) → ((r .answer .number ≡ n) × (r .answer .table ≡ k)) ↔ Call n k
+    pub gives : {n k : ℕ} (c : Call n k) → r ≡ call-result amounts c
+
+-- Of two accepted tables, with room for the ranks, so also after 21 to 23
+module _ (M N : Table) (s t : ℕ) (b : Buffers) (r : Result) where
+  -- the rank that the call left for a pair
+  abbrev pub rank-at : ℕ → ℕ → ℕ
+  rank-at u v = getD (r .buffers .ranks) (u * states-of N + v) 0
+
+  -- the pairs of rank 0 are the greatest strong simulation, by Segala and Lynch's weights and by whole amounts;
+  -- the answer counts them and says whether (0, 0) is one; a kept pair comes with flows that share out every step
+  pub record Demand2 : Type 1 where
+    pub weighted : Keeping Weighting M N
+    pub whole : Keeping Fits M N
+    pub ranks : (u v : ℕ) → u < states-of M → v < states-of N → rank-at u v ≡ rank M N u v
+    pub counted : r .answer .number ≡ 0 → (r .answer .kept ≡ zeros (rank-list M N)) × (r .answer .rounds ≡ maximum (rank-list M N))
+    pub verdict : r .answer .number ≡ 0 → (r .answer .verdict ≡ 1) ↔ Kept M N 0 0
+    pub flows : r .answer .number ≡ 0 → Kept M N s t
+        → (x : ℕ → Amounts) × Right M N s t x × (r .answer .written ≡ length (flow-bytes M N s t x)) × (r .buffers .flow ≡ over (flow-bytes M N s t x) (b .flow))
+
+  -- the rank left for a pair is 0 exactly if the second state can follow every tree that the first can, else the least depth of a tree that tells them apart,
+  -- and the pair's own tree is one of that depth; the bytes written are those of the chosen pair's tree
+  pub record Demand3 : Type 0 where
+    pub told : (u v : ℕ) → u < states-of M → v < states-of N → Told M N u v (rank-at u v)
+    pub shown : r .answer .number ≡ 0 → ¬ Kept M N s t
+        → (r .answer .rank ≡ rank M N s t) × (r .answer .written ≡ length (tree-bytes M N s t)) × (r .buffers .tree ≡ over (tree-bytes M N s t) (b .tree))

@@ -1,0 +1,103 @@
+-- The calls that 01 marks to be proved, as rows of one table: what goes in and what must come out. proofs/Examples covers them all.
+-- Assumes nothing.
+use mathlib.Core.Path.{_≡_}
+use mathlib.Core.List.{List, [], _∷_, _++_}
+use Prim.Native.Nat.{ℕ}
+use lib.ListN.{replicate, take}
+use Rattle.pod.specs.Check.{Buffers, Result, refusal, lent, left, Checked}
+use Rattle.pod.specs.declared.Answer.{Answer}
+
+-- P and C differ in the first weight; the codes of P are 0A and 14
+abbrev pub bytes : (code₁ code₂ weight : ℕ) → List ℕ
+bytes a c w = 2 ∷ a ∷ c ∷ 3 ∷ 1 ∷ 1 ∷ 0 ∷ 2 ∷ 0 ∷ 0x0A ∷ 2 ∷ 0x14 ∷ 1 ∷ 3 ∷ 0 ∷ 1 ∷ w ∷ 0 ∷ 2 ∷ 1 ∷ 0 ∷ 1 ∷ 1 ∷ 0 ∷ []
+
+abbrev pub P : List ℕ
+P = bytes 0x0A 0x14 3
+
+abbrev pub C : List ℕ
+C = bytes 0x0A 0x14 1
+
+-- one state without transitions
+abbrev pub lone : List ℕ
+lone = 0 ∷ 1 ∷ 0 ∷ 0 ∷ 0 ∷ 0 ∷ 0 ∷ []
+
+-- a call for the pair (s, t), with buffers full of 7 of the given lengths
+pub record Row : Type 0 where
+  pub first : List ℕ
+  pub second : List ℕ
+  pub s : ℕ
+  pub t : ℕ
+  pub buffers : Buffers
+  pub result : Result
+
+abbrev pub sevens : (ranks flow tree : ℕ) → Buffers
+sevens a b c = lent (replicate a 7) (replicate b 7) (replicate c 7)
+
+abbrev pub answered : (rounds kept verdict rank written : ℕ) → Answer
+answered r k v p w = record { number = 0; table = 0; needed = 0; rounds = r; kept = k; verdict = v; rank = p; written = w }
+
+-- the call for (s, t) with such buffers gives this answer and leaves this
+abbrev pub call : (first second : List ℕ) (s t ranks flow tree : ℕ) → Answer → Buffers → Row
+call f g s t a b c r l = record { first = f; second = g; s = s; t = t; buffers = sevens a b c; result = left r l }
+
+-- a refusal that changes no buffer
+abbrev pub refuses : (first second : List ℕ) (number table : ℕ) → Row
+refuses f g n k = call f g 0 0 9 40 17 (refusal n k 0) (sevens 9 40 17)
+
+abbrev pub ranks-PC : List ℕ
+ranks-PC = 2 ∷ 1 ∷ 1 ∷ 1 ∷ 0 ∷ 1 ∷ 0 ∷ 0 ∷ 0 ∷ []
+
+abbrev pub ranks-PP : List ℕ
+ranks-PP = 0 ∷ 1 ∷ 1 ∷ 1 ∷ 0 ∷ 1 ∷ 0 ∷ 0 ∷ 0 ∷ []
+
+abbrev pub tree-PC : List ℕ
+tree-PC = 0x01 ∷ 0x0A ∷ 0x02 ∷ 0x01 ∷ 0x03 ∷ 0x00 ∷ 0x01 ∷ 0x14 ∷ 0x01 ∷ 0x01 ∷ 0x01 ∷ 0x00 ∷ 0x00 ∷ 0x02 ∷ 0x01 ∷ 0x00 ∷ 0x00 ∷ []
+
+-- one transition of (0, 0), place 0, three records: (1, 1) 4, (2, 1) 2, (2, 2) 2
+abbrev pub flow-CP : List ℕ
+flow-CP = 1 ∷ 0 ∷ 3 ∷ 0 ∷ 1 ∷ 1 ∷ 4 ∷ 0 ∷ 0 ∷ 0 ∷ 2 ∷ 1 ∷ 2 ∷ 0 ∷ 0 ∷ 0 ∷ 2 ∷ 2 ∷ 2 ∷ 0 ∷ 0 ∷ 0 ∷ []
+
+abbrev pub tree-fits : Row
+tree-fits = call P C 0 0 9 0 17 (answered 2 4 0 2 17) (lent ranks-PC [] tree-PC)
+
+abbrev pub tree-short : Row
+tree-short = call P C 0 0 9 0 16 (refusal 22 0 17) (lent ranks-PC [] (replicate 16 7))
+
+abbrev pub itself : Row
+itself = call P P 0 1 9 0 11 (answered 1 5 1 1 11) (lent ranks-PP [] (1 ∷ 10 ∷ 2 ∷ 1 ∷ 3 ∷ 0 ∷ 0 ∷ 2 ∷ 1 ∷ 0 ∷ 0 ∷ []))
+
+abbrev pub flow-fits : Row
+flow-fits = call C P 0 0 9 40 0 (answered 1 5 1 0 22) (lent ranks-PP (flow-CP ++ replicate 18 7) [])
+
+abbrev pub flow-short : Row
+flow-short = call C P 0 0 9 39 0 (refusal 21 0 40) (lent ranks-PP (replicate 39 7) [])
+
+abbrev pub one-state : Row
+one-state = call lone lone 0 0 1 1 0 (answered 0 1 1 0 1) (lent (0 ∷ []) (0 ∷ []) [])
+
+abbrev pub no-bytes : Row
+no-bytes = refuses [] P 1 1
+
+abbrev pub cut-short : Row
+cut-short = refuses (take 23 P) P 1 1
+
+abbrev pub byte-more : Row
+byte-more = refuses (P ++ 0 ∷ []) P 2 1
+
+abbrev pub codes-exchanged : Row
+codes-exchanged = refuses (bytes 0x14 0x0A 3) P 3 1
+
+abbrev pub second-cut-short : Row
+second-cut-short = refuses P (take 23 P) 1 2
+
+abbrev pub rows : List Row
+rows = tree-fits ∷ tree-short ∷ itself ∷ flow-fits ∷ flow-short ∷ one-state ∷ no-bytes ∷ cut-short ∷ byte-more ∷ codes-exchanged ∷ second-cut-short ∷ []
+
+-- every result that the contract allows is the row's
+abbrev pub Covered : Row → Type 0
+Covered w = (r : Result) → Checked (w .first) (w .second) (w .s) (w .t) (w .buffers) r → r ≡ w .result
+
+infixr 5 _also_
+pub data All (Q : Row → Type 0) : List Row → Type 0 where
+  done : All Q []
+  _also_ : {w : Row} {ws : List Row} → Q w → All Q ws → All Q (w ∷ ws)

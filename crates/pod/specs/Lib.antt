@@ -1,0 +1,6 @@
+-- The definitions that the contracts of the check cite.
+-- Assumes nothing.
+pub mod Check
+pub mod Demands
+pub mod Steps
+pub mod Examples

@@ -1,0 +1,3 @@
+-- Laws of the answer buffer.
+-- Assumes nothing.
+pub mod Into

@@ -1,0 +1,66 @@
+-- `relation::Relation::kept` meets its contract. The loop's invariant: the pairs of the rows passed are counted. Assumes nothing.
+use mathlib.Core.Path.{_≡_, sym, _∙_, ap, ap₂}
+use Prim.Native.Nat.{_≤_, _-_, _+_}
+use native.Mathlib.Omega.{arith}
+use borrow.Author.Needs.{needs}
+use Rattle.simulation.specs.Sum.{sum}
+use Rattle.relation.specs.Related.{related, pairs-of}
+use Rattle.relation.proofs.Rows.{pairs-next, pairs-most}
+use Rattle.relation.proofs.Relation.kept.Statement.{statement}
+use Rattle.relation.proofs.Relation.kept.Tie as tie
+
+abbrev Inv-loop : tie.InvT-loop
+Inv-loop n self pairs₀ s₀ pairs s = (s ≤ n) × (pairs ≡ pairs-of s (related self))
+
+abbrev μ-loop : tie.MeasureT-loop
+μ-loop n self pairs₀ s₀ pairs s = n - s
+
+loop-holds : tie.Need-loop-holds Inv-loop μ-loop
+unfolding sum
+loop-holds c = (search needs, search needs)
+
+mul-row : tie.Need-mul-row Inv-loop μ-loop
+mul-row c = omega arith
+
+element-copy-out-row : tie.Need-element-copy-out-row Inv-loop μ-loop
+element-copy-out-row c = omega arith
+
+count-requires : tie.Need-count-requires Inv-loop μ-loop
+count-requires c κs = search needs
+
+grown : tie.Need-loop-again Inv-loop μ-loop
+unfolding related
+grown c =
+    let l = c .before .before .before in
+    let R = related (l .before .args .t1) in
+    (omega arith, ap₂ _+_ (l .loop .inv .1) (c .count .ensures) ∙ sym (pairs-next R (l .loop .s)))
+
+add-pairs : tie.Need-add-pairs Inv-loop μ-loop
+add-pairs c =
+    let l = c .before .before .before in
+    omega (arith, grown c .1, pairs-most (related (l .before .args .t1)) (l .loop .s + 1))
+
+add-s : tie.Need-add-s Inv-loop μ-loop
+add-s c = omega arith
+
+loop-less : tie.Need-loop-less Inv-loop μ-loop
+loop-less c = omega arith
+
+returns : tie.Need-returns Inv-loop μ-loop
+returns c = c .before .loop .inv .1 ∙ ap (λ n. pairs-of n (related (c .before .before .args .t1))) (omega arith)
+
+pub kept-spec : {M : Type 1} → statement M
+kept-spec =
+    tie.close
+    (tie.spec
+    Inv-loop
+    μ-loop
+    loop-holds
+    mul-row
+    element-copy-out-row
+    count-requires
+    add-pairs
+    add-s
+    loop-less
+    grown
+    returns)

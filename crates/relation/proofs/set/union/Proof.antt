@@ -1,0 +1,10 @@
+-- `relation::set::union` meets its contract. Assumes nothing.
+use Rattle.relation.proofs.Mask.{either-is}
+use Rattle.relation.proofs.set.union.Statement.{statement}
+use Rattle.relation.proofs.set.union.Tie as tie
+
+returns : tie.Need-returns
+returns c = either-is (c .args .a) (c .args .b)
+
+pub union-spec : {M : Type 1} → statement M
+union-spec = tie.close (tie.spec returns)

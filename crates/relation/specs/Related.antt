@@ -1,0 +1,26 @@
+-- A relation as a test on pairs.
+-- Assumes nothing.
+use mathlib.Core.Bool.{false, not, _&&_}
+use Prim.Native.Nat.{ℕ}
+use lib.Dec.{eqb, ltb}
+use lib.ListN.{getD}
+use Rattle.simulation.specs.Sum.{sum}
+use Rattle.relation.specs.Mask.{Test, member, size}
+use Rattle.relation.specs.declared.Relation.{Relation}
+
+unfoldable pub related : Relation → ℕ → Test
+unfolding member
+related r s = member (getD (r .rows) s 0)
+
+abbrev pub none : ℕ → Test
+none s t = false
+
+abbrev pub all-below : ℕ → ℕ → ℕ → Test
+all-below p q s t = ltb s p && ltb t q
+
+abbrev pub without : ℕ → ℕ → (ℕ → Test) → ℕ → Test
+without s t R a b = R a b && not (eqb a s && eqb b t)
+
+-- how many pairs the first n rows have
+abbrev pub pairs-of : ℕ → (ℕ → Test) → ℕ
+pairs-of n R = sum n (λ s. size 64 (R s))

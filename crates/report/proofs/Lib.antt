@@ -1,0 +1,8 @@
+-- Laws of the definitions of specs/, in reading order.
+-- Assumes nothing.
+pub mod Tables
+pub mod Counting
+pub mod Digits
+pub mod Writing
+pub mod Bounds
+pub mod Answers

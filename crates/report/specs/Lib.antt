@@ -1,0 +1,6 @@
+-- The definitions, in reading order.
+-- Assumes nothing.
+pub mod Input
+pub mod Text
+pub mod Writes
+pub mod Examples

@@ -1,0 +1,202 @@
+// The text that the program prints, line by line.
+ghost use mathlib.Core.Path.{_≡_};
+ghost use mathlib.Core.Bool.{cond};
+ghost use mathlib.Core.List.{_++_};
+ghost use Prim.Native.Nat.{_+_, _*_, _≤_};
+ghost use lib.ListN.{length};
+ghost use Rattle.report.specs.Text.{space, hex, labelled, word-yes, word-no, refused-text, pair-line, ranks-text, row-line, rows-text, summary-line, rounds-line, bytes-text, tree-line, tree-text, report-text, answer-text, longest-text};
+ghost use Rattle.report.specs.Writes.{Over, Room, Writes};
+use crate::count::is_kept;
+use crate::count::kept_of;
+use crate::count::rounds_of;
+use crate::input::front;
+use crate::put::put_byte;
+use crate::put::put_hex;
+use crate::put::put_labelled;
+use crate::put::put_word;
+
+// The length of a buffer that holds every text: longest-text of specs/.
+pub const TEXT: usize = 221_683;
+
+// The text for an answer of the check: for a refused table that alone, else the report on tables with p and q states.
+pub fn print(
+    table: u32,
+    number: u32,
+    written: u32,
+    p: usize,
+    q: usize,
+    ranks: &[u16],
+    tree: &[u8],
+    buf: &mut [u8],
+) -> usize
+    requires { ⌜ (p ≤ 64) × (q ≤ 64) × (p * q ≤ length (now ranks)) × (length (now tree) ≤ 65535) × (longest-text ≤ length (now buf)) ⌝ }
+    ensures { λ r. ⌜ Over (answer-text table number written p q (now (ranks .entry)) (now (tree .entry))) (now (buf .entry)) r (now (buf .exit)) ⌝ }
+{
+    if table != 0 {
+        return refused(table, number, buf);
+    }
+    let pairs = p * q;
+    let part = front(tree, written as usize);
+    report(p, q, &ranks[..pairs], number == 23, part, buf)
+}
+
+// The text for a refused table: its place and the number of the refusal.
+pub fn refused(table: u32, number: u32, buf: &mut [u8]) -> usize
+    requires { ⌜ 30 ≤ length (now buf) ⌝ }
+    ensures { λ r. ⌜ Over (refused-text table number) (now (buf .entry)) r (now (buf .exit)) ⌝ }
+{
+    put_pair(b"refused ", table as usize, number as usize, buf, 0)
+}
+
+// The text for two accepted tables with p and q states: `ranks` are the ranks of their pairs, `long` says that the tree is too long,
+// `tree` is its bytes where it is not.
+pub fn report(p: usize, q: usize, ranks: &[u16], long: bool, tree: &[u8], buf: &mut [u8]) -> usize
+    requires { ⌜ (p ≤ 64) × (q ≤ 64) × (p * q ≡ length (now ranks)) × (length (now tree) ≤ 65535) × (longest-text ≤ length (now buf)) ⌝ }
+    ensures { λ r. ⌜ Over (report-text p q (now (ranks .entry)) long (now (tree .entry))) (now (buf .entry)) r (now (buf .exit)) ⌝ }
+{
+    put_report(p, q, ranks, long, tree, buf, 0)
+}
+
+fn put_report(
+    p: usize,
+    q: usize,
+    ranks: &[u16],
+    long: bool,
+    tree: &[u8],
+    buf: &mut [u8],
+    at: usize,
+) -> usize
+    requires { ⌜ (p * q ≤ length (now ranks)) × Room (report-text p q (now ranks) long (now tree)) at (now buf) ⌝ }
+    ensures { λ r. ⌜ Writes (report-text p q (now (ranks .entry)) long (now (tree .entry))) at (now (buf .entry)) r (now (buf .exit)) ⌝ }
+{
+    let a = put_pair(b"tables ", p, q, buf, at);
+    let b = put_rows(ranks, q, p, buf, a);
+    let c = put_rounds(ranks, buf, b);
+    put_outcome(is_kept(ranks), long, tree, buf, c)
+}
+
+// A line of a word and two numbers.
+fn put_pair(word: &[u8], a: usize, b: usize, buf: &mut [u8], at: usize) -> usize
+    requires { ⌜ Room (pair-line (now word) a b) at (now buf) ⌝ }
+    ensures { λ r. ⌜ Writes (pair-line (now (word .entry)) a b) at (now (buf .entry)) r (now (buf .exit)) ⌝ }
+{
+    let first = put_labelled(word, a, buf, at);
+    let second = put_labelled(b" ", b, buf, first);
+    put_byte(b'\n', buf, second)
+}
+
+fn put_rows(ranks: &[u16], q: usize, p: usize, buf: &mut [u8], at: usize) -> usize
+    requires { ⌜ (p * q ≤ length (now ranks)) × Room (rows-text (now ranks) q p) at (now buf) ⌝ }
+    ensures { λ r. ⌜ Writes (rows-text (now (ranks .entry)) q p) at (now (buf .entry)) r (now (buf .exit)) ⌝ }
+{
+    let mut next = at;
+    let mut s = 0;
+    while s < p {
+        next = put_row(ranks, q, s, buf, next);
+        s += 1;
+    }
+    next
+}
+
+// The row of the state s of the first table.
+fn put_row(ranks: &[u16], q: usize, s: usize, buf: &mut [u8], at: usize) -> usize
+    requires { ⌜ (s * q + q ≤ length (now ranks)) × Room (row-line (now ranks) q s) at (now buf) ⌝ }
+    ensures { λ r. ⌜ Writes (row-line (now (ranks .entry)) q s) at (now (buf .entry)) r (now (buf .exit)) ⌝ }
+{
+    let label = put_labelled(b"row ", s, buf, at);
+    let end = put_ranks(ranks, s * q, q, buf, label);
+    put_byte(b'\n', buf, end)
+}
+
+// The q ranks from a place on.
+fn put_ranks(ranks: &[u16], from: usize, q: usize, buf: &mut [u8], at: usize) -> usize
+    requires { ⌜ (from + q ≤ length (now ranks)) × Room (ranks-text (now ranks) from q) at (now buf) ⌝ }
+    ensures { λ r. ⌜ Writes (ranks-text (now (ranks .entry)) from q) at (now (buf .entry)) r (now (buf .exit)) ⌝ }
+{
+    let mut next = at;
+    let mut t = 0;
+    while t < q {
+        next = put_rank(ranks[from + t], buf, next);
+        t += 1;
+    }
+    next
+}
+
+fn put_rank(rank: u16, buf: &mut [u8], at: usize) -> usize
+    requires { ⌜ Room (labelled space rank) at (now buf) ⌝ }
+    ensures { λ r. ⌜ Writes (labelled space rank) at (now (buf .entry)) r (now (buf .exit)) ⌝ }
+{
+    put_labelled(b" ", rank as usize, buf, at)
+}
+
+fn put_rounds(ranks: &[u16], buf: &mut [u8], at: usize) -> usize
+    requires { ⌜ Room (rounds-line (now ranks)) at (now buf) ⌝ }
+    ensures { λ r. ⌜ Writes (rounds-line (now (ranks .entry))) at (now (buf .entry)) r (now (buf .exit)) ⌝ }
+{
+    let rounds = rounds_of(ranks) as usize;
+    put_summary(rounds, kept_of(ranks), is_kept(ranks), buf, at)
+}
+
+fn put_summary(rounds: usize, kept: usize, yes: bool, buf: &mut [u8], at: usize) -> usize
+    requires { ⌜ Room (summary-line rounds kept yes) at (now buf) ⌝ }
+    ensures { λ r. ⌜ Writes (summary-line rounds kept yes) at (now (buf .entry)) r (now (buf .exit)) ⌝ }
+{
+    let a = put_labelled(b"rounds ", rounds, buf, at);
+    let b = put_labelled(b" kept ", kept, buf, a);
+    let c = put_word(b" verdict ", buf, b);
+    put_verdict(yes, buf, c)
+}
+
+fn put_verdict(yes: bool, buf: &mut [u8], at: usize) -> usize
+    requires { ⌜ Room (cond yes word-yes word-no) at (now buf) ⌝ }
+    ensures { λ r. ⌜ Writes (cond yes word-yes word-no) at (now (buf .entry)) r (now (buf .exit)) ⌝ }
+{
+    if yes {
+        return put_word(b"yes\n", buf, at);
+    }
+    put_word(b"no\n", buf, at)
+}
+
+// On no, the tree, or that it is too long.
+fn put_outcome(yes: bool, long: bool, tree: &[u8], buf: &mut [u8], at: usize) -> usize
+    requires { ⌜ Room (tree-text yes long (now tree)) at (now buf) ⌝ }
+    ensures { λ r. ⌜ Writes (tree-text yes long (now (tree .entry))) at (now (buf .entry)) r (now (buf .exit)) ⌝ }
+{
+    if yes {
+        return at;
+    }
+    if long {
+        return put_word(b"tree refused 23\n", buf, at);
+    }
+    put_tree(tree, buf, at)
+}
+
+fn put_tree(tree: &[u8], buf: &mut [u8], at: usize) -> usize
+    requires { ⌜ Room (tree-line (now tree)) at (now buf) ⌝ }
+    ensures { λ r. ⌜ Writes (tree-line (now (tree .entry))) at (now (buf .entry)) r (now (buf .exit)) ⌝ }
+{
+    let a = put_word(b"tree", buf, at);
+    let b = put_bytes(tree, buf, a);
+    put_byte(b'\n', buf, b)
+}
+
+fn put_bytes(tree: &[u8], buf: &mut [u8], at: usize) -> usize
+    requires { ⌜ Room (bytes-text (now tree)) at (now buf) ⌝ }
+    ensures { λ r. ⌜ Writes (bytes-text (now (tree .entry))) at (now (buf .entry)) r (now (buf .exit)) ⌝ }
+{
+    let mut next = at;
+    let mut i = 0;
+    while i < tree.len() {
+        next = put_spaced(tree[i], buf, next);
+        i += 1;
+    }
+    next
+}
+
+fn put_spaced(b: u8, buf: &mut [u8], at: usize) -> usize
+    requires { ⌜ Room (space ++ hex b) at (now buf) ⌝ }
+    ensures { λ r. ⌜ Writes (space ++ hex b) at (now (buf .entry)) r (now (buf .exit)) ⌝ }
+{
+    let next = put_byte(b' ', buf, at);
+    put_hex(b, buf, next)
+}

@@ -1,0 +1,66 @@
+-- The answer, by the refusal.
+-- Assumes nothing.
+use mathlib.Core.Path.{_≡_, refl, sym, _∙_, ap}
+use mathlib.Core.List.{List}
+use Prim.Native.Nat.{ℕ, zero, suc}
+use native.Mathlib.Omega.{arith}
+use Rattle.table.specs.declared.Table.{Table}
+use Rattle.table.specs.declared.Stage.{Stage}
+use Rattle.table.specs.declared.Stage.the-variants.{Refused}
+use Rattle.table.specs.declared.Answer.{Answer}
+use Rattle.table.specs.declared.Answer.the-variants.{Refused as Refusal, Accepted}
+use Rattle.table.proofs.LayoutLaws.{layout-is}
+use Rattle.table.proofs.DecodeLaws.{decode-is, decode-accepted}
+use Rattle.table.specs.Bytes.{_then_, refusal, table, Decoded, decided, decode}
+use Rattle.table.specs.Stages.{stage, layout, layout-of, answer-of, answer}
+
+answer-is : (s : List ℕ) → answer s ≡ answer-of (decided (refusal s) (table s))
+answer-is s = ap answer-of (decode-is s)
+
+answer-decided : (s : List ℕ) {f : ℕ} → refusal s ≡ f → answer s ≡ answer-of (decided f (table s))
+answer-decided s e = answer-is s ∙ ap (λ (f : ℕ). answer-of (decided f (table s))) e
+
+pub refused : (s : List ℕ) (k : ℕ) → refusal s ≡ k → (k ≡ 0 → ⊥) → Refusal k ≡ answer s
+unfolding decided
+refused s zero e ne = absurd (ne refl)
+refused s (suc k) e ne = sym (answer-decided s e)
+
+pub accepted : (s : List ℕ) {t : Table} → refusal s ≡ 0 → t ≡ layout s → Accepted t ≡ answer s
+unfolding decided
+accepted s e q = ap Accepted (q ∙ layout-is s e) ∙ sym (answer-decided s e)
+
+-- the stage before was a refusal
+pub refused-told : (f : ℕ) (t : Table) (a : ℕ) {r : Stage} {k : ℕ} (g : ℕ) → r ≡ stage f t a → r ≡ Refused k → (f then g ≡ k) × (k ≡ 0 → ⊥)
+unfolding _then_
+refused-told zero t a g e q = let z : _≡_ {A = ℕ} 0 1 = cc in absurd (omega arith)
+refused-told (suc f) t a {k = k} g e q =
+    let p : suc f ≡ k = cc in
+    (p, λ z. omega arith)
+
+-- the answer was where the parts of a table lie
+pub record Located (s : List ℕ) (t : Table) : Type 0 where
+  pub passed : refusal s ≡ 0
+  pub laid : t ≡ layout s
+  pub decodes : decode s ≡ Decoded.accepted (table s)
+
+pub accepted-told : (s : List ℕ) {r : Answer} {t : Table} → r ≡ answer s → r ≡ Accepted t → Located s t
+unfolding decided
+accepted-told s {r} {t} e q = go (refusal s) refl
+  where
+    go : (f : ℕ) → refusal s ≡ f → Located s t
+    go zero p =
+        let h = answer-decided s p in
+        let same : t ≡ layout-of (table s) = cc in
+        record { passed = p; laid = same ∙ sym (layout-is s p); decodes = decode-accepted s p }
+    go (suc f) p =
+        let h = answer-decided s p in
+        let z : _≡_ {A = ℕ} 0 1 = cc in absurd (omega arith)
+
+-- the answer was a refusal
+pub refusal-told : (s : List ℕ) {r : Answer} {k : ℕ} → r ≡ answer s → r ≡ Refusal k → k ≡ refusal s
+unfolding decided
+refusal-told s {r} {k} e q = go (refusal s) refl
+  where
+    go : (f : ℕ) → refusal s ≡ f → k ≡ refusal s
+    go zero p = let h = answer-decided s p in let z : _≡_ {A = ℕ} 0 1 = cc in absurd (omega arith)
+    go (suc f) p = let h = answer-decided s p in let same : k ≡ suc f = cc in same ∙ sym p

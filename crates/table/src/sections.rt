@@ -1,0 +1,151 @@
+// The four sections in their order: each takes the stage that the one before has reached.
+use crate::Answer;
+use crate::Stage;
+use crate::Table;
+use crate::cursor::Cursor;
+use crate::cursor::Read;
+use crate::items::codes_refusal;
+use crate::items::entries_refusal;
+use crate::items::sum_of;
+use crate::items::transitions_refusal;
+ghost use mathlib.Core.Path.{_≡_};
+ghost use Prim.Native.Nat.{_≤_, _<_};
+ghost use Rattle.table.specs.Answers.{items-read};
+ghost use Rattle.table.specs.Stages.{after-actions, after-states, after-transitions, after-entries, answer};
+
+// The items of a section: how many, where the first lies, and the cursor after the last; or the number of the refusal.
+pub enum Items {
+    Refused(u8),
+    At(usize, usize, Cursor),
+}
+
+// A count of two bytes, at most limit and equal to total, or else the refusal number; and then the count's items of width bytes each.
+fn counted(s: &[u8], c: Cursor, limit: usize, total: usize, number: u8, width: usize) -> Items
+    requires { ⌜ (0 < number) × (width ≤ 3) × (limit < 65536) ⌝ }
+    ensures { λ r. ⌜ r ≡ items-read (now (s .entry)) (c .at) limit total number width ⌝ }
+{
+    let Read::Value(n, c) = c.half(s) else {
+        return Items::Refused(1);
+    };
+    if limit < n {
+        return Items::Refused(number);
+    }
+    if n != total {
+        return Items::Refused(number);
+    }
+    let Read::Value(at, c) = c.part(s, width * n) else {
+        return Items::Refused(1);
+    };
+    Items::At(n, at, c)
+}
+
+// Section 1: the action codes.
+pub fn actions(s: &[u8]) -> Stage
+    ensures { λ r. ⌜ r ≡ after-actions (now (s .entry)) ⌝ }
+{
+    let Read::Value(n, c) = Cursor::new().byte(s) else {
+        return Stage::Refused(1);
+    };
+    let Read::Value(_, c) = c.part(s, n) else {
+        return Stage::Refused(1);
+    };
+    let refusal = codes_refusal(s, n);
+    if refusal != 0 {
+        return Stage::Refused(refusal);
+    }
+    let mut t = Table::unread();
+    t.actions = n;
+    Stage::At(t, c)
+}
+
+// Section 2: how many transitions each state has.
+pub fn states(s: &[u8], stage: Stage) -> Stage
+    requires { ⌜ stage ≡ after-actions (now s) ⌝ }
+    ensures { λ r. ⌜ r ≡ after-states (now (s .entry)) ⌝ }
+{
+    let Stage::At(t, c) = stage else {
+        return stage;
+    };
+    let Read::Value(n, c) = c.byte(s) else {
+        return Stage::Refused(1);
+    };
+    if n == 0 {
+        return Stage::Refused(4);
+    }
+    if Table::STATES < n {
+        return Stage::Refused(4);
+    }
+    let Read::Value(at, c) = c.part(s, n) else {
+        return Stage::Refused(1);
+    };
+    let mut t = t;
+    t.states = n;
+    t.counts_at = at;
+    Stage::At(t, c)
+}
+
+// Section 3: the transitions.
+pub fn transitions(s: &[u8], stage: Stage) -> Stage
+    requires { ⌜ stage ≡ after-states (now s) ⌝ }
+    ensures { λ r. ⌜ r ≡ after-transitions (now (s .entry)) ⌝ }
+{
+    let Stage::At(t, c) = stage else {
+        return stage;
+    };
+    let total = sum_of(s, t.counts_at, 1, t.states);
+    let items = counted(s, c, Table::TRANSITIONS, total, 5, 2);
+    match items {
+        Items::Refused(number) => Stage::Refused(number),
+        Items::At(m, at, c) => {
+            let refusal = transitions_refusal(s, t.actions, at, m);
+            if refusal != 0 {
+                return Stage::Refused(refusal);
+            }
+            let mut t = t;
+            t.transitions = m;
+            t.transitions_at = at;
+            Stage::At(t, c)
+        }
+    }
+}
+
+// Section 4: the entries.
+pub fn entries(s: &[u8], stage: Stage) -> Stage
+    requires { ⌜ stage ≡ after-transitions (now s) ⌝ }
+    ensures { λ r. ⌜ r ≡ after-entries (now (s .entry)) ⌝ }
+{
+    let Stage::At(t, c) = stage else {
+        return stage;
+    };
+    let sizes = t.transitions_at + 1;
+    let total = sum_of(s, sizes, 2, t.transitions);
+    let items = counted(s, c, Table::ENTRIES, total, 7, 3);
+    match items {
+        Items::Refused(number) => Stage::Refused(number),
+        Items::At(n, at, c) => {
+            let refusal = entries_refusal(s, t.states, sizes, t.transitions, at);
+            if refusal != 0 {
+                return Stage::Refused(refusal);
+            }
+            let mut t = t;
+            t.entries = n;
+            t.entries_at = at;
+            Stage::At(t, c)
+        }
+    }
+}
+
+// Nothing may follow section 4.
+pub fn end(s: &[u8], stage: Stage) -> Answer
+    requires { ⌜ stage ≡ after-entries (now s) ⌝ }
+    ensures { λ r. ⌜ r ≡ answer (now (s .entry)) ⌝ }
+{
+    match stage {
+        Stage::Refused(number) => Answer::Refused(number),
+        Stage::At(t, c) => if c.at == s.len() {
+            Answer::Accepted(t)
+        } else {
+            Answer::Refused(2)
+        },
+    }
+}

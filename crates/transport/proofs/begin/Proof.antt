@@ -1,0 +1,47 @@
+-- `transport::begin` meets its contract. Assumes nothing.
+use mathlib.Core.Path.{refl}
+use Rattle.transport.proofs.StartLaws.{supplies-is}
+use borrow.Author.Needs.{needs}
+use Rattle.transport.proofs.begin.Statement.{statement}
+use Rattle.transport.proofs.begin.Tie as tie
+
+total-weight-requires : tie.Need-total-weight-requires
+total-weight-requires c κs = search needs
+
+supply-requires : tie.Need-supply-requires
+supply-requires c κs = search needs
+
+total-weight-requires-2 : tie.Need-total-weight-requires-2
+total-weight-requires-2 c κs = search needs
+
+supply-requires-2 : tie.Need-supply-requires-2
+supply-requires-2 c κs = search needs
+
+clear-requires : tie.Need-clear-requires
+clear-requires c κs = search needs
+
+same-length : tie.Need-same-length
+same-length c = search needs
+
+same-length-2 : tie.Need-same-length-2
+same-length-2 c = search needs
+
+same-length-3 : tie.Need-same-length-3
+same-length-3 c = search needs
+
+returns : tie.Need-returns
+returns c = record { cleared = c .before .before .clear .ensures; supplies = supplies-is (c .before .before .before .before .before .before .before .before .before .before .before .before .before .total-weight .ensures) refl (c .before .before .before .before .before .before .before .before .before .before .before .supply .ensures); demands = supplies-is (c .before .before .before .before .before .before .before .before .total-weight2 .ensures) refl (c .before .before .before .before .before .before .supply2 .ensures) }
+
+pub begin-spec : {M : Type 1} → statement M
+begin-spec =
+    tie.close
+    (tie.spec
+    total-weight-requires
+    supply-requires
+    total-weight-requires-2
+    supply-requires-2
+    clear-requires
+    same-length
+    same-length-2
+    same-length-3
+    returns)

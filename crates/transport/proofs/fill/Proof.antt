@@ -1,0 +1,67 @@
+-- `transport::fill` meets its contract: the flow and the mask of the free columns go on row by row. Assumes nothing.
+use mathlib.Core.Path.{_≡_}
+use Prim.Native.Nat.{_≤_, _-_}
+use native.Mathlib.Omega.{arith}
+use lib.ListN.{getD}
+use Rattle.transport.specs.Masks.{MaskOf}
+use Rattle.transport.specs.Flow.{Improves}
+use Rattle.transport.proofs.FlowLaws.{improves-refl, improves-trans}
+use Rattle.transport.proofs.fill.Statement.{statement}
+use Rattle.transport.proofs.fill.Tie as tie
+
+abbrev Inv-loop : tie.InvT-loop
+Inv-loop x₀ a₀ b₀ users₀ rel p q free₀ i₀ x a b users free i = (i ≤ p) × Improves p q rel x₀ a₀ b₀ users₀ x a b users × MaskOf q (λ j. getD b j 0) free
+
+abbrev μ-loop : tie.MeasureT-loop
+μ-loop x₀ a₀ b₀ users₀ rel p q free₀ i₀ x a b users free i = p - i
+
+positive-requires : tie.Need-positive-requires Inv-loop μ-loop
+positive-requires c κs = let z = c .before .before .before .before .before .before .pre .sized in (z .few-columns, z .demands)
+
+loop-holds : tie.Need-loop-holds Inv-loop μ-loop
+loop-holds c = (omega arith, improves-refl (c .before .before .before .before .before .before .before .pre), c .positive .ensures)
+
+fill-row-requires : tie.Need-fill-row-requires Inv-loop μ-loop
+fill-row-requires c κs = let v = c .before .before .before .before .before .loop .inv in (v .1 .flow, c .before .before .before .before .loop-test .taken, v .2)
+
+add-i : tie.Need-add-i Inv-loop μ-loop
+add-i c = omega (arith, c .before .before .before .before .before .before .before .before .before .before .before .before .before .loop-test .taken)
+
+loop-less : tie.Need-loop-less Inv-loop μ-loop
+loop-less c = omega (arith, c .before .before .before .before .before .before .before .before .before .before .before .before .before .loop-test .taken)
+
+loop-again : tie.Need-loop-again Inv-loop μ-loop
+loop-again c = let e = c .before .before .before .before .before .before .before .before .fill-row .ensures in (omega (arith, c .before .before .before .before .before .before .before .before .before .before .before .before .before .loop-test .taken), improves-trans (c .before .before .before .before .before .before .before .before .before .before .before .before .before .before .loop .inv .1) (e .0), e .1)
+
+same-length : tie.Need-same-length Inv-loop μ-loop
+same-length c = c .before .loop .inv .1 .same-x
+
+same-length-2 : tie.Need-same-length-2 Inv-loop μ-loop
+same-length-2 c = c .before .loop .inv .1 .same-a
+
+same-length-3 : tie.Need-same-length-3 Inv-loop μ-loop
+same-length-3 c = c .before .loop .inv .1 .same-b
+
+same-length-4 : tie.Need-same-length-4 Inv-loop μ-loop
+same-length-4 c = c .before .loop .inv .1 .same-users
+
+returns : tie.Need-returns Inv-loop μ-loop
+returns c = let v = c .before .loop .inv in (v .1, v .2)
+
+pub fill-spec : {M : Type 1} → statement M
+fill-spec =
+    tie.close
+    (tie.spec
+    Inv-loop
+    μ-loop
+    positive-requires
+    loop-holds
+    fill-row-requires
+    add-i
+    loop-less
+    loop-again
+    same-length
+    same-length-2
+    same-length-3
+    same-length-4
+    returns)

@@ -1,0 +1,103 @@
+-- `transport::fill_row` meets its contract: what is left is related, and the flow and the mask of the free columns go on. Assumes nothing.
+use mathlib.Core.Path.{_≡_, refl}
+use mathlib.Core.Bool.{true}
+use Prim.Native.Nat.{ℕ, _<_}
+use native.Mathlib.Omega.{arith}
+use lib.ListN.{getD}
+use Rattle.relation.specs.Mask.{member}
+use Rattle.transport.specs.Answer.{relates}
+use Rattle.transport.specs.Masks.{MaskOf}
+use Rattle.transport.specs.Flow.{Improves}
+use Rattle.transport.proofs.MaskedLaws.{both-at, mask-put}
+use Rattle.transport.proofs.FlowLaws.{improves-refl, improves-trans}
+use Rattle.transport.proofs.fill_row.Statement.{statement}
+use Rattle.transport.proofs.fill_row.Tie as tie
+
+abbrev Inv-loop : tie.InvT-loop
+Inv-loop x₀ a₀ b₀ users₀ rel p q i free still₀ left₀ x a b users still left = Improves p q rel x₀ a₀ b₀ users₀ x a b users × MaskOf q (λ j. getD b j 0) still × ((j : ℕ) → member left j ≡ true → (j < q) × (relates rel i j ≡ true))
+
+abbrev μ-loop : tie.MeasureT-loop
+μ-loop x₀ a₀ b₀ users₀ rel p q i free still₀ left₀ x a b users still left = left
+
+mul-intersection : tie.Need-mul-intersection Inv-loop μ-loop
+mul-intersection c = let h = c .before .before .before .before .before .pre in omega (arith, h .1, h .0 .sized .few-rows)
+
+shared-slice-read-intersection : tie.Need-shared-slice-read-intersection Inv-loop μ-loop
+shared-slice-read-intersection c = let h = c .before .before .before .before .before .before .pre in omega (arith, h .1, h .0 .sized .masks)
+
+intersection-requires : tie.Need-intersection-requires Inv-loop μ-loop
+intersection-requires c κs = tt
+
+loop-holds : tie.Need-loop-holds Inv-loop μ-loop
+loop-holds c = let h = c .before .before .before .before .before .before .before .pre in let s = c .before .before .before .before .before .before .before .args in (improves-refl (h .0), h .2, λ j t. let w = both-at (member (getD (s .rel .now) (s .i) 0)) (member (s .free)) j (c .intersection .ensures) t in (h .2 .below j (w .1), w .0))
+
+lowest-requires : tie.Need-lowest-requires Inv-loop μ-loop
+lowest-requires c κs = omega arith
+
+fill-cell-requires : tie.Need-fill-cell-requires Inv-loop μ-loop
+fill-cell-requires c κs = let v = c .before .before .before .before .before .before .loop .inv in let w = v .2 _ (c .before .before .before .before .lowest .ensures .1 .here) in (v .0 .flow, c .before .before .before .before .before .before .before .before .before .before .before .before .before .before .pre .1, w .0, w .1)
+
+mul-marked : tie.Need-mul-marked Inv-loop μ-loop
+mul-marked c = omega (arith, c .before .before .before .before .before .before .before .before .before .before .before .before .before .lowest .ensures .0)
+
+slice-read-marked : tie.Need-slice-read-marked Inv-loop μ-loop
+slice-read-marked c = let w = c .before .before .before .before .before .before .before .before .before .before .before .before .before .before .before .before .loop .inv .2 _ (c .before .before .before .before .before .before .before .before .before .before .before .before .before .before .lowest .ensures .1 .here) in omega (arith, w .0, c .before .before .before .before .before .before .before .before .before .fill-cell .ensures .0 .flow .sized .demands)
+
+marked-requires : tie.Need-marked-requires Inv-loop μ-loop
+marked-requires c κs = c .before .before .before .before .before .before .before .before .before .before .before .before .before .before .lowest .ensures .0
+
+mul-rest : tie.Need-mul-rest Inv-loop μ-loop
+mul-rest c = let h = c .before .before .before .before .before .before .before .before .before .before .before .before .before .before .before .before .before .before .before .before .before .before .before .before .before .pre in omega (arith, h .1, h .0 .sized .few-rows)
+
+slice-read-rest : tie.Need-slice-read-rest Inv-loop μ-loop
+slice-read-rest c = omega (arith, c .before .before .before .before .before .before .before .before .before .before .before .before .before .before .before .before .before .before .before .before .before .before .before .before .before .before .pre .1, c .before .before .before .before .before .before .before .before .before .before .before .fill-cell .ensures .0 .flow .sized .supplies)
+
+rest-requires : tie.Need-rest-requires Inv-loop μ-loop
+rest-requires c κs = omega (arith, c .before .before .before .before .before .before .before .before .before .before .before .before .before .before .before .before .before .loop-test .taken)
+
+loop-less : tie.Need-loop-less Inv-loop μ-loop
+loop-less c = c .rest .ensures .1
+
+loop-again : tie.Need-loop-again Inv-loop μ-loop
+loop-again c = let v = c .before .before .before .before .before .before .before .before .before .before .before .before .before .before .before .before .before .before .before .loop .inv in let w = v .2 _ (c .before .before .before .before .before .before .before .before .before .before .before .before .before .before .before .before .before .lowest .ensures .1 .here) in let e = c .before .before .before .before .before .before .before .before .before .before .before .before .fill-cell .ensures in (improves-trans (v .0) (e .0), mask-put (c .before .before .marked .result) (v .1) (w .0) refl (e .1) (c .before .before .marked .ensures), λ j t. v .2 j (c .rest .ensures .0 j t))
+
+same-length : tie.Need-same-length Inv-loop μ-loop
+same-length c = c .before .loop .inv .0 .same-x
+
+same-length-2 : tie.Need-same-length-2 Inv-loop μ-loop
+same-length-2 c = c .before .loop .inv .0 .same-a
+
+same-length-3 : tie.Need-same-length-3 Inv-loop μ-loop
+same-length-3 c = c .before .loop .inv .0 .same-b
+
+same-length-4 : tie.Need-same-length-4 Inv-loop μ-loop
+same-length-4 c = c .before .loop .inv .0 .same-users
+
+returns : tie.Need-returns Inv-loop μ-loop
+returns c = let v = c .before .loop .inv in (v .0, v .1)
+
+pub fill-row-spec : {M : Type 1} → statement M
+fill-row-spec =
+    tie.close
+    (tie.spec
+    Inv-loop
+    μ-loop
+    mul-intersection
+    shared-slice-read-intersection
+    intersection-requires
+    loop-holds
+    lowest-requires
+    fill-cell-requires
+    mul-marked
+    slice-read-marked
+    marked-requires
+    mul-rest
+    slice-read-rest
+    rest-requires
+    loop-less
+    loop-again
+    same-length
+    same-length-2
+    same-length-3
+    same-length-4
+    returns)

@@ -1,0 +1,19 @@
+-- What the proofs of several functions use.
+-- Assumes nothing.
+pub mod Pieces
+pub mod Places
+pub mod Need
+pub mod Nodes
+pub mod Choices
+pub mod Choosing
+pub mod Writing
+pub mod Measuring
+pub mod Again
+pub mod RecordBytes
+pub mod FlowBytes
+pub mod FlowRow
+pub mod FlowFits
+pub mod FlowPlace
+pub mod FlowSearch
+pub mod FlowStep
+pub mod FlowWhole

@@ -1,0 +1,20 @@
+-- `witness::filled::filled` meets its contract. Assumes nothing.
+use borrow.Author.Needs.{needs}
+use borrow.Author.Tests.{eq-eqb, ne-eqb}
+use Rattle.witness.proofs.filled.filled.Statement.{statement}
+use Rattle.witness.proofs.filled.filled.Tie as tie
+
+first-requires : tie.Need-first-requires
+first-requires c κs = search needs
+
+returns : tie.Need-returns
+returns c = simp (eq-eqb _ _ (c .before .if1 .taken)) (c .first .ensures)
+
+first-requires-2 : tie.Need-first-requires-2
+first-requires-2 c κs = search needs
+
+returns-2 : tie.Need-returns-2
+returns-2 c = simp (ne-eqb _ _ (c .before .if1 .left)) (c .first2 .ensures)
+
+pub filled-spec : {M : Type 1} → statement M
+filled-spec = tie.close (tie.spec first-requires returns first-requires-2 returns-2)

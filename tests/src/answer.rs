@@ -1,0 +1,164 @@
+//! What a call must answer and leave in the lent buffers.
+
+use crate::flow::{must_split, needed};
+use crate::ranks::{rank, Ranking};
+use crate::table::{parse, Table};
+use crate::tree::{Trees, LONGEST};
+
+#[derive(Clone, Copy, Debug, Default, PartialEq)]
+pub struct Answer {
+    pub number: u32,
+    pub table: u32,
+    pub needed: u32,
+    pub rounds: u32,
+    pub kept: u32,
+    pub verdict: u32,
+    pub rank: u32,
+    pub written: u32,
+}
+
+impl Answer {
+    pub fn refusal(number: u32, table: u32, needed: u32) -> Answer {
+        Answer {
+            number,
+            table,
+            needed,
+            ..Answer::default()
+        }
+    }
+}
+
+/// The answer to a lone table.
+pub fn table_answer(bytes: &[u8]) -> Answer {
+    match parse(bytes) {
+        Ok(_) => Answer::default(),
+        Err(number) => Answer::refusal(number, 1, 0),
+    }
+}
+
+/// Lengths of the buffers lent to a call.
+#[derive(Clone, Copy, Debug)]
+pub struct Lengths {
+    pub ranks: usize,
+    pub flow: usize,
+    pub tree: usize,
+}
+
+/// What a call must leave behind. The length of a flow is free: `written` is
+/// 0 where one is shown.
+pub struct Expected {
+    pub answer: Answer,
+    /// Whether the ranks are filled in.
+    pub ranked: bool,
+    pub shown: Shown,
+}
+
+#[derive(PartialEq)]
+pub enum Shown {
+    Nothing,
+    Flow,
+    Tree(Vec<u8>),
+}
+
+/// All there is to know about two accepted tables.
+pub struct Pair {
+    pub bytes: (Vec<u8>, Vec<u8>),
+    pub first: Table,
+    pub second: Table,
+    pub ranking: Ranking,
+    pub trees: Trees,
+    pub subsets: usize,
+}
+
+impl Pair {
+    /// The two tables, or the answer that refuses one.
+    pub fn new(subsets: usize, first: &[u8], second: &[u8]) -> Result<Pair, Answer> {
+        let bytes = (first.to_vec(), second.to_vec());
+        let first = parse(first).map_err(|number| Answer::refusal(number, 1, 0))?;
+        let second = parse(second).map_err(|number| Answer::refusal(number, 2, 0))?;
+        let ranking = rank(subsets, &first, &second);
+        let trees = Trees::new(subsets, &first, &second, &ranking);
+        Ok(Pair {
+            bytes,
+            first,
+            second,
+            ranking,
+            trees,
+            subsets,
+        })
+    }
+
+    pub fn rank(&self, s: usize, t: usize) -> u32 {
+        self.ranking.ranks[s * self.second.states.len() + t] as u32
+    }
+
+    /// Whether a kept pair's flows can't do without sharing a target out.
+    pub fn must_split(&self, s: usize, t: usize) -> bool {
+        let (first, second) = (&self.first, &self.second);
+        must_split(self.subsets, first, second, self.ranking.last(), (s, t))
+    }
+
+    /// The shortest buffers that serve a pair of states.
+    pub fn lengths(&self, s: usize, t: usize) -> Lengths {
+        let tree = match self.rank(s, t) {
+            0 => 0,
+            _ => self.trees.length(s, t).min(LONGEST) as usize,
+        };
+        Lengths {
+            ranks: self.ranking.ranks.len(),
+            flow: needed(&self.first, &self.second, s) as usize,
+            tree,
+        }
+    }
+
+    fn refuse(number: u32, needed: u32) -> Expected {
+        Expected {
+            answer: Answer::refusal(number, 0, needed),
+            ranked: number > 20,
+            shown: Shown::Nothing,
+        }
+    }
+
+    /// What the call for a pair of states must do.
+    pub fn expect(&self, s: usize, t: usize, lengths: Lengths) -> Expected {
+        if s >= self.first.states.len() || t >= self.second.states.len() {
+            return Self::refuse(11, 0);
+        }
+        if lengths.ranks < self.ranking.ranks.len() {
+            return Self::refuse(20, self.ranking.ranks.len() as u32);
+        }
+        let rank = self.rank(s, t);
+        let shown = if rank == 0 {
+            let needed = needed(&self.first, &self.second, s);
+            if lengths.flow < needed as usize {
+                return Self::refuse(21, needed);
+            }
+            Shown::Flow
+        } else {
+            let length = self.trees.length(s, t);
+            if length > LONGEST {
+                return Self::refuse(23, 0);
+            }
+            if lengths.tree < length as usize {
+                return Self::refuse(22, length as u32);
+            }
+            Shown::Tree(self.trees.bytes(s, t))
+        };
+        let answer = Answer {
+            rounds: self.ranking.rounds(),
+            kept: self.ranking.kept,
+            verdict: (self.rank(0, 0) == 0) as u32,
+            rank,
+            written: match &shown {
+                Shown::Tree(bytes) => bytes.len() as u32,
+                _ => 0,
+            },
+            ..Answer::default()
+        };
+        Expected {
+            answer,
+            ranked: true,
+            shown,
+        }
+    }
+}

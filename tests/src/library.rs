@@ -1,0 +1,254 @@
+//! Calls of the library, every lent buffer filled beforehand with a pattern
+//! and standing between guards.
+
+use crate::answer::Answer;
+#[cfg(feature = "check")]
+use crate::answer::{Expected, Lengths, Pair, Shown};
+#[cfg(feature = "check")]
+use crate::flow::judge;
+
+extern "C" {
+    fn pod_check_table(table: *const u8, len: usize, answer: *mut u32, answer_len: usize);
+    #[cfg(feature = "check")]
+    fn pod_check(
+        first: *const u8,
+        first_len: usize,
+        second: *const u8,
+        second_len: usize,
+        s: usize,
+        t: usize,
+        ranks: *mut u16,
+        ranks_len: usize,
+        flow: *mut u8,
+        flow_len: usize,
+        tree: *mut u8,
+        tree_len: usize,
+        answer: *mut u32,
+        answer_len: usize,
+    );
+}
+
+/// Fields of an answer.
+pub const FIELDS: usize = 8;
+const GUARD: usize = 8;
+
+/// A buffer to lend: a pattern that depends on the place and on `salt`, with
+/// guards before and after.
+struct Lent<T> {
+    all: Vec<T>,
+    length: usize,
+    salt: u64,
+    make: fn(u64) -> T,
+}
+
+impl<T: Copy + PartialEq> Lent<T> {
+    fn new(length: usize, salt: u64, make: fn(u64) -> T) -> Lent<T> {
+        let mut lent = Lent {
+            all: Vec::new(),
+            length,
+            salt,
+            make,
+        };
+        lent.all = (0..length + 2 * GUARD).map(|at| lent.pattern(at)).collect();
+        lent
+    }
+
+    fn pattern(&self, at: usize) -> T {
+        (self.make)((self.salt + at as u64).wrapping_mul(0x9e37_79b9_7f4a_7c15) >> 24)
+    }
+
+    fn part(&mut self) -> &mut [T] {
+        &mut self.all[GUARD..GUARD + self.length]
+    }
+
+    /// The first `count` elements, if all others are as they were lent.
+    fn filled(&self, count: usize) -> Option<&[T]> {
+        let clean = |at: usize| self.all[at] == self.pattern(at);
+        let rest = GUARD + count.min(self.length)..self.all.len();
+        let clean = (0..GUARD).all(clean) && rest.into_iter().all(clean);
+        clean.then(|| &self.all[GUARD..GUARD + count.min(self.length)])
+    }
+}
+
+fn answer_of(answer: &Lent<u32>) -> Answer {
+    let fields = answer.filled(FIELDS).expect("numbers beyond the answer");
+    Answer {
+        number: fields[0],
+        table: fields[1],
+        needed: fields[2],
+        rounds: fields[3],
+        kept: fields[4],
+        verdict: fields[5],
+        rank: fields[6],
+        written: fields[7],
+    }
+}
+
+/// The answer to a lone table.
+pub fn check_table(table: &[u8], salt: u64) -> Answer {
+    let mut answer = Lent::new(FIELDS + (salt % 3) as usize, salt, |p| p as u32);
+    let part = answer.part();
+    // SAFETY: pointers and lengths are those of live slices.
+    unsafe { pod_check_table(table.as_ptr(), table.len(), part.as_mut_ptr(), part.len()) };
+    answer_of(&answer)
+}
+
+/// Whether a lone table's answer buffer of this length is left as lent.
+pub fn check_table_short(table: &[u8], length: usize) -> bool {
+    let mut answer = Lent::new(length, 7, |p| p as u32);
+    let part = answer.part();
+    // SAFETY: as above.
+    unsafe { pod_check_table(table.as_ptr(), table.len(), part.as_mut_ptr(), part.len()) };
+    answer.filled(0).is_some()
+}
+
+/// Buffers after a call.
+#[cfg(feature = "check")]
+pub struct Call {
+    ranks: Lent<u16>,
+    flow: Lent<u8>,
+    tree: Lent<u8>,
+    answer: Lent<u32>,
+}
+
+#[cfg(feature = "check")]
+impl Call {
+    /// Calls the check with buffers of these lengths.
+    pub fn new(
+        tables: (&[u8], &[u8]),
+        (s, t): (usize, usize),
+        lengths: Lengths,
+        answer: usize,
+        salt: u64,
+    ) -> Call {
+        let mut call = Call {
+            ranks: Lent::new(lengths.ranks, salt, |p| p as u16),
+            flow: Lent::new(lengths.flow, salt + 1, |p| p as u8),
+            tree: Lent::new(lengths.tree, salt + 2, |p| p as u8),
+            answer: Lent::new(answer, salt + 3, |p| p as u32),
+        };
+        let (ranks, flow, tree) = (call.ranks.part(), call.flow.part(), call.tree.part());
+        let answer = call.answer.part();
+        // SAFETY: pointers and lengths are those of live slices, no two of
+        // which overlap where one of them is written.
+        unsafe {
+            pod_check(
+                tables.0.as_ptr(),
+                tables.0.len(),
+                tables.1.as_ptr(),
+                tables.1.len(),
+                s,
+                t,
+                ranks.as_mut_ptr(),
+                ranks.len(),
+                flow.as_mut_ptr(),
+                flow.len(),
+                tree.as_mut_ptr(),
+                tree.len(),
+                answer.as_mut_ptr(),
+                answer.len(),
+            )
+        };
+        call
+    }
+
+    /// Whether nothing that was lent has changed.
+    pub fn untouched(&self) -> bool {
+        self.answer.filled(0).is_some() && self.buffers_untouched()
+    }
+
+    fn buffers_untouched(&self) -> bool {
+        let tree_and_flow = self.flow.filled(0).is_some() && self.tree.filled(0).is_some();
+        self.ranks.filled(0).is_some() && tree_and_flow
+    }
+
+    /// The answer of a call that refuses a table or a pair and so changes
+    /// no buffer.
+    pub fn refusal(&self) -> Answer {
+        assert!(self.buffers_untouched(), "a refusal changed a buffer");
+        answer_of(&self.answer)
+    }
+}
+
+/// What a judged call came to.
+#[cfg(feature = "check")]
+pub struct Judged {
+    pub answer: Answer,
+    /// Targets whose weight had to be shared out over several.
+    pub split: usize,
+    pub tree: Vec<u8>,
+}
+
+/// Calls the library for a pair of states and holds everything it leaves
+/// behind against what it must.
+#[cfg(feature = "check")]
+pub fn check(pair: &Pair, s: usize, t: usize, lengths: Lengths, salt: u64) -> Judged {
+    let tables = (&pair.bytes.0[..], &pair.bytes.1[..]);
+    let call = Call::new(tables, (s, t), lengths, FIELDS + (salt % 3) as usize, salt);
+    let answer = answer_of(&call.answer);
+    match compare(pair, (s, t), pair.expect(s, t, lengths), &call, answer) {
+        Ok(judged) => judged,
+        Err(words) => panic!(
+            "{words}: states {s} {t}, {lengths:?}, {answer:?},\n first {:02x?}\nsecond {:02x?}",
+            tables.0, tables.1
+        ),
+    }
+}
+
+#[cfg(feature = "check")]
+fn compare(
+    pair: &Pair,
+    (s, t): (usize, usize),
+    expected: Expected,
+    call: &Call,
+    answer: Answer,
+) -> Result<Judged, String> {
+    let ranks = call.ranks.filled(match expected.ranked {
+        true => pair.ranking.ranks.len(),
+        false => 0,
+    });
+    let ranks = ranks.ok_or("ranks changed beyond the pairs")?;
+    if expected.ranked && ranks != pair.ranking.ranks {
+        return Err(format!("ranks {:?} not {:?}", ranks, pair.ranking.ranks));
+    }
+
+    let mut due = expected.answer;
+    let (mut flow_length, mut tree_length) = (0, 0);
+    match &expected.shown {
+        Shown::Nothing => {}
+        Shown::Flow => {
+            due.written = answer.written;
+            flow_length = answer.written as usize;
+        }
+        Shown::Tree(bytes) => tree_length = bytes.len(),
+    }
+    if answer != due {
+        return Err(format!("answer, due {due:?}"));
+    }
+    let flow = call.flow.filled(flow_length);
+    let flow = flow.ok_or("flow buffer changed beyond the flow")?;
+    let tree = call.tree.filled(tree_length);
+    let tree = tree.ok_or("tree buffer changed beyond the tree")?;
+
+    let mut split = 0;
+    match expected.shown {
+        Shown::Nothing => {}
+        Shown::Flow => {
+            if flow_length > flow.len() {
+                return Err("flow longer than its buffer".to_string());
+            }
+            let (first, second) = (&pair.first, &pair.second);
+            let kept = pair.ranking.last();
+            split = judge(pair.subsets, first, second, kept, (s, t), flow)?;
+        }
+        Shown::Tree(bytes) if tree != bytes => {
+            return Err(format!("tree {tree:02x?} not {bytes:02x?}"));
+        }
+        Shown::Tree(_) => {}
+    }
+    Ok(Judged {
+        answer,
+        split,
+        tree: tree.to_vec(),
+    })
+}

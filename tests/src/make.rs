@@ -1,0 +1,334 @@
+//! Tables made at random, and tables made for a purpose.
+
+use crate::random::Random;
+use crate::table::{Table, Transition, ENTRIES, STATES, TOTAL, TRANSITIONS};
+
+/// Bounds for a random table.
+#[derive(Clone, Copy)]
+pub struct Shape {
+    pub states: usize,
+    pub codes: usize,
+    /// Transitions of a state, at most.
+    pub steps: usize,
+    /// Entries of a transition, at most.
+    pub width: usize,
+    pub weight: usize,
+}
+
+fn code(number: usize) -> u8 {
+    (10 * (number + 1)) as u8
+}
+
+/// A transition to one state.
+pub fn to(code: u8, state: usize) -> Transition {
+    Transition {
+        code,
+        entries: vec![(state as u8, 1)],
+    }
+}
+
+fn targets(random: &mut Random, states: usize, count: usize) -> Vec<u8> {
+    let mut all: Vec<u8> = (0..states as u8).collect();
+    for i in 0..count {
+        let j = random.between(i, states - 1);
+        all.swap(i, j);
+    }
+    all.truncate(count);
+    all.sort();
+    all
+}
+
+fn random_step(random: &mut Random, shape: Shape, states: usize) -> Transition {
+    let count = random.between(1, shape.width.min(states));
+    let targets = targets(random, states, count);
+    let entry = |target| (target, random.between(1, shape.weight) as u16);
+    let entries = targets.into_iter().map(entry).collect();
+    Transition {
+        code: code(random.below(shape.codes)),
+        entries,
+    }
+}
+
+/// Any table within the shape.
+pub fn random(random: &mut Random, shape: Shape) -> Table {
+    let states = random.between(1, shape.states);
+    let mut list = Vec::new();
+    for _ in 0..states {
+        let steps = random.between(0, shape.steps);
+        list.push(
+            (0..steps)
+                .map(|_| random_step(random, shape, states))
+                .collect(),
+        );
+    }
+    Table::new(list)
+}
+
+/// The same table with some codes listed that no transition uses.
+pub fn listing_more(random: &mut Random, mut table: Table) -> Table {
+    let more = random.below(256 - table.codes.len());
+    table.codes.extend((0..more).map(|_| random.byte()));
+    table.codes.sort();
+    table.codes.dedup();
+    table
+}
+
+/// Renumbers the states, the start too.
+pub fn shuffled(random: &mut Random, table: &Table) -> Table {
+    let states = table.states.len();
+    let mut place: Vec<usize> = (0..states).collect();
+    for i in 0..states {
+        let j = random.between(i, states - 1);
+        place.swap(i, j);
+    }
+    let mut list = vec![Vec::new(); states];
+    for (s, steps) in table.states.iter().enumerate() {
+        let mut steps = steps.clone();
+        for step in &mut steps {
+            for entry in &mut step.entries {
+                entry.0 = place[entry.0 as usize] as u8;
+            }
+            step.entries.sort();
+        }
+        list[place[s]] = steps;
+    }
+    Table::new(list)
+}
+
+/// Changes something small: a weight, a target, a code, the scale of a
+/// transition, or the list of a state.
+pub fn edit(random: &mut Random, table: &mut Table, codes: usize) {
+    let states = table.states.len();
+    let s = random.below(states);
+    let (transitions, entries) = (table.transitions(), table.entries());
+    if table.states[s].is_empty() {
+        if transitions < TRANSITIONS && entries < ENTRIES {
+            table.states[s].push(to(code(random.below(codes)), random.below(states)));
+        }
+    } else {
+        let k = random.below(table.states[s].len());
+        let i = random.below(table.states[s][k].entries.len());
+        let step = &mut table.states[s][k];
+        match random.below(9) {
+            0..=2 => {
+                let room = TOTAL - step.total() + step.entries[i].1 as u64;
+                let weight = step.entries[i].1 as usize;
+                let weight = random.between(1, weight + 2);
+                step.entries[i].1 = weight.min(room as usize) as u16;
+            }
+            3 | 4 => {
+                let target = random.below(states) as u8;
+                if step.entries.iter().all(|entry| entry.0 != target) {
+                    step.entries[i].0 = target;
+                    step.entries.sort();
+                }
+            }
+            5 => step.code = code(random.below(codes)),
+            6 => {
+                if 3 * step.total() <= TOTAL {
+                    step.entries.iter_mut().for_each(|entry| entry.1 *= 3);
+                }
+            }
+            7 => {
+                table.states[s].remove(k);
+            }
+            _ => {
+                let copy = step.clone();
+                if transitions < TRANSITIONS && entries + copy.entries.len() <= ENTRIES {
+                    table.states[s].push(copy);
+                }
+            }
+        }
+    }
+    *table = Table::new(std::mem::take(&mut table.states));
+}
+
+/// A table that some edits lead to.
+pub fn edited(random: &mut Random, table: &Table, edits: usize, codes: usize) -> Table {
+    let mut table = table.clone();
+    for _ in 0..edits {
+        edit(random, &mut table, codes);
+    }
+    table
+}
+
+/// A table that behaves the same, though some states are doubled and the
+/// weight that led to one is shared out over both. Nothing if that is too
+/// much for a table.
+pub fn doubled(random: &mut Random, table: &Table) -> Option<Table> {
+    let states = table.states.len();
+    let mut copies: Vec<Vec<usize>> = (0..states).map(|s| vec![s]).collect();
+    let mut next = states;
+    for list in &mut copies {
+        if random.once_in(2) {
+            list.push(next);
+            next += 1;
+        }
+    }
+    let mut list = vec![Vec::new(); next];
+    for (s, steps) in table.states.iter().enumerate() {
+        for &copy in &copies[s] {
+            list[copy] = steps
+                .iter()
+                .map(|step| shared(random, step, &copies))
+                .collect();
+        }
+    }
+    let table = Table::new(list);
+    let narrow = |step: &Transition| step.total() <= TOTAL;
+    let fits = next <= STATES && table.transitions() <= TRANSITIONS && table.entries() <= ENTRIES;
+    (fits && table.states.iter().flatten().all(narrow)).then_some(table)
+}
+
+fn shared(random: &mut Random, step: &Transition, copies: &[Vec<usize>]) -> Transition {
+    let scale = random.between(2, 4) as u16;
+    let mut entries = Vec::new();
+    for &(target, weight) in &step.entries {
+        let weight = weight.saturating_mul(scale);
+        match copies[target as usize][..] {
+            [a, b] if weight > 1 && !random.once_in(4) => {
+                let part = random.between(1, weight as usize - 1) as u16;
+                entries.extend([(a as u8, part), (b as u8, weight - part)]);
+            }
+            ref all => entries.push((all[random.below(all.len())] as u8, weight)),
+        }
+    }
+    entries.sort();
+    Transition {
+        code: step.code,
+        entries,
+    }
+}
+
+/// A ring of n states by one code.
+fn ring(n: usize) -> Vec<Vec<Transition>> {
+    (0..n).map(|i| vec![to(code(0), (i + 1) % n)]).collect()
+}
+
+/// Two cycles, of p and q states. The last state of the first has a step
+/// that the last of the second lacks, so for coprime lengths the ranks go
+/// up to p × q. That step leads to one more state, which can do nothing.
+pub fn cycles(p: usize, q: usize) -> (Table, Table) {
+    let (mut first, mut second) = (ring(p), ring(q));
+    first[p - 1].push(to(code(1), p));
+    first.push(Vec::new());
+    for steps in &mut second[..q - 1] {
+        steps.push(to(code(1), 0));
+    }
+    (Table::new(first), Table::new(second))
+}
+
+/// Two tables of n states each with ranks up to n². Both turn in a cycle of
+/// n states, so the pairs fall in n orbits of n, each orbit set off by the
+/// last pair of the one before: state 0 of the first steps to 1 by a second
+/// code, which all states of the second but 0 take standing still. States
+/// are then numbered so that the last pair is (0, 0).
+pub fn counter(n: usize) -> (Table, Table) {
+    let at = |i: usize| (i + n - 1) % n;
+    let mut first = vec![Vec::new(); n];
+    for i in 0..n {
+        first[at(i)].push(to(code(0), at((i + 1) % n)));
+    }
+    first[at(0)].push(to(code(1), at(1 % n)));
+    let mut second = ring(n);
+    for (j, steps) in second.iter_mut().enumerate().skip(1) {
+        steps.push(to(code(1), j));
+    }
+    (Table::new(first), Table::new(second))
+}
+
+/// Two chains by one code, the second a state shorter: the starts differ
+/// only after all of it.
+pub fn chain(n: usize) -> (Table, Table) {
+    let chain = |n: usize| -> Vec<Vec<Transition>> {
+        let step = |i| match i + 1 < n {
+            true => vec![to(code(0), i + 1)],
+            false => Vec::new(),
+        };
+        (0..n).map(step).collect()
+    };
+    (Table::new(chain(n)), Table::new(chain(n - 1)))
+}
+
+/// One state with steps to itself against layers of states: each step has
+/// several like-coded ones to tell apart, so trees grow with every layer.
+pub fn layers(random: &mut Random, layers: usize, width: usize) -> (Table, Table) {
+    let twin = random.once_in(2);
+    let entries = match twin {
+        true => vec![(0, 1), (1, random.between(1, 3) as u16)],
+        false => vec![(0, 1)],
+    };
+    let step = Transition {
+        code: code(0),
+        entries,
+    };
+    let first = vec![vec![step]; 1 + twin as usize];
+    let mut second = vec![Vec::new(); layers * width];
+    for (at, steps) in second.iter_mut().enumerate().take((layers - 1) * width) {
+        let next = (at / width + 1) * width;
+        for j in 0..width {
+            if random.once_in(8) && j > 0 {
+                continue;
+            }
+            let mut step = to(code(0), next + j);
+            if random.once_in(6) && j + 1 < width {
+                step.entries.push(((next + j + 1) as u8, 1));
+            }
+            steps.push(step);
+        }
+    }
+    (Table::new(first), Table::new(second))
+}
+
+/// Weights whose total is just `total`, none of them 0.
+pub fn weights(random: &mut Random, count: usize, total: u64) -> Vec<u16> {
+    let mut left = total as usize - count;
+    let mut list = vec![1; count];
+    for (i, weight) in list.iter_mut().enumerate() {
+        let share = match i + 1 == count {
+            true => left,
+            false => random.below(2 * left / (count - i) + 1).min(left),
+        };
+        *weight += share as u16;
+        left -= share;
+    }
+    list
+}
+
+/// A table of 64 states, 128 transitions and 512 entries, all totals 65,535.
+/// With `wide`, six transitions have 64 targets. With one or two codes some
+/// states have no transition, for otherwise nearly all pairs are kept.
+pub fn limit(random: &mut Random, codes: usize, wide: bool) -> Table {
+    let mut widths = vec![if wide { 1 } else { 4 }; TRANSITIONS];
+    if wide {
+        (0..6).for_each(|k| widths[2 * k] = STATES);
+    }
+    // What is left over goes to any transition with room.
+    while widths.iter().sum::<usize>() < ENTRIES {
+        let k = random.below(TRANSITIONS);
+        widths[k] += (widths[k] < STATES) as usize;
+    }
+    if !wide {
+        for _ in 0..TRANSITIONS {
+            let (j, k) = (random.below(TRANSITIONS), random.below(TRANSITIONS));
+            if j != k && widths[j] > 1 && widths[k] < STATES {
+                widths[j] -= 1;
+                widths[k] += 1;
+            }
+        }
+    }
+    let mut list = vec![Vec::new(); STATES];
+    for (k, width) in widths.into_iter().enumerate() {
+        let targets = targets(random, STATES, width);
+        let weights = weights(random, width, TOTAL);
+        let state = match codes {
+            1 | 2 => random.below(STATES),
+            _ => k / 2,
+        };
+        list[state].push(Transition {
+            code: code(random.below(codes)),
+            entries: targets.into_iter().zip(weights).collect(),
+        });
+    }
+    Table::new(list)
+}
