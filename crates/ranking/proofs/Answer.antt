@@ -1,9 +1,8 @@
 -- What the rows and the ranks say at the end: the list of ranks, and the count of kept pairs.
 -- Assumes nothing.
-use mathlib.Core.Path.{_≡_, refl, sym, ap, ap₂, _∙_, subst}
+use mathlib.Core.Path.{_≡_, sym, ap, _∙_}
 use mathlib.Core.Bool.{Bool, false}
-use mathlib.Core.List.{List, _++_}
-use mathlib.Core.Logic.{_⊎_, inl, inr, ⊎-elim}
+use mathlib.Core.List.{List}
 use Prim.Native.Nat.{ℕ, zero, suc, _+_, _*_, _-_, _/_, _%_, _≤_, _<_}
 use native.Mathlib.Nat.{div-add-mod', div-lt-iff-lt-mul, mod-lt, zero-add, suc-add, mul-zero}
 use native.Mathlib.Omega.{arith}
@@ -17,7 +16,8 @@ use Rattle.simulation.specs.Table.{Table, states-of}
 use Rattle.simulation.specs.Round.{pairs, rank, rank-list, zeros}
 use Rattle.simulation.proofs.Finite.Sums.{sum-ext, members}
 use Rattle.simulation.proofs.Simulation.RankList.{rank-list-length, rank-list-at, kept-count}
-use Rattle.ranking.specs.Rows.{holds, over}
+use Rattle.buffer.specs.Buffer.{over}
+use Rattle.ranking.specs.Rows.{holds}
 
 -- a place of a list of p rows of q numbers is a row and a column
 pub place : (p q i : ℕ) → i < p * q → (s : ℕ) × (t : ℕ) × (s < p) × (t < q) × (i ≡ s * q + t)

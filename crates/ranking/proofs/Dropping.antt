@@ -3,18 +3,17 @@
 use mathlib.Core.Path.{_≡_, refl, sym, ap, ap₂, _∙_, subst, fun-ext}
 use mathlib.Core.Bool.{Bool, true, false, not, _&&_, _||_, and-true, and-false}
 use mathlib.Core.List.{List}
-use mathlib.Core.Logic.{_≢_, _⊎_, inl, inr, ⊎-elim}
-use Prim.Native.Nat.{ℕ, _+_, _<_}
+use mathlib.Core.Logic.{_≢_, _⊎_, inl, inr}
+use Prim.Native.Nat.{ℕ, _<_}
 use native.Mathlib.Decide.{ℕ-discrete, decLt}
 use borrow.Author.Tests.{eq-eqb, ne-eqb}
-use lib.Dec.{T, T-not, eqb}
+use lib.Dec.{T, T-not}
 use lib.ListN.{getD}
-use Rattle.simulation.specs.Sum.{all-of, any-of}
-use Rattle.simulation.specs.Table.{Table, states-of, steps}
-use Rattle.simulation.specs.Round.{Relation, related, survives, fits-step}
-use Rattle.simulation.proofs.Finite.Tests.{either, is-true, is-false, same-test}
+use Rattle.simulation.specs.Table.{Table, states-of}
+use Rattle.simulation.specs.Round.{related, survives}
+use Rattle.simulation.proofs.Finite.Tests.{either, is-false}
 use Rattle.simulation.proofs.Simulation.Relation.{relation-at, relation-right}
-use Rattle.relation.specs.Mask.{Test, member, with-member, without-member, both, Lowest}
+use Rattle.relation.specs.Mask.{Test, member, without-member, both, Lowest}
 use Rattle.relation.proofs.Mask.{member-none}
 use Rattle.ranking.specs.Rows.{holds, held, matched, falls, Doubtless, Columns, Judged}
 

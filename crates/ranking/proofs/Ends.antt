@@ -1,7 +1,7 @@
 -- The first round's rows and ranks, and what is returned at the end.
 -- Assumes nothing.
-use mathlib.Core.Path.{_≡_, refl, sym, ap, ap₂, _∙_, subst}
-use mathlib.Core.Bool.{Bool, true, _&&_, and-false}
+use mathlib.Core.Path.{_≡_, sym, ap, ap₂, _∙_}
+use mathlib.Core.Bool.{Bool, _&&_, and-false}
 use mathlib.Core.List.{List}
 use Prim.Native.Nat.{ℕ, _+_, _*_, _≤_, _<_}
 use native.Mathlib.Omega.{arith}
@@ -11,8 +11,8 @@ use lib.Dec.{ltb}
 use lib.ListN.{length, getD}
 use Rattle.simulation.specs.Sum.{sum}
 use Rattle.simulation.specs.Table.{Table, states-of}
-use Rattle.simulation.specs.Round.{rank-list, maximum, zeros}
-use Rattle.relation.specs.Mask.{Test, member, both, up-to, size}
+use Rattle.simulation.specs.Round.{zeros}
+use Rattle.relation.specs.Mask.{Test, both, up-to, size}
 use Rattle.relation.specs.Related.{related, all-below, pairs-of}
 use Rattle.relation.specs.declared.Relation.{Relation}
 use Rattle.ranking.specs.Rows.{holds, Cleared, After, Open, Refined, Filled}

@@ -1,17 +1,17 @@
 -- Tests of all transitions of a state, by their numbers in a form, and the test of two transitions.
 -- Assumes nothing.
 use mathlib.Core.Path.{_≡_, refl, sym, ap, _∙_, subst, subst₂}
-use mathlib.Core.Bool.{Bool, true, false, _&&_, true≢false}
+use mathlib.Core.Bool.{Bool, true, false, _&&_}
 use mathlib.Core.List.{List}
 use mathlib.Core.Logic.{_≢_, ⊎-elim}
 use Prim.Native.Nat.{ℕ, _+_, _-_, _≤_, _<_}
 use native.Mathlib.Omega.{arith}
 use borrow.Author.Tests.{eq-eqb, ne-eqb}
 use lib.Dec.{T, eqb}
-use lib.ListN.{length, getD}
+use lib.ListN.{length}
 use Rattle.simulation.specs.Sum.{all-of, any-of}
 use Rattle.simulation.specs.Fit.{fits?}
-use Rattle.simulation.specs.Table.{Transition, Table, weights, targets, target-at, states-of, steps, no-transition, transition}
+use Rattle.simulation.specs.Table.{Transition, weights, targets, states-of, steps, no-transition, transition}
 use Rattle.simulation.specs.Round.{Relation, between, fits-step}
 use Rattle.simulation.proofs.Finite.Tests.{is-true, is-false, last-or-below}
 use Rattle.simulation.proofs.Finite.Lists.{all-of-at, all-of-by, any-of-at, any-of-by}
@@ -19,7 +19,7 @@ use Rattle.simulation.proofs.Simulation.Relation.{relation-at}
 use Rattle.table.specs.Form.{Loaded, start-of, transitions-of, transition-at, table-of}
 use Rattle.table.proofs.FormLaws.{limits, limited-at, distribution-at, counts, transition-of, transition-numbered, weights-length, targets-length}
 use Rattle.transport.specs.Answer.{Answered}
-use Rattle.ranking.specs.Rows.{holds, Places, Gathered, Lent, relation-of}
+use Rattle.ranking.specs.Rows.{Ascending, holds, Places, Gathered, Lent, relation-of}
 use Rattle.simulation.proofs.Fit.Agree.{Agree, fits-agree}
 
 -- one number more passes
@@ -66,6 +66,9 @@ module _ (f : List ℕ) (loaded : Loaded f) (s : ℕ) (a : s < states-of (table-
 
   pub all-pass : ((j : ℕ) → start-of f s ≤ j → j < start-of f (s + 1) → F (transition-at f j) ≡ true) → true ≡ all-of F (steps (table-of f) s)
   all-pass h = sym (is-true (all-of F (steps (table-of f) s)) (all-of-by F no-transition (steps (table-of f) s) (λ k l. subst T (sym (number k l true h)) tt)))
+
+pub targets-ascend : (f : List ℕ) (loaded : Loaded f) (j : ℕ) → j < transitions-of f → Ascending (targets (transition-at f j))
+targets-ascend f loaded j b i h = distribution-at f loaded j b .ascending i (omega (arith, targets-length (transition-at f j)))
 
 -- the targets of a transition of a form
 pub places-of : (n : ℕ) (f : List ℕ) (loaded : Loaded f) (j : ℕ) → j < transitions-of f → 64 ≤ n → Places n (targets (transition-at f j))

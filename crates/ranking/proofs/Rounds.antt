@@ -9,14 +9,14 @@ use native.Mathlib.Nat.{zero-add, suc-add, le-antisymm}
 use native.Mathlib.Omega.{arith}
 use native.Mathlib.Decide.{decLe, decLt}
 use borrow.Author.Tests.{le-leb, lt-leb, lt-ltb, le-ltb}
-use lib.Dec.{T, T-not, not-T, eqb, leb, ltb, eqb→eq, eqb-refl}
-use lib.ListN.{length, getD}
-use Rattle.simulation.specs.Sum.{when, all-of, any-of}
-use Rattle.simulation.specs.Table.{Table, states-of, steps}
+use lib.Dec.{T, T-not, not-T, eqb, ltb, eqb→eq}
+use lib.ListN.{getD}
+use Rattle.simulation.specs.Sum.{when}
+use Rattle.simulation.specs.Table.{Table, states-of}
 use Rattle.simulation.specs.Round.{Relation, related, relation, survives, next, round, pairs, rank, rank-list, maximum}
 use Rattle.simulation.proofs.Finite.Tests.{either, both, and-left, and-right, is-true, is-false, same-test}
-use Rattle.simulation.proofs.Simulation.Relation.{relation-at, relation-left, relation-right, relation-ext}
-use Rattle.simulation.proofs.Simulation.Rounds.{In, in-zero, in-left, in-right, falls as round-falls, falls-to, stays}
+use Rattle.simulation.proofs.Simulation.Relation.{relation-at, relation-ext}
+use Rattle.simulation.proofs.Simulation.Rounds.{In, in-zero, in-left, in-right, falls as round-falls, stays}
 use Rattle.simulation.proofs.Simulation.Ranks.{rank-law}
 use Rattle.simulation.proofs.Simulation.RankList.{rounds-above, rounds-least}
 use Rattle.ranking.specs.Rows.{holds, held, matched, falls, shown, After, Lost}

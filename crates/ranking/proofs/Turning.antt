@@ -1,25 +1,24 @@
 -- From one round to the next, and the end.
 -- Assumes nothing.
-use mathlib.Core.Path.{_≡_, refl, sym, ap, ap₂, _∙_, subst, subst₂}
+use mathlib.Core.Path.{_≡_, refl, sym, ap, _∙_, subst, subst₂}
 use mathlib.Core.Bool.{Bool, true, false, cond, true≢false}
 use mathlib.Core.List.{List}
 use Prim.Native.Nat.{ℕ, suc, _+_, _*_, _≤_, _<_}
-use native.Mathlib.Nat.{mul-le-mul-left, mul-le-mul-right}
+use native.Mathlib.Nat.{mul-le-mul-right}
 use native.Mathlib.Numerals.{add-one}
 use native.Mathlib.Omega.{arith}
-use lib.Dec.{T, T-not}
+use lib.Dec.{T}
 use lib.ListN.{length, getD}
-use Rattle.simulation.specs.Table.{Transition, Table, weights, targets, target-at, states-of, steps, transition}
-use Rattle.simulation.specs.Round.{Relation, related, round, pairs, rank}
+use Rattle.simulation.specs.Table.{Transition, Table, weights, target-at, states-of, steps, transition}
+use Rattle.simulation.specs.Round.{Relation, related, round, pairs}
 use Rattle.simulation.proofs.Finite.Tests.{is-true, is-false, same-test}
 use Rattle.simulation.proofs.Simulation.Relation.{relation-right}
 use Rattle.simulation.proofs.Simulation.Rounds.{in-right, falls as round-falls}
-use Rattle.relation.specs.Mask.{member}
 use Rattle.table.specs.Form.{Loaded, start-of, transition-at, table-of}
 use Rattle.table.proofs.FormLaws.{limits, counts, transition-of, state-of, weights-length, targets-length, sound}
-use Rattle.ranking.specs.Rows.{holds, held, matched, Linked, Doubted, After, Lost, Losing, Columns, Ready, Settled, Standing, Open, Turning, Turned, Refined}
+use Rattle.ranking.specs.Rows.{holds, held, matched, Linked, Doubted, After, Losing, Ready, Settled, Standing, Open, Refined}
 use Rattle.ranking.proofs.Fitting.{Alike, matched-agree}
-use Rattle.ranking.proofs.Rounds.{held-round, in-test, kept-unless, lost-rank, more, moves, last-rank, ranks-whole, rounds-are, rows-kept}
+use Rattle.ranking.proofs.Rounds.{held-round, in-test, kept-unless, lost-rank, more, moves, ranks-whole, rounds-are, rows-kept}
 
 -- two tables have at most 4,096 pairs
 pub few-pairs : (f g : List ℕ) → Loaded f → Loaded g → states-of (table-of f) * states-of (table-of g) ≤ 4096

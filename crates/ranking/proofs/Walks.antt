@@ -4,17 +4,16 @@ use mathlib.Core.Path.{_≡_, refl, sym, ap, ap₂, _∙_, subst}
 use mathlib.Core.Bool.{Bool, true, false, cond, not, _&&_, and-true, and-false, true≢false}
 use mathlib.Core.List.{List}
 use mathlib.Core.Logic.{_≢_, ⊎-elim}
-use Prim.Native.Nat.{ℕ, zero, suc, _+_, _-_, _*_, _^_, _≤_, _<_}
-use native.Mathlib.Nat.{mul-le-mul-right, suc-mul}
+use Prim.Native.Nat.{ℕ, _+_, _-_, _^_, _≤_, _<_}
 use native.Mathlib.Omega.{arith}
-use native.Mathlib.Decide.{ℕ-discrete, decLe, decLt}
-use borrow.Author.Tests.{le-leb, lt-leb, eq-eqb, ne-eqb, leb-true, eqb-true}
+use native.Mathlib.Decide.{ℕ-discrete, decLe}
+use borrow.Author.Tests.{le-leb, lt-leb, eq-eqb, ne-eqb}
 use lib.Dec.{T, eqb, leb}
 use lib.ListN.{length, getD, set}
 use lib.Seq.{getD-set-same, getD-set-other}
-use Rattle.simulation.proofs.Finite.Tests.{is-true, last-or-below}
-use Rattle.relation.specs.Mask.{Test, member, without-member, except, Lowest}
-use Rattle.relation.proofs.Mask.{member-none, none-is, lowest-of}
+use Rattle.simulation.proofs.Finite.Tests.{last-or-below}
+use Rattle.relation.specs.Mask.{Test, member, without-member, except}
+use Rattle.relation.proofs.Mask.{member-none, lowest-of}
 use Rattle.ranking.specs.Rows.{holds, marked, Losing}
 
 -- a mask that is not 0 has a member

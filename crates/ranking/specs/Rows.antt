@@ -3,11 +3,12 @@
 use mathlib.Core.Path.{_≡_}
 use mathlib.Core.Bool.{Bool, true, false, cond, not, _&&_}
 use mathlib.Core.List.{List, _++_}
-use Prim.Native.Nat.{ℕ, suc, _+_, _-_, _*_, _≤_, _<_}
+use Prim.Native.Nat.{ℕ, _+_, _-_, _*_, _≤_, _<_}
 use lib.Dec.{T, eqb, leb}
 use lib.ListN.{length, getD, drop}
+use Rattle.buffer.specs.Buffer.{over}
 use Rattle.relation.specs.Mask.{Test, member, with-member}
-use Rattle.table.specs.Form.{Loaded, start-of, transitions-of, transition-at, table-of}
+use Rattle.table.specs.Form.{Loaded, start-of, transition-at, table-of}
 use Rattle.simulation.specs.Sum.{when, all-of, any-of}
 use Rattle.simulation.specs.Table.{Table, targets, states-of, steps}
 use Rattle.simulation.specs.Round.{Relation, related, relation, fits-step, survives, round, rank, rank-list, maximum, zeros}
@@ -42,14 +43,14 @@ pub record After (M N : Table) (k : ℕ) (rows ranks : List ℕ) : Type 0 where
 abbrev pub Lost : Table → Table → Relation → List ℕ → Type 0
 Lost M N R lost = (s t : ℕ) → s < states-of M → holds lost s t ≡ falls M N R s t
 
--- a list written over the start of another
-abbrev pub over : List ℕ → List ℕ → List ℕ
-over new old = new ++ drop (length new) old
-
 -- places of targets: few, and each a state below n
 pub record Places (n : ℕ) (ts : List ℕ) : Type 0 where
   pub few : length ts ≤ 64
   pub below : (j : ℕ) → j < length ts → getD ts j 0 < n
+
+-- they ascend strictly
+abbrev pub Ascending : List ℕ → Type 0
+Ascending ts = (i : ℕ) → i + 1 < length ts → getD ts i 0 < getD ts (i + 1) 0
 
 -- a row by positions: the places of a list whose states the row has
 abbrev pub row-at : ℕ → List ℕ → Test

@@ -1,4 +1,6 @@
 // The ranks of all pairs of states of two tables, round by round.
+use relation::Relation;
+use relation::set;
 use table::form;
 ghost use mathlib.Core.Path.{_≡_};
 ghost use mathlib.Core.Bool.{true};
@@ -8,7 +10,7 @@ ghost use Rattle.relation.specs.Mask.{member, part, both, up-to};
 ghost use Rattle.simulation.specs.Table.{states-of, steps};
 ghost use Rattle.simulation.specs.Round.{fits-step};
 ghost use Rattle.table.specs.Form.{Loaded, transitions-of, transition-at, table-of};
-ghost use Rattle.ranking.specs.Rows.{holds, row-at, Places, Gathered, marked, Losing, Lent, relation-of, answered, matched, falls, Judged, Doubtless, Columns, Ready, Lost, Settled, Cleared, After, Open, Turning, Turned, Refined, Filled, Linked, Links, Doubted, Grown};
+ghost use Rattle.ranking.specs.Rows.{holds, row-at, Places, Ascending, Gathered, marked, Losing, Lent, relation-of, answered, matched, falls, Judged, Doubtless, Columns, Ready, Lost, Settled, Cleared, After, Open, Turning, Turned, Refined, Filled, Linked, Links, Doubted, Grown};
 
 fn wide(t: u16) -> usize
     ensures { λ r. ⌜ r ≡ t ⌝ }
@@ -16,25 +18,40 @@ fn wide(t: u16) -> usize
     t as usize
 }
 
-// A row by positions: place j is a member if the state there is one of the row.
-fn gather_row(row: u64, to: &[u16]) -> u64
+// A row by positions, place by place: place j is a member if the state there is one of the row.
+fn sparse_row(row: u64, to: &[u16]) -> u64
     requires { ⌜ Places 64 (now to) ⌝ }
     ensures { λ r. ⌜ member r ≡ part (length (now (to .entry))) (row-at row (now (to .entry))) ⌝ }
 {
     let mut r = 0u64;
     let mut j = 0;
     while j < to.len() {
-        if relation::set::test(row, wide(to[j])) {
-            r = relation::set::insert(r, j);
+        if set::test(row, wide(to[j])) {
+            r = set::insert(r, j);
         }
         j += 1;
     }
     r
 }
 
+// A row by positions. Targets that ascend to their number less one are all states in order, and positions are then states.
+fn gather_row(row: u64, to: &[u16]) -> u64
+    requires { ⌜ Places 64 (now to) × Ascending (now to) ⌝ }
+    ensures { λ r. ⌜ member r ≡ part (length (now (to .entry))) (row-at row (now (to .entry))) ⌝ }
+{
+    let n = to.len();
+    if n == 0 {
+        return 0;
+    }
+    if wide(to[n - 1]) + 1 == n {
+        return set::intersection(row, set::below(n));
+    }
+    sparse_row(row, to)
+}
+
 // The rows between the targets of two transitions, by positions.
 fn gather(from: &[u16], to: &[u16], rows: &[u64], rel: &mut [u64])
-    requires { ⌜ Places (length (now rows)) (now from) × Places 64 (now to) × (length (now from) ≤ length (now rel)) ⌝ }
+    requires { ⌜ Places (length (now rows)) (now from) × Places 64 (now to) × Ascending (now to) × (length (now from) ≤ length (now rel)) ⌝ }
     ensures { λ r. ⌜ Gathered (now (rows .entry)) (now (from .entry)) (now (to .entry)) (length (now (from .entry))) (now (rel .exit)) ⌝ }
 {
     let mut i = 0;
@@ -129,7 +146,7 @@ fn judge(
     if matches(first, s, second, t, rows, rel, x) {
         return fallen;
     }
-    relation::set::insert(fallen, t)
+    set::insert(fallen, t)
 }
 
 // The pairs of row s that the round drops. Those outside doubt are known to survive.
@@ -147,12 +164,12 @@ fn drop_row(
         × Columns (table-of (now second)) (getD (now rows) s 0) ⌝ }
     ensures { λ r. ⌜ member r ≡ falls (table-of (now (first .entry))) (table-of (now (second .entry))) (relation-of (now (first .entry)) (now (second .entry)) (now (rows .entry))) s ⌝ }
 {
-    let mut left = relation::set::intersection(rows[s], doubt);
+    let mut left = set::intersection(rows[s], doubt);
     let mut fallen = 0u64;
     while left != 0 {
-        let t = relation::set::lowest(left);
+        let t = set::lowest(left);
         fallen = judge(first, s, second, t, rows, rel, x, fallen);
-        left = relation::set::without_lowest(left);
+        left = set::without_lowest(left);
     }
     fallen
 }
@@ -185,9 +202,9 @@ fn mark_row(ranks: &mut [u16], set: u64, base: usize, k: u16)
 {
     let mut left = set;
     while left != 0 {
-        let t = relation::set::lowest(left);
+        let t = set::lowest(left);
         ranks[base + t] = k;
-        left = relation::set::without_lowest(left);
+        left = set::without_lowest(left);
     }
 }
 
@@ -199,7 +216,7 @@ fn settle(ranks: &mut [u16], rows: &mut [u64], lost: &[u64], p: usize, q: usize,
     let mut s = 0;
     while s < p {
         mark_row(ranks, lost[s], s * q, k);
-        rows[s] = relation::set::difference(rows[s], lost[s]);
+        rows[s] = set::difference(rows[s], lost[s]);
         s += 1;
     }
 }
@@ -244,7 +261,7 @@ fn link_targets(to: &[u16], s: usize, before: &mut [u64])
     let mut i = 0;
     while i < to.len() {
         let t = wide(to[i]);
-        before[t] = relation::set::insert(before[t], s);
+        before[t] = set::insert(before[t], s);
         i += 1;
     }
 }
@@ -283,9 +300,9 @@ fn before_all(set: u64, before: &[u64]) -> u64
     let mut left = set;
     let mut r = 0u64;
     while left != 0 {
-        let u = relation::set::lowest(left);
-        r = relation::set::union(r, before[u]);
-        left = relation::set::without_lowest(left);
+        let u = set::lowest(left);
+        r = set::union(r, before[u]);
+        left = set::without_lowest(left);
     }
     r
 }
@@ -297,9 +314,9 @@ fn add_doubts(set: u64, more: u64, doubt: &mut [u64])
 {
     let mut left = set;
     while left != 0 {
-        let s = relation::set::lowest(left);
-        doubt[s] = relation::set::union(doubt[s], more);
-        left = relation::set::without_lowest(left);
+        let s = set::lowest(left);
+        doubt[s] = set::union(doubt[s], more);
+        left = set::without_lowest(left);
     }
 }
 
@@ -404,10 +421,10 @@ fn narrow(rows: &mut [u64], p: usize, q: usize)
     requires { ⌜ (p ≤ length (now rows)) × (q ≤ 64) ⌝ }
     ensures { λ r. ⌜ ((s t : ℕ) → s < p → holds (now (rows .exit)) s t ≡ both (holds (now (rows .entry)) s) (up-to q) t) ⌝ }
 {
-    let columns = relation::set::below(q);
+    let columns = set::below(q);
     let mut s = 0;
     while s < p {
-        rows[s] = relation::set::intersection(rows[s], columns);
+        rows[s] = set::intersection(rows[s], columns);
         s += 1;
     }
 }
@@ -473,8 +490,8 @@ pub fn rank(first: &[u16], second: &[u16], ranks: &mut [u16], x: &mut [u32]) -> 
     requires { ⌜ Loaded (now first) × Loaded (now second) × (states-of (table-of (now first)) * states-of (table-of (now second)) ≤ length (now ranks)) × (4096 ≤ length (now x)) ⌝ }
     ensures { λ r. ⌜ Filled (table-of (now (first .entry))) (table-of (now (second .entry))) (now (ranks .entry)) (now (ranks .exit)) (r .rounds) (r .kept) ⌝ }
 {
-    let all = relation::Relation::full();
-    let none = relation::Relation::empty();
+    let all = Relation::full();
+    let none = Relation::empty();
     let mut rows = all.rows;
     let mut doubt = all.rows;
     let mut lost = none.rows;
@@ -493,7 +510,7 @@ pub fn rank(first: &[u16], second: &[u16], ranks: &mut [u16], x: &mut [u32]) -> 
         &mut rel,
         x,
     );
-    let left = relation::Relation { rows: rows };
+    let left = Relation { rows: rows };
     Ranked {
         rounds: rounds,
         kept: left.kept(form::states(first)) as u16,

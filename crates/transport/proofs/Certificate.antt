@@ -3,23 +3,23 @@
 use mathlib.Core.Path.{_≡_, refl, sym, ap, _∙_, subst}
 use mathlib.Core.Bool.{Bool, true, false, not}
 use mathlib.Core.List.{List}
-use mathlib.Core.Logic.{_≢_, ⊎-elim}
-use Prim.Native.Nat.{ℕ, zero, suc, _+_, _*_, _^_, _≤_, _<_}
+use mathlib.Core.Logic.{⊎-elim}
+use Prim.Native.Nat.{ℕ, zero, suc, _*_, _^_, _≤_, _<_}
 use native.Mathlib.Nat.{mul-comm}
 use native.Mathlib.Decide.{ℕ-discrete}
 use native.Mathlib.Omega.{arith}
 use lib.Dec.{T, eqb, eqb→eq, T-not}
 use lib.ListN.{length, getD}
 use borrow.Author.Tests.{eq-eqb}
-use Rattle.simulation.specs.Fit.{Set, weight, total, fits?, cut}
+use Rattle.simulation.specs.Fit.{weight, total, fits?}
 use Rattle.simulation.proofs.Finite.Tests.{same-test, is-true}
 use Rattle.simulation.proofs.Finite.Sums.{sum-mono, sum-tight}
 use Rattle.simulation.proofs.Flow.Partial.{Reach, row, tight-from}
 use Rattle.simulation.proofs.Fit.Gain.{supply, demand, all-supply}
 use Rattle.simulation.proofs.Fit.Hall.{Partial, Certified, sent-all, full-shares}
-use Rattle.simulation.proofs.Fit.Cut.{Reached, fits-sent, sent-fits, cut-certified}
+use Rattle.simulation.proofs.Fit.Cut.{Reached, largest-gain-sent, fits-sent, sent-fits, cut-certified}
 use Rattle.relation.specs.Mask.{Test, member}
-use Rattle.relation.proofs.Mask.{lowest-of, member-none, member-high, below-or-not, below-power}
+use Rattle.relation.proofs.Mask.{lowest-of, member-none, member-high, below-power}
 use Rattle.transport.specs.Answer.{cell, relates, Outside, Answered}
 use Rattle.transport.specs.Matrix.{row-sum, column-sum}
 use Rattle.transport.specs.Masks.{MaskOf, Used}
@@ -70,6 +70,7 @@ module _ (ws vs rel x : List ℕ) (r : ℕ) (F : Partial (relates rel) ws vs (ce
     support = F .support;
     sent = λ i h. omega (arith, F .rows i h, mul-comm (weight ws i) (total vs));
     taken = λ j h. omega (arith, F .columns j h, mul-comm (weight vs j) (total ws));
+    most = omega (arith, largest-gain-sent (relates rel) ws vs (cell x) (member r) F Z);
     fit = fits-empty;
     shares = λ z. full-shares (relates rel) ws vs (cell x) F (all-sent z);
     smallest = cut-certified (relates rel) ws vs (cell x) (member r) F Z K;

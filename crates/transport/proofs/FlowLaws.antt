@@ -11,7 +11,7 @@ use lib.ListN.{length, getD}
 use Rattle.simulation.specs.Sum.{sum}
 use Rattle.simulation.proofs.Finite.Sums.{sum-ext, sum-add}
 use Rattle.transport.specs.Answer.{cell, relates}
-use Rattle.transport.specs.Matrix.{delta, row-sum, column-sum, AddsAt, Adds}
+use Rattle.transport.specs.Matrix.{delta, AddsAt, Adds}
 use Rattle.transport.specs.Masks.{Used}
 use Rattle.transport.specs.Flow.{missing, Supported, Small, Flow, Preserves, Extends, Improves}
 use Rattle.transport.proofs.MatrixLaws.{delta-eq, delta-other, sum-delta, row-adds, column-adds, cell-le, outside-refl, outside-trans, outside-adds}

@@ -1,11 +1,11 @@
 -- Laws of the delta, of one change of a matrix, and of the cells outside a block.
 -- Assumes nothing.
-use mathlib.Core.Path.{_≡_, refl, sym, ap, _∙_, subst, subst⁻¹}
+use mathlib.Core.Path.{_≡_, refl, sym, ap, _∙_, subst}
 use mathlib.Core.Bool.{Bool}
 use mathlib.Core.List.{List}
 use mathlib.Core.Logic.{_≢_}
-use Prim.Native.Nat.{ℕ, zero, suc, _+_, _*_, _≤_, _<_}
-use native.Mathlib.Nat.{le-refl, add-comm}
+use Prim.Native.Nat.{ℕ, _+_, _*_, _≤_, _<_}
+use native.Mathlib.Nat.{add-comm}
 use native.Mathlib.Numerals.{add-one}
 use native.Mathlib.Decide.{ℕ-discrete}
 use native.Mathlib.Omega.{arith}
@@ -26,20 +26,8 @@ pub sum-next : (n : ℕ) (f : ℕ → ℕ) → sum (n + 1) f ≡ sum n f + f n
 unfolding sum
 sum-next n f = ap (λ (m : ℕ). sum m f) (add-one n) ∙ add-comm (f n) (sum n f)
 
-pub sum-part : (m n : ℕ) (f : ℕ → ℕ) → m ≤ n → sum m f ≤ sum n f
-unfolding sum
-sum-part m zero f h = let e : m ≡ 0 = omega arith in subst⁻¹ (λ (k : ℕ). sum k f ≤ 0) e (le-refl 0)
-sum-part m (suc n) f h = elim (ℕ-discrete m (suc n)) [
-  | yes e ↦ subst⁻¹ (λ (k : ℕ). sum k f ≤ f n + sum n f) e (le-refl (f n + sum n f))
-  | no d ↦ omega (arith, sum-part m n f (omega arith))
-]
-
 pub running : (n : ℕ) (f : ℕ → ℕ) {s v : ℕ} → s ≡ sum n f → v ≡ f n → s + v ≡ sum (n + 1) f
 running n f e c = omega (arith, sum-next n f)
-
--- a running total stays below a bound on the whole
-pub running-lt : (n m k : ℕ) (f : ℕ → ℕ) {s v : ℕ} → n < m → s ≡ sum n f → v ≡ f n → sum m f < k → s + v < k
-running-lt n m k f h e c l = omega (arith, sum-next n f, sum-part (n + 1) m f (omega arith))
 
 pub delta-same : (k d : ℕ) → delta k k d ≡ d
 unfolding delta

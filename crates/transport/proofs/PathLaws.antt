@@ -6,15 +6,15 @@ use mathlib.Core.List.{List}
 use mathlib.Core.Logic.{_≢_}
 use Prim.Native.Nat.{ℕ, zero, suc, _+_, _-_, _^_, _≤_, _<_, min}
 use native.Mathlib.Omega.{arith}
-use lib.ListN.{length, getD}
-use Rattle.relation.specs.Mask.{Test, member}
+use lib.ListN.{getD}
+use Rattle.relation.specs.Mask.{Test}
 use Rattle.transport.specs.Answer.{cell, relates, Outside}
 use Rattle.transport.specs.Matrix.{delta, row-sum, column-sum, Adds}
 use Rattle.transport.specs.Masks.{MaskOf, Used, Noted}
 use Rattle.transport.specs.Flow.{Supported, Small, Extends}
 use Rattle.transport.specs.Search.{Forest}
 use Rattle.transport.specs.Path.{root, carried, Safe, Movable, Moved}
-use Rattle.transport.proofs.MatrixLaws.{delta-same, delta-other, row-adds, column-adds, cell-le, adds-row, outside-refl, outside-trans, outside-sym, outside-adds}
+use Rattle.transport.proofs.MatrixLaws.{delta-same, row-adds, column-adds, cell-le, adds-row, outside-refl, outside-trans, outside-sym, outside-adds}
 use Rattle.transport.proofs.MaskedLaws.{used-adds, used-takes, user-column, user-row}
 use Rattle.transport.proofs.FlowLaws.{added-support}
 use Rattle.transport.proofs.SearchLaws.{forest-all}

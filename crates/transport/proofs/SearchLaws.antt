@@ -3,7 +3,7 @@
 use mathlib.Core.Path.{_≡_, refl, sym, ap, _∙_, subst, subst⁻¹}
 use mathlib.Core.Bool.{Bool, true, false, not, cond}
 use mathlib.Core.List.{List}
-use mathlib.Core.Logic.{_≢_, _⊎_, inl, inr, ⊎-elim}
+use mathlib.Core.Logic.{_≢_, _⊎_, ⊎-elim}
 use Prim.Native.Nat.{ℕ, zero, suc, _+_, _^_, _≤_, _<_, min}
 use native.Mathlib.Numerals.{add-one}
 use native.Mathlib.Decide.{ℕ-discrete}
@@ -16,8 +16,8 @@ use Rattle.simulation.proofs.Finite.Sums.{sum-mono, sum-strict, when-not, one-l
 use Rattle.relation.specs.Mask.{Test, member, without-member, both, except, either, Lowest}
 use Rattle.relation.proofs.Mask.{member-none, member-below}
 use Rattle.transport.specs.Answer.{relates}
-use Rattle.transport.specs.Search.{Room, Linked, Grows, Spread, Closed, Levelled, Hit, HitOf, Forest, Reaches, Stuck, SearchOf}
-use Rattle.transport.proofs.MaskedLaws.{true-or-false, neither, both-at, both-out, both-in, except-at, except-out, either-at, either-left, either-right, drop-at, drop-out, some-member, no-members}
+use Rattle.transport.specs.Search.{Room, Linked, Grows, Spread, Closed, Levelled, HitOf, Forest, SearchOf}
+use Rattle.transport.proofs.MaskedLaws.{true-or-false, neither, both-at, both-out, except-at, except-out, either-at, either-left, either-right, drop-at, drop-out, some-member, no-members}
 
 -- the rows of `new` but those left are linked
 pub record Linking (new left r j : ℕ) (from via from′ via′ : List ℕ) : Type 0 where

@@ -1,8 +1,7 @@
 -- Supplies, demands and zeros: the flow that sends nothing.
 -- Assumes nothing.
-use mathlib.Core.Path.{_≡_, refl, sym, ap, _∙_, subst}
+use mathlib.Core.Path.{_≡_, refl, sym, _∙_, subst}
 use mathlib.Core.List.{List}
-use mathlib.Core.Logic.{_≢_}
 use Prim.Native.Nat.{ℕ, _+_, _*_, _≤_, _<_, _^_}
 use native.Mathlib.Nat.{mul-le-mul-right, mul-le-mul-left}
 use native.Mathlib.Decide.{ℕ-discrete}
@@ -12,7 +11,7 @@ use lib.Seq.{getD-set-same, getD-set-other}
 use Rattle.simulation.specs.Sum.{sum}
 use Rattle.simulation.specs.Fit.{weight, total}
 use Rattle.simulation.proofs.Finite.Sums.{sum-ext, sum-zero, sum-term}
-use Rattle.transport.specs.Answer.{cell, Outside, Given}
+use Rattle.transport.specs.Answer.{cell, Given}
 use Rattle.transport.specs.Matrix.{row-sum, column-sum}
 use Rattle.transport.specs.Flow.{Flow, Preserves}
 use Rattle.transport.specs.Start.{Supplies, RowCleared, Cleared, Begun, Balanced}

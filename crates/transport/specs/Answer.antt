@@ -2,14 +2,14 @@
 -- m is a distribution with weights ws and n one with weights vs; a position of m is a row, a position of n a column.
 -- Assumes nothing.
 use mathlib.Core.Path.{_≡_}
-use mathlib.Core.Bool.{Bool, true, false}
+use mathlib.Core.Bool.{Bool, false}
 use mathlib.Core.List.{List}
 use mathlib.Core.Logic.{_≢_}
 use Prim.Native.Nat.{ℕ, _+_, _*_, _≤_, _<_}
 use lib.Dec.{T, eqb}
 use lib.ListN.{length, getD}
 use Rattle.simulation.specs.Sum.{sum}
-use Rattle.simulation.specs.Fit.{weight, total, Shares, fits?, cut}
+use Rattle.simulation.specs.Fit.{weight, total, Shares, largest-gain, fits?, cut}
 use Rattle.relation.specs.Mask.{member}
 
 -- a matrix in a list, in rows of 64
@@ -34,11 +34,12 @@ pub record Given (ws vs rel x : List ℕ) : Type 0 where
   pub total-ws : total ws < 65536
   pub total-vs : total vs < 65536
 
--- x holds a largest flow, first x₀, and the mask r 01's smallest of the sets with the largest excess, empty exactly if m fits n
+-- x, at first x₀, holds a flow that sends the most: all but the largest excess. The mask r is 01's smallest of the sets with the largest excess, empty exactly if m fits n
 pub record Answered (ws vs rel x₀ x : List ℕ) (r : ℕ) : Type 0 where
   pub support : (i j : ℕ) → i < length ws → j < length vs → cell x i j ≢ 0 → T (relates rel i j)
   pub sent : (i : ℕ) → i < length ws → sum (length vs) (λ j. cell x i j) ≤ weight ws i * total vs
   pub taken : (j : ℕ) → j < length vs → sum (length ws) (λ i. cell x i j) ≤ weight vs j * total ws
+  pub most : sum (length ws) (λ i. sum (length vs) (λ j. cell x i j)) + largest-gain (relates rel) ws vs ≡ total ws * total vs + total ws * total vs
   pub fit : fits? (relates rel) ws vs ≡ eqb r 0
   pub shares : r ≡ 0 → Shares (λ i j. T (relates rel i j)) ws vs (cell x)
   pub smallest : (i : ℕ) → i < length ws → cut (relates rel) ws vs i ≡ member r i

@@ -1,9 +1,8 @@
 -- A path of k steps back from row i, by the lists from and via: its root, what it can carry, and a move of d along it.
 -- Assumes nothing.
-use mathlib.Core.Path.{_≡_}
 use mathlib.Core.List.{List}
 use Prim.Native.Nat.{ℕ, zero, suc, _+_, _^_, _≤_, _<_, min}
-use lib.ListN.{length, getD}
+use lib.ListN.{getD}
 use Rattle.transport.specs.Answer.{cell}
 use Rattle.transport.specs.Matrix.{Adds}
 use Rattle.transport.specs.Masks.{Noted}

@@ -6,12 +6,12 @@ use relation::set;
 ghost use mathlib.Core.Path.{_≡_};
 ghost use mathlib.Core.Bool.{true};
 ghost use mathlib.Core.Logic.{_≢_};
-ghost use Prim.Native.Nat.{ℕ, _+_, _*_, _^_, _≤_, _<_, min};
+ghost use Prim.Native.Nat.{ℕ, _+_, _^_, _≤_, _<_, min};
 ghost use lib.ListN.{length, getD};
 ghost use Rattle.simulation.specs.Fit.{total};
 ghost use Rattle.relation.specs.Mask.{member};
 ghost use Rattle.transport.specs.Answer.{cell, relates, Given, Answered};
-ghost use Rattle.transport.specs.Matrix.{AddsAt, Adds};
+ghost use Rattle.transport.specs.Matrix.{Adds};
 ghost use Rattle.transport.specs.Masks.{put, MaskOf, Noted};
 ghost use Rattle.transport.specs.Flow.{missing, Flow, Improves};
 ghost use Rattle.transport.specs.Search.{Room, Linked, Spread, Closed, Levelled, HitOf, Reaches, SearchOf, Ended};
@@ -117,7 +117,7 @@ fn take(x: &mut [u32], users: &mut [u64], i: usize, j: usize, d: u32)
     users[j] = marked(old, i, v);
 }
 
-// As much as row i has left and column j can take.
+// As much as row i has left and column j can take. Only the contract reads rel, p and q.
 fn fill_cell(
     x: &mut [u32],
     a: &mut [u32],
@@ -149,7 +149,7 @@ fn rest(left: u64, more: u32) -> u64
     set::without_lowest(left)
 }
 
-// Row i sends to its free columns in turn. Returns the columns that are still free.
+// Row i sends to its free columns in turn. Returns the columns that are still free. Only the contract reads p and q.
 fn fill_row(
     x: &mut [u32],
     a: &mut [u32],
@@ -364,7 +364,7 @@ fn shift(
     place(x, users, i, j, d);
 }
 
-// As much as the path that was found can carry.
+// As much as the path that was found can carry. Only the contract reads p and q.
 fn push(
     x: &mut [u32],
     a: &mut [u32],
@@ -425,8 +425,8 @@ fn improve(
 }
 
 // The total of a distribution's weights.
-fn total_weight(w: &[u16]) -> u32
-    requires { ⌜ total (now w) < 65536 ⌝ }
+pub fn total_weight(w: &[u16]) -> u32
+    requires { ⌜ length (now w) ≤ 64 ⌝ }
     ensures { λ r. ⌜ r ≡ total (now (w .entry)) ⌝ }
 {
     let mut s = 0u32;

@@ -8,6 +8,7 @@ pub mod Choices
 pub mod Choosing
 pub mod Writing
 pub mod Measuring
+pub mod Bounds
 pub mod Again
 pub mod RecordBytes
 pub mod FlowBytes

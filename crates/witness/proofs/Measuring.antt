@@ -244,7 +244,7 @@ few-pairs {first} {second} g =
     )
 
 module _ {first second ranks : List ℕ} {r : ℕ} where
-  pub rank-start : {lens sets rel x : List ℕ} → RankGiven first second ranks r lens sets rel x → RankLoop first second ranks r lens sets rel x lens sets rel x 0
+  pub rank-start : {least lens sets rel x : List ℕ} → RankGiven first second ranks least r lens sets rel x → RankLoop first second ranks r lens sets rel x lens sets rel x 0
   rank-start g =
       record {
         given = g .given;

@@ -49,10 +49,6 @@ by-test true P f g = f refl
 by-test false P f g = g refl
 
 module _ (M N : Table) (sub : ℕ → States → Tree) (s : ℕ) where
-  own-step-is : (t : ℕ) (τ : Tree) → own-step M N sub s t τ ≡ step (chosen M N s t .code) (kids M N sub s t) τ
-  unfolding own-step
-  own-step-is t τ = refl
-
   abbrev before : ℕ → Tree → Tree
   before t τ = step (chosen M N s t .code) (kids M N sub s t) τ
 

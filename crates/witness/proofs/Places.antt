@@ -25,3 +25,17 @@ module _ (f : List ℕ) (j : ℕ) (l : Loaded f) (h : j < transitions-of f) wher
 
   pub weights-count : (ws : List ℕ) → ws ≡ weights (transition-at f j) → length ws ≡ length (transition-at f j .entries)
   weights-count ws e = omega (arith, ap length e, weights-length (transition-at f j))
+
+  -- a place
+  module _ (i : ℕ) (lt : i < length (transition-at f j .entries)) where
+    pub place-small : i < 64
+    place-small = omega (arith, few-places)
+
+    pub in-targets : (ts : List ℕ) → ts ≡ targets (transition-at f j) → i < length ts
+    in-targets ts e = omega (arith, targets-count ts e)
+
+    pub in-weights : (ws : List ℕ) → ws ≡ weights (transition-at f j) → i < length ws
+    in-weights ws e = omega (arith, weights-count ws e)
+
+    pub target-byte : (ts : List ℕ) → ts ≡ targets (transition-at f j) → getD ts i 0 < 64
+    target-byte ts e = target-small ts e i (in-targets ts e)

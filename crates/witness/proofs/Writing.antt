@@ -3,8 +3,8 @@
 use mathlib.Core.Path.{_≡_, refl, sym, ap, ap₂, _∙_, subst, fun-ext}
 use mathlib.Core.Bool.{Bool}
 use mathlib.Core.List.{List, _∷_, _++_}
-use Prim.Native.Nat.{ℕ, _+_, _-_, _^_, _≤_, _<_, zero-le, suc-le-suc}
-use native.Mathlib.Nat.{le-refl, le-trans, lt-trans, zero-lt-suc, lt-of-lt-of-le}
+use Prim.Native.Nat.{ℕ, _+_, _-_, _^_, _≤_, _<_, suc-le-suc}
+use native.Mathlib.Nat.{le-refl, le-trans, zero-lt-suc, lt-of-lt-of-le}
 use native.Mathlib.Omega.{arith}
 use lib.Dec.{T, eqb→eq}
 use lib.ListN.{length, getD, set, take, length-set, length-drop, List·getD-append}
@@ -14,10 +14,9 @@ use Rattle.simulation.specs.Round.{rank}
 use Rattle.simulation.specs.Tree.{Tree, chosen, set-of, own-node, tree, transition-bytes, node-bytes}
 use Rattle.simulation.specs.Length.{tree-length}
 use Rattle.simulation.proofs.Finite.Tests.{and-left}
-use Rattle.simulation.proofs.Trees.Choice.{chosen-target}
 use Rattle.simulation.proofs.Trees.Length.{tree-bytes}
 use Rattle.table.specs.Form.{table-of, transitions-of, transition-at}
-use Rattle.table.proofs.FormLaws.{limits, limited-at, weights-length, sound}
+use Rattle.table.proofs.FormLaws.{limits, limited-at, weights-length}
 use Rattle.relation.specs.Mask.{member, only, without-member, size, Lowest}
 use Rattle.relation.proofs.Mask.{member-none}
 use Rattle.buffer.specs.Buffer.{over, Filled}
@@ -47,7 +46,6 @@ module _ (first second : List ℕ) (fuel s : ℕ) where
     pub words : (t : ℕ) → T (member left t) → need (step-of first second fuel s t) ≤ length stack
     pub written : Written (node-bytes (node-of first second fuel s members)) buf₀ (steps-left left) buf at
     pub after : at₀ ≤ at
-    pub small : left < 2 ^ 64
     pub short : length buf₀ < 2 ^ 64
     pub same-rel : length rel ≡ length rel₀
     pub same-x : length x ≡ length x₀
@@ -75,9 +73,9 @@ module _ {first second ranks : List ℕ} {fuel s members : ℕ} {rel x stack buf
       (node-is M N s (member members) fuel (λ t h. let q = g .lost t h in lt-of-lt-of-le (q .0 .fell) (q .1)) ∙ ap (λ (k : ℕ). k ∷ steps-left first second fuel s members) (sym count))
       (start total buf (g .room)))
 
-  pub node-begins : (n : ℕ) → n ≡ size 64 (member members) → members < 2 ^ 64 → length buf < 2 ^ 64
+  pub node-begins : (n : ℕ) → n ≡ size 64 (member members) → length buf < 2 ^ 64
       → NodeLoop first second fuel s ranks members rel x stack (set buf 0 n) 1 rel x stack (set buf 0 n) 1 members
-  node-begins n e h b =
+  node-begins n e b =
       record {
         ranked = g .ranked;
         lost = g .lost;
@@ -86,7 +84,6 @@ module _ {first second ranks : List ℕ} {fuel s members : ℕ} {rel x stack buf
             le-trans (node-need (table-of first) (table-of second) s (member members) fuel t (lt-of-lt-of-le (q .0 .fell) (q .1)) (q .0 .right) m) (g .words);
         written = rebase (node-start n e);
         after = le-refl 1;
-        small = h;
         short = omega (arith, length-set buf 0 n);
         same-rel = refl;
         same-x = refl;
@@ -134,10 +131,10 @@ module _ {first second : List ℕ} {fuel s : ℕ} {ranks : List ℕ} {members : 
   node-fits r e = lent-fits (transition-bytes (step-of first second fuel s t)) others node-turn r (2 ^ 64) e (l .short)
 
   pub node-next : {r : ℕ} {rel′ x′ stack′ ys : List ℕ} {left′ : ℕ} → Filled (transition-bytes (step-of first second fuel s t)) r (part at buf) ys
-      → member left′ ≡ without-member t (member left) → left′ < left
+      → member left′ ≡ without-member t (member left)
       → length rel′ ≡ length rel → length x′ ≡ length x → length stack′ ≡ length stack
       → NodeLoop first second fuel s ranks members rel₀ x₀ stack₀ buf₀ at₀ rel′ x′ stack′ (back at buf ys) (at + r) left′
-  node-next {left′ = left′} f e lt er ex es =
+  node-next {left′ = left′} f e er ex es =
       let in-left : (u : ℕ) → T (member left′ u) → T (member left u) = λ u h. and-left (member left u) _ (subst (λ (X : ℕ → Bool). T (X u)) e h) in
       record {
         ranked = l .ranked;
@@ -147,7 +144,6 @@ module _ {first second : List ℕ} {fuel s : ℕ} {ranks : List ℕ} {members : 
         written = lend (transition-bytes (step-of first second fuel s t)) others node-turn (f .bytes) _ _ (f .count)
             (ap (λ (X : ℕ → Bool). steps-bytes (table-of first) (table-of second) s X fuel) e);
         after = omega (arith, l .after);
-        small = lt-trans lt (l .small);
         short = l .short;
         same-rel = er ∙ l .same-rel;
         same-x = ex ∙ l .same-x;
@@ -174,7 +170,6 @@ module _ (first second : List ℕ) (fuel s t : ℕ) where
     pub words : need (step-of first second fuel s t) ≤ length stack
     pub written : Written (transition-bytes (step-of first second fuel s t)) buf₀ (children-left i) buf at
     pub after : at₀ ≤ at
-    pub inside : i ≤ n
     pub short : length buf₀ < 2 ^ 64
     pub same-rel : length rel ≡ length rel₀
     pub same-x : length x ≡ length x₀
@@ -217,7 +212,6 @@ module _ {first second ranks : List ℕ} {fuel s t : ℕ} {rel x stack buf : Lis
           words = omega (arith, g .words, es);
           written = rebase step-start;
           after = le-refl 2;
-          inside = zero-le;
           short = h;
           same-rel = refl;
           same-x = refl;
@@ -303,7 +297,6 @@ module _ {first second : List ℕ} {fuel s t : ℕ} {ranks : List ℕ} {j n : �
     child-given =
         record {
           ranked = l .ranked;
-          state = subst (λ (v : ℕ). v < states-of M) (sym target-is) (distribution-of-choice);
           lost = λ t′ h.
               let q = below-lost first second (l .ranked .first-loaded) (l .ranked .second-loaded) s t (l .lost) i t′ place (subst (λ (X : ℕ → Bool). T (X t′)) set-is h) in
               subst (λ (v : ℕ). Lost first second v t′ × (rank M N v t′ ≤ fuel - 1)) (sym target-is) (q .0, omega (arith, q .1, l .within));
@@ -312,9 +305,6 @@ module _ {first second : List ℕ} {fuel s t : ℕ} {ranks : List ℕ} {j n : �
           room = lent-room (node-bytes-of u (getD stack i 0)) (children-left first second fuel s t (i + 1)) entry-done;
         }
       where
-        distribution-of-choice : target-at m i < states-of M
-        distribution-of-choice = chosen-target M N (sound first (l .ranked .first-loaded)) s t (l .lost .left) (l .lost .right) (l .lost .fell) i (omega (arith, weights-length m, place))
-
         child-words : need (own-node M N (fuel - 1) u (member (getD stack i 0))) ≤ length (part n stack)
         child-words =
             let e : need (own-node M N (fuel - 1) u (member (getD stack i 0))) ≡ need (own-node M N (fuel - 1) (target-at m i) (set-of M N s t i)) =
@@ -339,7 +329,6 @@ module _ {first second : List ℕ} {fuel s t : ℕ} {ranks : List ℕ} {j n : �
           words = omega (arith, l .words, es);
           written = lend (node-bytes-of u (getD stack i 0)) (children-left first second fuel s t (i + 1)) entry-done (f .bytes) _ _ (f .count) refl;
           after = omega (arith, l .after);
-          inside = omega arith;
           short = l .short;
           same-rel = er ∙ l .same-rel;
           same-x = ex ∙ l .same-x;
@@ -362,7 +351,6 @@ module _ {first second ranks : List ℕ} {s t : ℕ} {rel x stack buf : List ℕ
   root-given =
       record {
         ranked = g .ranked;
-        state = g .lost .left;
         lost = λ u h.
             subst (λ (v : ℕ). Lost first second s v × (rank (table-of first) (table-of second) s v ≤ r)) (sym (eqb→eq u t (subst (λ (X : ℕ → Bool). T (X u)) em h)))
             (g .lost, omega (arith, er));

@@ -39,6 +39,27 @@ pub record Next (ranks : List ℕ) (r p end q : ℕ) : Type 0 where
   pub none : (k : ℕ) → p ≤ k → k < q → getD ranks k 0 ≡ r → ⊥
   pub here : q < end → getD ranks q 0 ≡ r
 
+-- places of row s, none of which has the rank r where the row's bound is above r
+pub record InRow (ranks least : List ℕ) (r s p end : ℕ) : Type 0 where
+  pub inside : p ≤ end
+  pub small : end ≤ 4096
+  pub enough : end ≤ length ranks
+  pub row : s < length least
+  pub passed : r < getD least s 0 → (k : ℕ) → p ≤ k → k < end → getD ranks k 0 ≡ r → ⊥
+
+-- b is above no rank from r on, from one place to another
+pub record Above (ranks : List ℕ) (r from to b : ℕ) : Type 0 where
+  pub low : (k : ℕ) → from ≤ k → k < to → r ≤ getD ranks k 0 → b ≤ getD ranks k 0
+
+-- for each row a bound of its ranks from r on
+pub record Bounded (ranks : List ℕ) (width rows r : ℕ) (least : List ℕ) : Type 0 where
+  pub some : 0 < width
+  pub few : rows ≤ 64
+  pub small : rows * width ≤ 4096
+  pub enough : rows * width ≤ length ranks
+  pub room : rows ≤ length least
+  pub above : (s : ℕ) → s < rows → Above ranks r (s * width) ((s + 1) * width) (getD least s 0)
+
 -- the length of a pair of a rank up to r; 0 for any other
 unfoldable pub measured : Table → Table → (r s t : ℕ) → ℕ
 unfolding rank pair-length
@@ -55,9 +76,10 @@ pub record MeasureGiven (first second ranks lens sets rel x : List ℕ) : Type 0
   pub words : 64 ≤ length sets
   pub lent : Lent rel x
 
--- the lengths of the ranks below r are there
-pub record RankGiven (first second ranks : List ℕ) (r : ℕ) (lens sets rel x : List ℕ) : Type 0 where
+-- the lengths of the ranks below r are there, and a bound for each row
+pub record RankGiven (first second ranks least : List ℕ) (r : ℕ) (lens sets rel x : List ℕ) : Type 0 where
   pub given : MeasureGiven first second ranks lens sets rel x
+  pub bounded : Bounded ranks (states-of (table-of second)) (states-of (table-of first)) r least
   pub later : 0 < r
   pub below : Measured first second (r - 1) lens
 

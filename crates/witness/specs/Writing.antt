@@ -2,10 +2,10 @@
 -- Assumes nothing.
 use mathlib.Core.Path.{_≡_}
 use mathlib.Core.List.{List, [], _∷_}
-use Prim.Native.Nat.{ℕ, _+_, _-_, _/_, _%_, _≤_, _<_, max}
+use Prim.Native.Nat.{ℕ, _+_, _-_, _/_, _%_, _≤_, max}
 use lib.Dec.{T}
 use lib.ListN.{length}
-use Rattle.simulation.specs.Table.{Transition, states-of}
+use Rattle.simulation.specs.Table.{Transition}
 use Rattle.simulation.specs.Round.{rank}
 use Rattle.simulation.specs.Tree.{Tree, Children, leaf, step, none, child, child-weights, chosen, own-step, own-node, transition-bytes, node-bytes}
 use Rattle.simulation.specs.Length.{tree-length}
@@ -60,7 +60,6 @@ pub record Begun (first second : List ℕ) (s t j : ℕ) (stack old new : List �
 -- what the writing of a node rests on
 pub record NodeGiven (first second ranks : List ℕ) (fuel s members : ℕ) (rel x stack buf : List ℕ) : Type 0 where
   pub ranked : Ranked first second ranks
-  pub state : s < states-of (table-of first)
   pub lost : (t : ℕ) → T (member members t) → Lost first second s t × (rank (table-of first) (table-of second) s t ≤ fuel)
   pub lent : Lent rel x
   pub words : need (node-of first second fuel s members) ≤ length stack

@@ -110,7 +110,7 @@ fn cut(
     transport::transport(ws, vs, rel, x)
 }
 
-// Whether the transition j fits the transition k, which has the same code, in the round before round r.
+// Whether the transition j has the code of the transition k and fits it, in the round before round r.
 fn fits(
     first: &[u16],
     second: &[u16],

@@ -11,11 +11,6 @@ use Rattle.ranking.specs.Rows.{holds, Grown}
 use Rattle.ranking.proofs.Growing.{union-left, union-right, grown-none, grown-more, grown-set, set-here, walk-start, walk-next, walk-end}
 use Rattle.ranking.proofs.add_doubts.Statement.{statement}
 use Rattle.ranking.proofs.add_doubts.Tie as tie
-use Rattle.ranking.proofs.add_doubts.Reads as reads
-use Rattle.ranking.proofs.add_doubts.Lts as lts
-use Rattle.relation.proofs.set.lowest.Reads as lowest-reads
-use Rattle.relation.proofs.set.union.Reads as union-reads
-use Rattle.relation.proofs.set.without_lowest.Reads as without-lowest-reads
 
 abbrev Inv-loop : tie.InvT-loop
 Inv-loop set more doubt₀ left₀ doubt left =

@@ -1,6 +1,6 @@
 -- `ranking::answers` meets its contract. The loop's invariant: none of the transitions passed fits.
 -- Assumes nothing.
-use mathlib.Core.Path.{_≡_, refl, sym, ap, _∙_}
+use mathlib.Core.Path.{_≡_, refl}
 use mathlib.Core.Bool.{false}
 use Prim.Native.Nat.{ℕ, _+_, _-_, _≤_, _<_}
 use native.Mathlib.Omega.{arith}
@@ -13,10 +13,6 @@ use Rattle.ranking.specs.Rows.{relation-of}
 use Rattle.ranking.proofs.Matching.{upto-next, lent-again, one-passes, none-passes}
 use Rattle.ranking.proofs.answers.Statement.{statement}
 use Rattle.ranking.proofs.answers.Tie as tie
-use Rattle.ranking.proofs.answers.Reads as reads
-use Rattle.ranking.proofs.answers.Lts as lts
-use Rattle.table.proofs.form.first.Reads as first-reads
-use Rattle.ranking.proofs.fits_step.Reads as fits-step-reads
 
 abbrev Inv-loop : tie.InvT-loop
 Inv-loop first j second t rows rel₀ x₀ end l₀ rel x l =

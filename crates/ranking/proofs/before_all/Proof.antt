@@ -11,11 +11,6 @@ use Rattle.ranking.specs.Rows.{holds}
 use Rattle.ranking.proofs.Growing.{union-left, union-right, walk-start, walk-next, walk-end}
 use Rattle.ranking.proofs.before_all.Statement.{statement}
 use Rattle.ranking.proofs.before_all.Tie as tie
-use Rattle.ranking.proofs.before_all.Reads as reads
-use Rattle.ranking.proofs.before_all.Lts as lts
-use Rattle.relation.proofs.set.lowest.Reads as lowest-reads
-use Rattle.relation.proofs.set.union.Reads as union-reads
-use Rattle.relation.proofs.set.without_lowest.Reads as without-lowest-reads
 
 abbrev Inv-loop : tie.InvT-loop
 Inv-loop set before left₀ r₀ left r = (u : ℕ) → member set u ≡ true → member left u ≡ false → (t : ℕ) → holds before u t ≡ true → member r t ≡ true

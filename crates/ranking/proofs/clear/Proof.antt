@@ -1,16 +1,13 @@
 -- `ranking::clear` meets its contract. The loop's invariant: the places passed are zero.
 -- Assumes nothing.
 use mathlib.Core.Path.{_≡_, refl, _∙_}
-use Prim.Native.Nat.{ℕ, _-_, _≤_}
+use Prim.Native.Nat.{_-_, _≤_}
 use native.Mathlib.Omega.{arith}
-use borrow.Author.Needs.{needs}
 use lib.ListN.{length, length-set}
 use Rattle.ranking.specs.Rows.{Cleared}
 use Rattle.ranking.proofs.Settling.{cleared-none, cleared-next, cleared-all}
 use Rattle.ranking.proofs.clear.Statement.{statement}
 use Rattle.ranking.proofs.clear.Tie as tie
-use Rattle.ranking.proofs.clear.Reads as reads
-use Rattle.ranking.proofs.clear.Lts as lts
 
 abbrev Inv-loop : tie.InvT-loop
 Inv-loop ranks₀ n i₀ ranks i = (i ≤ n) × (length ranks ≡ length ranks₀) × Cleared i ranks₀ ranks

@@ -1,6 +1,6 @@
 -- `ranking::doubt_row` meets its contract.
 -- Assumes nothing.
-use mathlib.Core.Path.{_≡_, sym, ap, _∙_}
+use mathlib.Core.Path.{sym, ap, _∙_}
 use mathlib.Core.Bool.{true≢false}
 use Prim.Native.Nat.{ℕ}
 use Rattle.relation.specs.Mask.{member}
@@ -9,10 +9,6 @@ use Rattle.ranking.proofs.Growing.{grown-none}
 use borrow.Author.Needs.{needs}
 use Rattle.ranking.proofs.doubt_row.Statement.{statement}
 use Rattle.ranking.proofs.doubt_row.Tie as tie
-use Rattle.ranking.proofs.doubt_row.Reads as reads
-use Rattle.ranking.proofs.doubt_row.Lts as lts
-use Rattle.ranking.proofs.add_doubts.Reads as add-doubts-reads
-use Rattle.ranking.proofs.before_all.Reads as before-all-reads
 
 returns : tie.Need-returns
 returns c = (grown-none, λ s u t a b h. absurd (true≢false (sym b ∙ ap (λ (n : ℕ). member n u) (c .if1 .taken) ∙ member-none u)))

@@ -1,19 +1,14 @@
 -- `ranking::doubts` meets its contract. The loop's invariant: the rows passed have raised their doubts.
 -- Assumes nothing.
 use mathlib.Core.Path.{_≡_, refl, _∙_}
-use mathlib.Core.Bool.{true}
-use Prim.Native.Nat.{ℕ, _-_, _≤_}
+use Prim.Native.Nat.{_-_, _≤_}
 use native.Mathlib.Omega.{arith}
 use borrow.Author.Needs.{needs}
 use lib.ListN.{length}
-use Rattle.ranking.specs.Rows.{holds, Doubted}
+use Rattle.ranking.specs.Rows.{Doubted}
 use Rattle.ranking.proofs.Growing.{doubted-none, doubted-next, doubted-all}
 use Rattle.ranking.proofs.doubts.Statement.{statement}
 use Rattle.ranking.proofs.doubts.Tie as tie
-use Rattle.ranking.proofs.doubts.Reads as reads
-use Rattle.ranking.proofs.doubts.Lts as lts
-use Rattle.ranking.proofs.doubt_row.Reads as doubt-row-reads
-use Rattle.ranking.proofs.no_doubts.Reads as no-doubts-reads
 
 abbrev Inv-loop : tie.InvT-loop
 Inv-loop lost p before behind doubt₀ a₀ doubt a = (a ≤ p) × (length doubt ≡ length doubt₀) × Doubted a lost before behind doubt

@@ -1,6 +1,6 @@
 -- `ranking::drop_row` meets its contract. The loop's invariant: of the members passed, those that fall are gathered.
 -- Assumes nothing.
-use mathlib.Core.Path.{_≡_, refl, sym, ap, _∙_, subst}
+use mathlib.Core.Path.{_≡_, refl, sym, subst}
 use mathlib.Core.Bool.{true}
 use Prim.Native.Nat.{ℕ}
 use native.Mathlib.Omega.{arith}
@@ -16,12 +16,6 @@ use Rattle.ranking.proofs.Walks.{left-member}
 use Rattle.ranking.proofs.Dropping.{Dropped, drop-start, drop-next, drop-end, falls-here, both-first}
 use Rattle.ranking.proofs.drop_row.Statement.{statement}
 use Rattle.ranking.proofs.drop_row.Tie as tie
-use Rattle.ranking.proofs.drop_row.Reads as reads
-use Rattle.ranking.proofs.drop_row.Lts as lts
-use Rattle.ranking.proofs.judge.Reads as judge-reads
-use Rattle.relation.proofs.set.intersection.Reads as intersection-reads
-use Rattle.relation.proofs.set.lowest.Reads as lowest-reads
-use Rattle.relation.proofs.set.without_lowest.Reads as without-lowest-reads
 
 abbrev Inv-loop : tie.InvT-loop
 Inv-loop first s second rows doubt rel₀ x₀ left₀ fallen₀ rel x left fallen =

@@ -1,6 +1,6 @@
 -- `ranking::drop_rows` meets its contract. The loop's invariant: the rows passed hold the pairs that fall.
 -- Assumes nothing.
-use mathlib.Core.Path.{_≡_, refl, ap, _∙_}
+use mathlib.Core.Path.{_≡_, refl, _∙_}
 use Prim.Native.Nat.{ℕ, _-_, _≤_, _<_}
 use native.Mathlib.Omega.{arith}
 use borrow.Author.Needs.{needs}
@@ -13,10 +13,6 @@ use Rattle.ranking.proofs.Matching.{lent-again}
 use Rattle.ranking.proofs.Settling.{rows-next}
 use Rattle.ranking.proofs.drop_rows.Statement.{statement}
 use Rattle.ranking.proofs.drop_rows.Tie as tie
-use Rattle.ranking.proofs.drop_rows.Reads as reads
-use Rattle.ranking.proofs.drop_rows.Lts as lts
-use Rattle.table.proofs.form.states.Reads as states-reads
-use Rattle.ranking.proofs.drop_row.Reads as drop-row-reads
 
 abbrev Inv-loop : tie.InvT-loop
 Inv-loop first second rows doubt lost₀ rel₀ x₀ p s₀ lost rel x s =

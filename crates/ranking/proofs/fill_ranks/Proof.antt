@@ -1,6 +1,6 @@
 -- `ranking::fill_ranks` meets its contract.
 -- Assumes nothing.
-use mathlib.Core.Path.{_≡_, refl, ap₂, _∙_}
+use mathlib.Core.Path.{refl, ap₂}
 use Prim.Native.Nat.{_*_}
 use native.Mathlib.Omega.{arith}
 use Rattle.table.specs.Form.{table-of}
@@ -11,13 +11,6 @@ use Rattle.ranking.proofs.Ends.{begun, refined-over}
 use borrow.Author.Needs.{needs}
 use Rattle.ranking.proofs.fill_ranks.Statement.{statement}
 use Rattle.ranking.proofs.fill_ranks.Tie as tie
-use Rattle.ranking.proofs.fill_ranks.Reads as reads
-use Rattle.ranking.proofs.fill_ranks.Lts as lts
-use Rattle.table.proofs.form.states.Reads as states-reads
-use Rattle.ranking.proofs.clear.Reads as clear-reads
-use Rattle.ranking.proofs.link.Reads as link-reads
-use Rattle.ranking.proofs.narrow.Reads as narrow-reads
-use Rattle.ranking.proofs.refine.Reads as refine-reads
 
 states-requires : tie.Need-states-requires
 states-requires c κs = search needs

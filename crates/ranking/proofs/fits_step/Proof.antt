@@ -1,22 +1,15 @@
 -- `ranking::fits_step` meets its contract: the codes are compared, then a flow over the gathered rows decides.
 -- Assumes nothing.
-use mathlib.Core.Path.{_≡_, refl, sym, ap, _∙_, subst}
+use mathlib.Core.Path.{sym, ap, _∙_, subst}
 use native.Mathlib.Omega.{arith}
 use lib.ListN.{length}
 use Rattle.simulation.specs.Fit.{total}
 use Rattle.table.proofs.FormLaws.{limited-at}
-use Rattle.ranking.specs.Rows.{Places}
-use Rattle.ranking.proofs.Matching.{places-of, other-code, by-flow}
+use Rattle.ranking.specs.Rows.{Ascending, Places}
+use Rattle.ranking.proofs.Matching.{targets-ascend, places-of, other-code, by-flow}
 use borrow.Author.Needs.{needs}
 use Rattle.ranking.proofs.fits_step.Statement.{statement}
 use Rattle.ranking.proofs.fits_step.Tie as tie
-use Rattle.ranking.proofs.fits_step.Reads as reads
-use Rattle.ranking.proofs.fits_step.Lts as lts
-use Rattle.table.proofs.form.code.Reads as code-reads
-use Rattle.table.proofs.form.targets.Reads as targets-reads
-use Rattle.table.proofs.form.weights.Reads as weights-reads
-use Rattle.ranking.proofs.gather.Reads as gather-reads
-use Rattle.transport.proofs.transport.Reads as transport-reads
 
 code-requires : tie.Need-code-requires
 code-requires c κs = search needs
@@ -43,6 +36,7 @@ gather-requires c κs =
     let p = places-of (length (d .args .rows .now)) (d .args .first .now) (d .pre .0 .first) (d .args .j) (d .pre .1) (d .pre .0 .rows-room) in (
       subst (Places (length (d .args .rows .now))) (sym (t .targets .ensures)) p,
       subst (Places 64) (sym (c .before .targets2 .ensures)) (places-of 64 (d .args .second .now) (d .pre .0 .second) (d .args .l) (d .pre .2) (omega arith)),
+      subst Ascending (sym (c .before .targets2 .ensures)) (targets-ascend (d .args .second .now) (d .pre .0 .second) (d .args .l) (d .pre .2)),
       omega (arith, ap length (t .targets .ensures), p .few, d .pre .0 .rel-room),
     )
 

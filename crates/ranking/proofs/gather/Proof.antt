@@ -1,7 +1,7 @@
 -- `ranking::gather` meets its contract. The loop's invariant: the rows passed are gathered.
 -- Assumes nothing.
-use mathlib.Core.Path.{_≡_, refl, sym, ap, _∙_}
-use Prim.Native.Nat.{ℕ, _-_, _≤_, _<_}
+use mathlib.Core.Path.{_≡_, refl, ap, _∙_}
+use Prim.Native.Nat.{ℕ, _-_, _≤_}
 use native.Mathlib.Omega.{arith}
 use borrow.Author.Needs.{needs}
 use lib.ListN.{length, getD, length-set}
@@ -10,10 +10,6 @@ use Rattle.ranking.specs.Rows.{row-at, Gathered}
 use Rattle.ranking.proofs.Gathering.{gather-next}
 use Rattle.ranking.proofs.gather.Statement.{statement}
 use Rattle.ranking.proofs.gather.Tie as tie
-use Rattle.ranking.proofs.gather.Reads as reads
-use Rattle.ranking.proofs.gather.Lts as lts
-use Rattle.ranking.proofs.gather_row.Reads as gather-row-reads
-use Rattle.ranking.proofs.wide.Reads as wide-reads
 
 abbrev Inv-loop : tie.InvT-loop
 Inv-loop from to rows rel₀ i₀ rel i = (i ≤ length from) × (length rel ≡ length rel₀) × Gathered rows from to i rel
@@ -52,7 +48,7 @@ mul-rel c = omega arith
 slice-write-rel : tie.Need-slice-write-rel Inv-loop μ-loop
 slice-write-rel c =
     let l = c .before .before .before .before .before in
-    omega (arith, l .loop .inv .1, l .before .before .before .before .before .pre .2)
+    omega (arith, l .loop .inv .1, l .before .before .before .before .before .pre .3)
 
 add-i : tie.Need-add-i Inv-loop μ-loop
 add-i c = omega arith

@@ -1,80 +1,71 @@
--- `ranking::gather_row` meets its contract. The loop's invariant: the places passed are gathered.
+-- `ranking::gather_row` meets its contract: of targets that are all states in order the row itself is the answer.
 -- Assumes nothing.
-use mathlib.Core.Path.{_≡_, refl, sym, ap, _∙_}
-use mathlib.Core.Logic.{⊎-elim}
-use Prim.Native.Nat.{ℕ, _-_, _≤_}
+use mathlib.Core.Path.{refl, sym, ap, _∙_}
+use Prim.Native.Nat.{ℕ, _-_}
 use native.Mathlib.Omega.{arith}
-use borrow.Author.Needs.{needs}
-use lib.ListN.{length, getD}
-use Rattle.relation.specs.Mask.{member, part}
+use lib.ListN.{length}
+use Rattle.relation.specs.Mask.{member, part, both}
+use Rattle.relation.proofs.Mask.{part-start}
 use Rattle.ranking.specs.Rows.{row-at}
-use Rattle.relation.proofs.Mask.{part-start, part-skip, part-take}
+use Rattle.ranking.proofs.Gathering.{dense-row}
+use borrow.Author.Needs.{needs}
 use Rattle.ranking.proofs.gather_row.Statement.{statement}
 use Rattle.ranking.proofs.gather_row.Tie as tie
-use Rattle.ranking.proofs.gather_row.Reads as reads
-use Rattle.ranking.proofs.gather_row.Lts as lts
-use Rattle.ranking.proofs.wide.Reads as wide-reads
-use Rattle.relation.proofs.set.insert.Reads as insert-reads
-use Rattle.relation.proofs.set.test.Reads as test-reads
 
-abbrev Inv-loop : tie.InvT-loop
-Inv-loop row to r₀ j₀ r j = (j ≤ length to) × (member r ≡ part j (row-at row to))
+returns : tie.Need-returns
+returns c =
+    let a = c .before .before .args in
+    part-start (row-at (a .row) (a .to .now)) ∙ ap (λ (n : ℕ). part n (row-at (a .row) (a .to .now))) (sym (c .if1 .taken))
 
-abbrev μ-loop : tie.MeasureT-loop
-μ-loop row to r₀ j₀ r j = length to - j
+sub-wide : tie.Need-sub-wide
+sub-wide c = search needs
 
-loop-holds : tie.Need-loop-holds Inv-loop μ-loop
-loop-holds c = (omega arith, part-start _)
+mul-wide : tie.Need-mul-wide
+mul-wide c = search needs
 
-mul-wide : tie.Need-mul-wide Inv-loop μ-loop
-mul-wide c = omega arith
+shared-slice-read-wide : tie.Need-shared-slice-read-wide
+shared-slice-read-wide c = search needs
 
-shared-slice-read-wide : tie.Need-shared-slice-read-wide Inv-loop μ-loop
-shared-slice-read-wide c = omega arith
-
-wide-requires : tie.Need-wide-requires Inv-loop μ-loop
+wide-requires : tie.Need-wide-requires
 wide-requires c κs = search needs
 
-test-requires : tie.Need-test-requires Inv-loop μ-loop
-test-requires c κs = rw (← c .wide .ensures) at (c .before .before .before .before .before .pre .below (c .before .before .before .loop .j) (omega arith))
+add-if2 : tie.Need-add-if2
+add-if2 c =
+    let d = c .before .before .before .before in
+    omega (arith, c .wide .ensures, d .pre .0 .below (length (d .args .to .now) - 1) (omega arith))
 
-insert-requires : tie.Need-insert-requires Inv-loop μ-loop
-insert-requires c κs = omega (arith, c .before .before .before .before .before .before .before .pre .few)
+below-requires : tie.Need-below-requires
+below-requires c κs = search needs
 
-add-j : tie.Need-add-j Inv-loop μ-loop
-add-j c = omega arith
+intersection-requires : tie.Need-intersection-requires
+intersection-requires c κs = search needs
 
-loop-less : tie.Need-loop-less Inv-loop μ-loop
-loop-less c = omega arith
+returns-2 : tie.Need-returns-2
+returns-2 c =
+    let d = c .before .before .before .before .before .before .before in
+    let a = d .args in
+    c .intersection .ensures
+    ∙ ap (both (member (a .row))) (c .before .below .ensures)
+    ∙ dense-row (a .to .now) (d .pre .1) (a .row) refl (omega arith) (omega (arith, c .before .before .before .wide .ensures))
 
-loop-again : tie.Need-loop-again Inv-loop μ-loop
-loop-again c =
-    let l = c .before .before .before .before .before in
-    let a = l .before .before .args in
-    let X = row-at (a .row) (a .to .now) in
-    let e : X (l .loop .j) ≡ c .before .test .result =
-    ap (member (a .row)) (sym (c .before .before .wide .ensures)) ∙ sym (c .before .test .ensures) in
-    (omega arith, ⊎-elim (λ w. ap member (w .2) ∙ part-take X (l .loop .j) (l .loop .r) (w .1 .result) (l .loop .inv .1) (e ∙ w .0 .taken) (w .1 .ensures)) (λ w. ap member (w .1) ∙ part-skip X (l .loop .j) (l .loop .r) (l .loop .inv .1) (e ∙ w .0 .left)) (c .if1 .came))
+sparse-row-requires : tie.Need-sparse-row-requires
+sparse-row-requires c κs = search needs
 
-returns : tie.Need-returns Inv-loop μ-loop
-returns c =
-    let l = c .before in
-    let a = l .before .before .args in
-    l .loop .inv .1 ∙ ap (λ (n : ℕ). part n (row-at (a .row) (a .to .now))) (omega arith)
+returns-3 : tie.Need-returns-3
+returns-3 c = search needs
 
 pub gather-row-spec : {M : Type 1} → statement M
 gather-row-spec =
     tie.close
     (tie.spec
-    Inv-loop
-    μ-loop
-    loop-holds
+    returns
+    sub-wide
     mul-wide
     shared-slice-read-wide
     wide-requires
-    test-requires
-    insert-requires
-    add-j
-    loop-less
-    loop-again
-    returns)
+    add-if2
+    below-requires
+    intersection-requires
+    returns-2
+    sparse-row-requires
+    returns-3)

@@ -1,16 +1,12 @@
 -- `ranking::judge` meets its contract.
 -- Assumes nothing.
-use mathlib.Core.Path.{_≡_, refl, sym, ap, _∙_}
+use mathlib.Core.Path.{refl, sym, _∙_}
 use mathlib.Core.Bool.{true≢false}
 use native.Mathlib.Omega.{arith}
 use Rattle.table.proofs.FormLaws.{limits}
 use borrow.Author.Needs.{needs}
 use Rattle.ranking.proofs.judge.Statement.{statement}
 use Rattle.ranking.proofs.judge.Tie as tie
-use Rattle.ranking.proofs.judge.Reads as reads
-use Rattle.ranking.proofs.judge.Lts as lts
-use Rattle.ranking.proofs.matches.Reads as matches-reads
-use Rattle.relation.proofs.set.insert.Reads as insert-reads
 
 matches-requires : tie.Need-matches-requires
 matches-requires c κs = search needs

@@ -5,15 +5,10 @@ use Prim.Native.Nat.{ℕ, _-_, _≤_, _<_}
 use native.Mathlib.Omega.{arith}
 use borrow.Author.Needs.{needs}
 use lib.ListN.{length}
-use Rattle.table.proofs.FormLaws.{limits}
 use Rattle.ranking.specs.Rows.{Links}
 use Rattle.ranking.proofs.Growing.{each-next}
 use Rattle.ranking.proofs.link.Statement.{statement}
 use Rattle.ranking.proofs.link.Tie as tie
-use Rattle.ranking.proofs.link.Reads as reads
-use Rattle.ranking.proofs.link.Lts as lts
-use Rattle.table.proofs.form.states.Reads as states-reads
-use Rattle.ranking.proofs.link_state.Reads as link-state-reads
 
 abbrev Inv-loop : tie.InvT-loop
 Inv-loop f before₀ n s₀ before s = (s ≤ n) × (length before ≡ length before₀) × ((r : ℕ) → r < s → Links f r before)

@@ -14,11 +14,6 @@ use Rattle.ranking.proofs.Matching.{places-of}
 use Rattle.ranking.proofs.Growing.{grown-none, grown-more, links-next}
 use Rattle.ranking.proofs.link_state.Statement.{statement}
 use Rattle.ranking.proofs.link_state.Tie as tie
-use Rattle.ranking.proofs.link_state.Reads as reads
-use Rattle.ranking.proofs.link_state.Lts as lts
-use Rattle.table.proofs.form.first.Reads as first-reads
-use Rattle.table.proofs.form.targets.Reads as targets-reads
-use Rattle.ranking.proofs.link_targets.Reads as link-targets-reads
 
 abbrev Inv-loop : tie.InvT-loop
 Inv-loop f s before₀ end j₀ before j =

@@ -10,10 +10,6 @@ use Rattle.ranking.specs.Rows.{holds, Grown}
 use Rattle.ranking.proofs.Growing.{with-old, with-new, grown-none, grown-more, grown-set, set-here, each-next}
 use Rattle.ranking.proofs.link_targets.Statement.{statement}
 use Rattle.ranking.proofs.link_targets.Tie as tie
-use Rattle.ranking.proofs.link_targets.Reads as reads
-use Rattle.ranking.proofs.link_targets.Lts as lts
-use Rattle.ranking.proofs.wide.Reads as wide-reads
-use Rattle.relation.proofs.set.insert.Reads as insert-reads
 
 abbrev Inv-loop : tie.InvT-loop
 Inv-loop to s before₀ i₀ before i =

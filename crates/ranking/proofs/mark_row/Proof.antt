@@ -1,6 +1,6 @@
 -- `ranking::mark_row` meets its contract. The loop's invariant: the members passed have their rank.
 -- Assumes nothing.
-use mathlib.Core.Path.{_≡_, refl, sym, ap, _∙_}
+use mathlib.Core.Path.{_≡_, refl, _∙_}
 use mathlib.Core.Bool.{true}
 use Prim.Native.Nat.{ℕ, _+_, _<_}
 use native.Mathlib.Omega.{arith}
@@ -11,10 +11,6 @@ use Rattle.ranking.specs.Rows.{marked}
 use Rattle.ranking.proofs.Walks.{mark-start, mark-next, mark-end, left-member}
 use Rattle.ranking.proofs.mark_row.Statement.{statement}
 use Rattle.ranking.proofs.mark_row.Tie as tie
-use Rattle.ranking.proofs.mark_row.Reads as reads
-use Rattle.ranking.proofs.mark_row.Lts as lts
-use Rattle.relation.proofs.set.lowest.Reads as lowest-reads
-use Rattle.relation.proofs.set.without_lowest.Reads as without-lowest-reads
 
 abbrev Inv-loop : tie.InvT-loop
 Inv-loop ranks₀ set base k left₀ ranks left =

@@ -1,22 +1,17 @@
 -- `ranking::matches` meets its contract. The loop's invariant: each of the transitions passed has its answer.
 -- Assumes nothing.
-use mathlib.Core.Path.{_≡_, refl, sym, ap, _∙_}
+use mathlib.Core.Path.{_≡_, refl}
 use mathlib.Core.Bool.{true}
 use Prim.Native.Nat.{ℕ, _+_, _-_, _≤_, _<_}
 use native.Mathlib.Omega.{arith}
 use borrow.Author.Needs.{needs}
 use borrow.Author.Tests.{not-true, not-false}
 use lib.ListN.{length}
-use Rattle.table.specs.Form.{transition-at}
 use Rattle.table.proofs.FormLaws.{limits, counts, start-bound}
 use Rattle.ranking.specs.Rows.{relation-of, answered}
 use Rattle.ranking.proofs.Matching.{upto-next, lent-again, one-fails, all-pass}
 use Rattle.ranking.proofs.matches.Statement.{statement}
 use Rattle.ranking.proofs.matches.Tie as tie
-use Rattle.ranking.proofs.matches.Reads as reads
-use Rattle.ranking.proofs.matches.Lts as lts
-use Rattle.table.proofs.form.first.Reads as first-reads
-use Rattle.ranking.proofs.answers.Reads as answers-reads
 
 abbrev Inv-loop : tie.InvT-loop
 Inv-loop first s second t rows rel₀ x₀ end j₀ rel x j =

@@ -1,6 +1,6 @@
 -- `ranking::narrow` meets its contract. The loop's invariant: the rows passed are cut, the others as they were.
 -- Assumes nothing.
-use mathlib.Core.Path.{_≡_, refl, sym, ap, _∙_}
+use mathlib.Core.Path.{_≡_, refl, ap, _∙_}
 use Prim.Native.Nat.{ℕ, _-_, _≤_, _<_}
 use native.Mathlib.Omega.{arith}
 use borrow.Author.Needs.{needs}
@@ -10,10 +10,6 @@ use Rattle.ranking.specs.Rows.{holds}
 use Rattle.ranking.proofs.Settling.{rows-next, rows-left}
 use Rattle.ranking.proofs.narrow.Statement.{statement}
 use Rattle.ranking.proofs.narrow.Tie as tie
-use Rattle.ranking.proofs.narrow.Reads as reads
-use Rattle.ranking.proofs.narrow.Lts as lts
-use Rattle.relation.proofs.set.below.Reads as below-reads
-use Rattle.relation.proofs.set.intersection.Reads as intersection-reads
 
 abbrev Inv-loop : tie.InvT-loop
 Inv-loop rows₀ p q columns s₀ rows s =

@@ -6,11 +6,6 @@ use Rattle.ranking.proofs.Turning.{losing-of}
 use borrow.Author.Needs.{needs}
 use Rattle.ranking.proofs.next_lost.Statement.{statement}
 use Rattle.ranking.proofs.next_lost.Tie as tie
-use Rattle.ranking.proofs.next_lost.Reads as reads
-use Rattle.ranking.proofs.next_lost.Lts as lts
-use Rattle.table.proofs.form.states.Reads as states-reads
-use Rattle.ranking.proofs.drop_rows.Reads as drop-rows-reads
-use Rattle.ranking.proofs.some.Reads as some-reads
 
 drop-rows-requires : tie.Need-drop-rows-requires
 drop-rows-requires c κs = search needs

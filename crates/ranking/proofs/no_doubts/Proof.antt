@@ -7,8 +7,6 @@ use borrow.Author.Needs.{needs}
 use lib.ListN.{length, length-set}
 use Rattle.ranking.proofs.no_doubts.Statement.{statement}
 use Rattle.ranking.proofs.no_doubts.Tie as tie
-use Rattle.ranking.proofs.no_doubts.Reads as reads
-use Rattle.ranking.proofs.no_doubts.Lts as lts
 
 abbrev Inv-loop : tie.InvT-loop
 Inv-loop doubt₀ s₀ doubt s = (s ≤ 64) × (length doubt ≡ length doubt₀)

@@ -1,6 +1,6 @@
 -- `ranking::rank` meets its contract.
 -- Assumes nothing.
-use mathlib.Core.Path.{_≡_, refl}
+use mathlib.Core.Path.{_≡_}
 use native.Mathlib.Omega.{arith}
 use lib.ListN.{length}
 use Rattle.table.specs.Form.{table-of}
@@ -11,13 +11,6 @@ use Rattle.ranking.proofs.Ends.{all-rows, filled}
 use borrow.Author.Needs.{needs}
 use Rattle.ranking.proofs.rank.Statement.{statement}
 use Rattle.ranking.proofs.rank.Tie as tie
-use Rattle.ranking.proofs.rank.Reads as reads
-use Rattle.ranking.proofs.rank.Lts as lts
-use Rattle.table.proofs.form.states.Reads as states-reads
-use Rattle.ranking.proofs.fill_ranks.Reads as fill-ranks-reads
-use Rattle.relation.proofs.Relation.empty.Reads as empty-reads
-use Rattle.relation.proofs.Relation.full.Reads as full-reads
-use Rattle.relation.proofs.Relation.kept.Reads as kept-reads
 
 full-requires : tie.Need-full-requires
 full-requires c κs = search needs

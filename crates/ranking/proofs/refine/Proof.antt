@@ -12,10 +12,6 @@ use Rattle.ranking.proofs.Matching.{lent-all}
 use Rattle.ranking.proofs.Turning.{few-pairs, losing-when, ready, bounded, refined}
 use Rattle.ranking.proofs.refine.Statement.{statement}
 use Rattle.ranking.proofs.refine.Tie as tie
-use Rattle.ranking.proofs.refine.Reads as reads
-use Rattle.ranking.proofs.refine.Lts as lts
-use Rattle.ranking.proofs.next_lost.Reads as next-lost-reads
-use Rattle.ranking.proofs.turn.Reads as turn-reads
 
 abbrev Inv-loop : tie.InvT-loop
 Inv-loop first second ranks₀ rows₀ doubt₀ lost₀ before behind rel₀ x₀ more₀ k₀ ranks rows doubt lost rel x more k =

@@ -1,20 +1,15 @@
 -- `ranking::settle` meets its contract. The loop's invariant: the rows passed are settled.
 -- Assumes nothing.
 use mathlib.Core.Path.{_≡_, refl, _∙_}
-use mathlib.Core.Bool.{true}
-use Prim.Native.Nat.{ℕ, _-_, _*_, _+_, _≤_, _<_}
+use Prim.Native.Nat.{_-_, _*_, _≤_}
 use native.Mathlib.Nat.{mul-le-mul-right}
 use native.Mathlib.Omega.{arith}
 use borrow.Author.Needs.{needs}
-use lib.ListN.{length, getD, length-set}
+use lib.ListN.{length, length-set}
 use Rattle.ranking.specs.Rows.{Settled}
 use Rattle.ranking.proofs.Settling.{row-place, settled-none, settled-next, settled-all}
 use Rattle.ranking.proofs.settle.Statement.{statement}
 use Rattle.ranking.proofs.settle.Tie as tie
-use Rattle.ranking.proofs.settle.Reads as reads
-use Rattle.ranking.proofs.settle.Lts as lts
-use Rattle.ranking.proofs.mark_row.Reads as mark-row-reads
-use Rattle.relation.proofs.set.difference.Reads as difference-reads
 
 abbrev Inv-loop : tie.InvT-loop
 Inv-loop ranks₀ rows₀ lost p q k s₀ ranks rows s = (s ≤ p) × (length rows ≡ length rows₀) × (length ranks ≡ length ranks₀) × Settled q k lost s rows₀ rows ranks₀ ranks

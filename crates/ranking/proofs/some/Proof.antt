@@ -8,8 +8,6 @@ use Rattle.ranking.specs.Rows.{holds}
 use Rattle.ranking.proofs.Walks.{losing, keeping, none-next}
 use Rattle.ranking.proofs.some.Statement.{statement}
 use Rattle.ranking.proofs.some.Tie as tie
-use Rattle.ranking.proofs.some.Reads as reads
-use Rattle.ranking.proofs.some.Lts as lts
 
 abbrev Inv-loop : tie.InvT-loop
 Inv-loop lost p s₀ s = (s ≤ p) × ((r t : ℕ) → r < s → holds lost r t ≡ false)

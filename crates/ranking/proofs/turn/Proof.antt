@@ -1,6 +1,6 @@
 -- `ranking::turn` meets its contract: the lost pairs are settled, they raise doubts, and the next are found.
 -- Assumes nothing.
-use mathlib.Core.Path.{_≡_, refl, ap₂}
+use mathlib.Core.Path.{refl, ap₂}
 use Prim.Native.Nat.{_*_}
 use native.Mathlib.Omega.{arith}
 use Rattle.table.proofs.FormLaws.{limits}
@@ -9,12 +9,6 @@ use Rattle.ranking.proofs.Turning.{few-pairs, sure, lost-columns, bound
 use borrow.Author.Needs.{needs}
 use Rattle.ranking.proofs.turn.Statement.{statement}
 use Rattle.ranking.proofs.turn.Tie as tie
-use Rattle.ranking.proofs.turn.Reads as reads
-use Rattle.ranking.proofs.turn.Lts as lts
-use Rattle.table.proofs.form.states.Reads as states-reads
-use Rattle.ranking.proofs.doubts.Reads as doubts-reads
-use Rattle.ranking.proofs.next_lost.Reads as next-lost-reads
-use Rattle.ranking.proofs.settle.Reads as settle-reads
 
 states-requires : tie.Need-states-requires
 states-requires c κs = search needs

@@ -30,7 +30,13 @@ same-length-3 : tie.Need-same-length-3
 same-length-3 c = search needs
 
 returns : tie.Need-returns
-returns c = record { cleared = c .before .before .clear .ensures; supplies = supplies-is (c .before .before .before .before .before .before .before .before .before .before .before .before .before .total-weight .ensures) refl (c .before .before .before .before .before .before .before .before .before .before .before .supply .ensures); demands = supplies-is (c .before .before .before .before .before .before .before .before .total-weight2 .ensures) refl (c .before .before .before .before .before .before .supply2 .ensures) }
+returns c =
+    let at-clear = c .before .before in
+    let at-supply2 = at-clear .before .before .before .before in
+    let at-total-weight2 = at-supply2 .before .before in
+    let at-supply = at-total-weight2 .before .before .before in
+    let at-total-weight = at-supply .before .before in
+    record { cleared = at-clear .clear .ensures; supplies = supplies-is (at-total-weight .total-weight .ensures) refl (at-supply .supply .ensures); demands = supplies-is (at-total-weight2 .total-weight2 .ensures) refl (at-supply2 .supply2 .ensures) }
 
 pub begin-spec : {M : Type 1} → statement M
 begin-spec =

@@ -1,6 +1,6 @@
 -- `transport::carry` meets its contract: root and least amount of what is left of the path are those of the whole. Assumes nothing.
-use mathlib.Core.Path.{_≡_, refl, sym, ap, _∙_}
-use Prim.Native.Nat.{suc, _-_}
+use mathlib.Core.Path.{_≡_, refl, sym, _∙_}
+use Prim.Native.Nat.{_-_}
 use native.Mathlib.Omega.{arith}
 use Rattle.transport.specs.Path.{root, carried, Safe}
 use Rattle.transport.proofs.PathLaws.{root-last, carried-last, safe-row, safe-column, carry-next}
@@ -26,13 +26,20 @@ mul-at : tie.Need-mul-at Inv-loop μ-loop
 mul-at c = omega (arith, safe-row _ _ _ _ (c .before .before .before .loop .inv .0))
 
 add-at : tie.Need-add-at Inv-loop μ-loop
-add-at c = omega (arith, safe-row _ _ _ _ (c .before .before .before .loop .inv .0), safe-column _ _ {k′ = c .before .before .before .loop .k - 1} _ (omega arith) (c .index .ensures) (c .before .before .before .loop .inv .0))
+add-at c =
+    let at-loop = c .before .before .before in
+    omega (arith, safe-row _ _ _ _ (at-loop .loop .inv .0), safe-column _ _ {k′ = at-loop .loop .k - 1} _ (omega arith) (c .index .ensures) (at-loop .loop .inv .0))
 
 mul-smaller : tie.Need-mul-smaller Inv-loop μ-loop
-mul-smaller c = omega (arith, safe-row _ _ _ _ (c .before .before .before .loop .inv .0), safe-column _ _ {k′ = c .before .before .before .loop .k - 1} _ (omega arith) (c .index .ensures) (c .before .before .before .loop .inv .0))
+mul-smaller c =
+    let at-loop = c .before .before .before in
+    omega (arith, safe-row _ _ _ _ (at-loop .loop .inv .0), safe-column _ _ {k′ = at-loop .loop .k - 1} _ (omega arith) (c .index .ensures) (at-loop .loop .inv .0))
 
 shared-slice-read-smaller : tie.Need-shared-slice-read-smaller Inv-loop μ-loop
-shared-slice-read-smaller c = omega (arith, safe-row _ _ _ _ (c .before .before .before .before .loop .inv .0), safe-column _ _ {k′ = c .before .before .before .before .loop .k - 1} _ (omega arith) (c .before .index .ensures) (c .before .before .before .before .loop .inv .0))
+shared-slice-read-smaller c =
+    let at-index = c .before in
+    let at-loop = at-index .before .before .before in
+    omega (arith, safe-row _ _ _ _ (at-loop .loop .inv .0), safe-column _ _ {k′ = at-loop .loop .k - 1} _ (omega arith) (at-index .index .ensures) (at-loop .loop .inv .0))
 
 smaller-requires : tie.Need-smaller-requires Inv-loop μ-loop
 smaller-requires c κs = omega arith
@@ -50,7 +57,11 @@ loop-less : tie.Need-loop-less Inv-loop μ-loop
 loop-less c = omega arith
 
 loop-again : tie.Need-loop-again Inv-loop μ-loop
-loop-again c = let v = c .before .before .before .before .before .before .before .loop .inv in let w = carry-next _ _ {k′ = c .before .before .before .before .before .before .before .loop .k - 1} _ (omega arith) (c .before .before .before .before .index .ensures) _ _ (c .index2 .ensures) (c .before .before .smaller .ensures) (v .0) in (w .0, w .1 ∙ v .1, w .2 ∙ v .2)
+loop-again c =
+    let at-smaller = c .before .before in
+    let at-index = at-smaller .before .before in
+    let at-loop = at-index .before .before .before in
+    let v = at-loop .loop .inv in let w = carry-next _ _ {k′ = at-loop .loop .k - 1} _ (omega arith) (at-index .index .ensures) _ _ (c .index2 .ensures) (at-smaller .smaller .ensures) (v .0) in (w .0, w .1 ∙ v .1, w .2 ∙ v .2)
 
 returns : tie.Need-returns Inv-loop μ-loop
 returns c = let v = c .before .loop .inv in (sym (root-last _ _ (omega arith) _) ∙ v .1, sym (carried-last _ _ (omega arith) _ _ _) ∙ v .2)

@@ -1,5 +1,4 @@
 -- `transport::fill` meets its contract: the flow and the mask of the free columns go on row by row. Assumes nothing.
-use mathlib.Core.Path.{_≡_}
 use Prim.Native.Nat.{_≤_, _-_}
 use native.Mathlib.Omega.{arith}
 use lib.ListN.{getD}
@@ -19,10 +18,15 @@ positive-requires : tie.Need-positive-requires Inv-loop μ-loop
 positive-requires c κs = let z = c .before .before .before .before .before .before .pre .sized in (z .few-columns, z .demands)
 
 loop-holds : tie.Need-loop-holds Inv-loop μ-loop
-loop-holds c = (omega arith, improves-refl (c .before .before .before .before .before .before .before .pre), c .positive .ensures)
+loop-holds c =
+    let start = c .before .before .before .before .before .before .before in
+    (omega arith, improves-refl (start .pre), c .positive .ensures)
 
 fill-row-requires : tie.Need-fill-row-requires Inv-loop μ-loop
-fill-row-requires c κs = let v = c .before .before .before .before .before .loop .inv in (v .1 .flow, c .before .before .before .before .loop-test .taken, v .2)
+fill-row-requires c κs =
+    let at-loop-test = c .before .before .before .before in
+    let at-loop = at-loop-test .before in
+    let v = at-loop .loop .inv in (v .1 .flow, at-loop-test .loop-test .taken, v .2)
 
 add-i : tie.Need-add-i Inv-loop μ-loop
 add-i c = omega (arith, c .before .before .before .before .before .before .before .before .before .before .before .before .before .loop-test .taken)
@@ -31,7 +35,11 @@ loop-less : tie.Need-loop-less Inv-loop μ-loop
 loop-less c = omega (arith, c .before .before .before .before .before .before .before .before .before .before .before .before .before .loop-test .taken)
 
 loop-again : tie.Need-loop-again Inv-loop μ-loop
-loop-again c = let e = c .before .before .before .before .before .before .before .before .fill-row .ensures in (omega (arith, c .before .before .before .before .before .before .before .before .before .before .before .before .before .loop-test .taken), improves-trans (c .before .before .before .before .before .before .before .before .before .before .before .before .before .before .loop .inv .1) (e .0), e .1)
+loop-again c =
+    let at-fill-row = c .before .before .before .before .before .before .before .before in
+    let at-loop-test = at-fill-row .before .before .before .before .before in
+    let at-loop = at-loop-test .before in
+    let e = at-fill-row .fill-row .ensures in (omega (arith, at-loop-test .loop-test .taken), improves-trans (at-loop .loop .inv .1) (e .0), e .1)
 
 same-length : tie.Need-same-length Inv-loop μ-loop
 same-length c = c .before .loop .inv .1 .same-x

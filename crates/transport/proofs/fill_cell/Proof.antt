@@ -1,5 +1,4 @@
 -- `transport::fill_cell` meets its contract. Assumes nothing.
-use mathlib.Core.Path.{_≡_, sym}
 use native.Mathlib.Omega.{arith}
 use lib.ListN.{length-set}
 use lib.Seq.{getD-set-other}

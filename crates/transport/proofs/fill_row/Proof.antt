@@ -29,19 +29,29 @@ intersection-requires : tie.Need-intersection-requires Inv-loop μ-loop
 intersection-requires c κs = tt
 
 loop-holds : tie.Need-loop-holds Inv-loop μ-loop
-loop-holds c = let h = c .before .before .before .before .before .before .before .pre in let s = c .before .before .before .before .before .before .before .args in (improves-refl (h .0), h .2, λ j t. let w = both-at (member (getD (s .rel .now) (s .i) 0)) (member (s .free)) j (c .intersection .ensures) t in (h .2 .below j (w .1), w .0))
+loop-holds c =
+    let start = c .before .before .before .before .before .before .before in
+    let h = start .pre in let s = start .args in (improves-refl (h .0), h .2, λ j t. let w = both-at (member (getD (s .rel .now) (s .i) 0)) (member (s .free)) j (c .intersection .ensures) t in (h .2 .below j (w .1), w .0))
 
 lowest-requires : tie.Need-lowest-requires Inv-loop μ-loop
 lowest-requires c κs = omega arith
 
 fill-cell-requires : tie.Need-fill-cell-requires Inv-loop μ-loop
-fill-cell-requires c κs = let v = c .before .before .before .before .before .before .loop .inv in let w = v .2 _ (c .before .before .before .before .lowest .ensures .1 .here) in (v .0 .flow, c .before .before .before .before .before .before .before .before .before .before .before .before .before .before .pre .1, w .0, w .1)
+fill-cell-requires c κs =
+    let at-lowest = c .before .before .before .before in
+    let at-loop = at-lowest .before .before in
+    let start = at-loop .before .before .before .before .before .before .before .before in
+    let v = at-loop .loop .inv in let w = v .2 _ (at-lowest .lowest .ensures .1 .here) in (v .0 .flow, start .pre .1, w .0, w .1)
 
 mul-marked : tie.Need-mul-marked Inv-loop μ-loop
 mul-marked c = omega (arith, c .before .before .before .before .before .before .before .before .before .before .before .before .before .lowest .ensures .0)
 
 slice-read-marked : tie.Need-slice-read-marked Inv-loop μ-loop
-slice-read-marked c = let w = c .before .before .before .before .before .before .before .before .before .before .before .before .before .before .before .before .loop .inv .2 _ (c .before .before .before .before .before .before .before .before .before .before .before .before .before .before .lowest .ensures .1 .here) in omega (arith, w .0, c .before .before .before .before .before .before .before .before .before .fill-cell .ensures .0 .flow .sized .demands)
+slice-read-marked c =
+    let at-fill-cell = c .before .before .before .before .before .before .before .before .before in
+    let at-lowest = at-fill-cell .before .before .before .before .before in
+    let at-loop = at-lowest .before .before in
+    let w = at-loop .loop .inv .2 _ (at-lowest .lowest .ensures .1 .here) in omega (arith, w .0, at-fill-cell .fill-cell .ensures .0 .flow .sized .demands)
 
 marked-requires : tie.Need-marked-requires Inv-loop μ-loop
 marked-requires c κs = c .before .before .before .before .before .before .before .before .before .before .before .before .before .before .lowest .ensures .0
@@ -50,7 +60,10 @@ mul-rest : tie.Need-mul-rest Inv-loop μ-loop
 mul-rest c = let h = c .before .before .before .before .before .before .before .before .before .before .before .before .before .before .before .before .before .before .before .before .before .before .before .before .before .pre in omega (arith, h .1, h .0 .sized .few-rows)
 
 slice-read-rest : tie.Need-slice-read-rest Inv-loop μ-loop
-slice-read-rest c = omega (arith, c .before .before .before .before .before .before .before .before .before .before .before .before .before .before .before .before .before .before .before .before .before .before .before .before .before .before .pre .1, c .before .before .before .before .before .before .before .before .before .before .before .fill-cell .ensures .0 .flow .sized .supplies)
+slice-read-rest c =
+    let at-fill-cell = c .before .before .before .before .before .before .before .before .before .before .before in
+    let start = at-fill-cell .before .before .before .before .before .before .before .before .before .before .before .before .before .before .before in
+    omega (arith, start .pre .1, at-fill-cell .fill-cell .ensures .0 .flow .sized .supplies)
 
 rest-requires : tie.Need-rest-requires Inv-loop μ-loop
 rest-requires c κs = omega (arith, c .before .before .before .before .before .before .before .before .before .before .before .before .before .before .before .before .before .loop-test .taken)
@@ -59,7 +72,12 @@ loop-less : tie.Need-loop-less Inv-loop μ-loop
 loop-less c = c .rest .ensures .1
 
 loop-again : tie.Need-loop-again Inv-loop μ-loop
-loop-again c = let v = c .before .before .before .before .before .before .before .before .before .before .before .before .before .before .before .before .before .before .before .loop .inv in let w = v .2 _ (c .before .before .before .before .before .before .before .before .before .before .before .before .before .before .before .before .before .lowest .ensures .1 .here) in let e = c .before .before .before .before .before .before .before .before .before .before .before .before .fill-cell .ensures in (improves-trans (v .0) (e .0), mask-put (c .before .before .marked .result) (v .1) (w .0) refl (e .1) (c .before .before .marked .ensures), λ j t. v .2 j (c .rest .ensures .0 j t))
+loop-again c =
+    let at-marked = c .before .before in
+    let at-fill-cell = at-marked .before .before .before .before .before .before .before .before .before .before in
+    let at-lowest = at-fill-cell .before .before .before .before .before in
+    let at-loop = at-lowest .before .before in
+    let v = at-loop .loop .inv in let w = v .2 _ (at-lowest .lowest .ensures .1 .here) in let e = at-fill-cell .fill-cell .ensures in (improves-trans (v .0) (e .0), mask-put (at-marked .marked .result) (v .1) (w .0) refl (e .1) (at-marked .marked .ensures), λ j t. v .2 j (c .rest .ensures .0 j t))
 
 same-length : tie.Need-same-length Inv-loop μ-loop
 same-length c = c .before .loop .inv .0 .same-x

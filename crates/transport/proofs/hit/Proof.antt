@@ -1,5 +1,4 @@
 -- `transport::hit` meets its contract: the rows passed have no free column. Assumes nothing.
-use mathlib.Core.Path.{_≡_}
 use native.Mathlib.Omega.{arith}
 use Rattle.transport.proofs.SearchLaws.{Hitting, hitting-none, hitting-next, hitting-found, hitting-end}
 use Rattle.transport.proofs.hit.Statement.{statement}
@@ -21,13 +20,21 @@ mul-intersection : tie.Need-mul-intersection Inv-loop μ-loop
 mul-intersection c = omega (arith, c .lowest .ensures .0)
 
 shared-slice-read-intersection : tie.Need-shared-slice-read-intersection Inv-loop μ-loop
-shared-slice-read-intersection c = c .before .before .before .before .before .pre _ (c .before .before .before .loop .inv .part _ (c .before .lowest .ensures .1 .here))
+shared-slice-read-intersection c =
+    let at-lowest = c .before in
+    let at-loop = at-lowest .before .before in
+    let start = at-loop .before .before in
+    start .pre _ (at-loop .loop .inv .part _ (at-lowest .lowest .ensures .1 .here))
 
 intersection-requires : tie.Need-intersection-requires Inv-loop μ-loop
 intersection-requires c κs = tt
 
 returns : tie.Need-returns Inv-loop μ-loop
-returns c = hitting-found (c .before .intersection .result) (c .before .before .before .lowest .ensures .0) (c .before .intersection .ok) (c .before .before .before .before .before .loop .inv) (c .before .before .before .lowest .ensures .1) (c .before .intersection .ensures) (c .if1 .taken)
+returns c =
+    let at-intersection = c .before in
+    let at-lowest = at-intersection .before .before in
+    let at-loop = at-lowest .before .before in
+    hitting-found (at-intersection .intersection .result) (at-lowest .lowest .ensures .0) (at-intersection .intersection .ok) (at-loop .loop .inv) (at-lowest .lowest .ensures .1) (at-intersection .intersection .ensures) (c .if1 .taken)
 
 without-lowest-requires : tie.Need-without-lowest-requires Inv-loop μ-loop
 without-lowest-requires c κs = omega arith
@@ -36,7 +43,12 @@ loop-less : tie.Need-loop-less Inv-loop μ-loop
 loop-less c = c .without-lowest .ensures .1
 
 loop-again : tie.Need-loop-again Inv-loop μ-loop
-loop-again c = hitting-next (c .before .before .intersection .result) (c .before .before .before .before .before .before .loop .inv) (c .before .before .before .before .lowest .ensures .1) (c .without-lowest .ensures .0 _ (c .before .before .before .before .lowest .ensures .1)) (c .before .before .intersection .ensures) (c .before .if1 .left)
+loop-again c =
+    let at-if1 = c .before in
+    let at-intersection = at-if1 .before in
+    let at-lowest = at-intersection .before .before in
+    let at-loop = at-lowest .before .before in
+    hitting-next (at-intersection .intersection .result) (at-loop .loop .inv) (at-lowest .lowest .ensures .1) (c .without-lowest .ensures .0 _ (at-lowest .lowest .ensures .1)) (at-intersection .intersection .ensures) (at-if1 .if1 .left)
 
 returns-2 : tie.Need-returns-2 Inv-loop μ-loop
 returns-2 c = hitting-end (c .loop-test .left) (c .before .loop .inv)

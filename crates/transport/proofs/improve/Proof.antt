@@ -21,22 +21,43 @@ positive-requires : tie.Need-positive-requires Inv-loop μ-loop
 positive-requires c κs = let z = c .before .before .before .before .before .before .before .before .pre .0 .sized in (z .few-rows, z .supplies)
 
 search-requires : tie.Need-search-requires Inv-loop μ-loop
-search-requires c κs = let h = c .before .before .before .before .before .before .before .before .before .before .before .before .pre in room-of _ _ (h .0) (c .before .before .before .positive .ensures) (h .2) (h .3)
+search-requires c κs =
+    let at-positive = c .before .before .before in
+    let start = at-positive .before .before .before .before .before .before .before .before .before in
+    let h = start .pre in room-of _ _ (h .0) (at-positive .positive .ensures) (h .2) (h .3)
 
 loop-holds : tie.Need-loop-holds Inv-loop μ-loop
-loop-holds c = let h = c .before .before .before .before .before .before .before .before .before .before .before .before .before .before .before .before .before .pre in (improves-refl (h .0), c .before .before .before .before .before .before .before .before .positive .ensures, h .1, c .before .before .before .before .search .ensures, refl, refl)
+loop-holds c =
+    let at-search = c .before .before .before .before in
+    let at-positive = at-search .before .before .before .before in
+    let start = at-positive .before .before .before .before .before .before .before .before .before in
+    let h = start .pre in (improves-refl (h .0), at-positive .positive .ensures, h .1, at-search .search .ensures, refl, refl)
 
 push-requires : tie.Need-push-requires Inv-loop μ-loop
-push-requires c κs = let v = c .before .before .before .before .before .before .before .before .loop .inv in let h = c .before .before .before .before .before .before .before .before .before .before .before .before .before .before .before .before .before .before .before .before .before .before .before .before .before .before .pre in let k = c .before .before .before .before .before .before .before .before .before .before .before .before .before .search .kept in (v .0 .flow, v .1, v .2, v .3 .found (c .before .before .before .before .before .before .if1 .taken), omega (arith, h .2, v .4, k .1 .1 .0), omega (arith, h .3, v .5, k .1 .1 .1 .0))
+push-requires c κs =
+    let at-if1 = c .before .before .before .before .before .before in
+    let at-loop = at-if1 .before .before in
+    let at-search = at-loop .before .before .before .before .before in
+    let start = at-search .before .before .before .before .before .before .before .before .before .before .before .before .before in
+    let v = at-loop .loop .inv in let h = start .pre in let k = at-search .search .kept in (v .0 .flow, v .1, v .2, v .3 .found (at-if1 .if1 .taken), omega (arith, h .2, v .4, k .1 .1 .0), omega (arith, h .3, v .5, k .1 .1 .1 .0))
 
 search-requires-2 : tie.Need-search-requires-2 Inv-loop μ-loop
-search-requires-2 c κs = let v = c .before .before .before .before .before .before .before .before .before .before .before .before .before .before .before .before .before .before .before .before .loop .inv in let h = c .before .before .before .before .before .before .before .before .before .before .before .before .before .before .before .before .before .before .before .before .before .before .before .before .before .before .before .before .before .before .before .before .before .before .before .before .before .before .pre in let k = c .before .before .before .before .before .before .before .before .before .before .before .before .before .before .before .before .before .before .before .before .before .before .before .before .before .search .kept in let e = c .before .before .before .before .before .before .before .before .before .before .before .push .ensures in room-of _ _ (e .0 .flow) (e .2) (omega (arith, h .2, v .4, k .1 .1 .0)) (omega (arith, h .3, v .5, k .1 .1 .1 .0))
+search-requires-2 c κs =
+    let at-push = c .before .before .before .before .before .before .before .before .before .before .before in
+    let at-loop = at-push .before .before .before .before .before .before .before .before .before in
+    let at-search = at-loop .before .before .before .before .before in
+    let start = at-search .before .before .before .before .before .before .before .before .before .before .before .before .before in
+    let v = at-loop .loop .inv in let h = start .pre in let k = at-search .search .kept in let e = at-push .push .ensures in room-of _ _ (e .0 .flow) (e .2) (omega (arith, h .2, v .4, k .1 .1 .0)) (omega (arith, h .3, v .5, k .1 .1 .1 .0))
 
 loop-less : tie.Need-loop-less Inv-loop μ-loop
 loop-less c = c .before .before .before .before .before .before .before .before .before .before .before .before .before .before .before .before .push .ensures .1
 
 loop-again : tie.Need-loop-again Inv-loop μ-loop
-loop-again c = let v = c .before .before .before .before .before .before .before .before .before .before .before .before .before .before .before .before .before .before .before .before .before .before .before .before .before .loop .inv in let e = c .before .before .before .before .before .before .before .before .before .before .before .before .before .before .before .before .push .ensures in (improves-trans (v .0) (e .0), e .2, e .3, c .before .before .before .before .search2 .ensures, c .before .before .before .before .search2 .kept .1 .1 .0 ∙ v .4, c .before .before .before .before .search2 .kept .1 .1 .1 .0 ∙ v .5)
+loop-again c =
+    let at-search2 = c .before .before .before .before in
+    let at-push = at-search2 .before .before .before .before .before .before .before .before .before .before .before .before in
+    let at-loop = at-push .before .before .before .before .before .before .before .before .before in
+    let v = at-loop .loop .inv in let e = at-push .push .ensures in (improves-trans (v .0) (e .0), e .2, e .3, at-search2 .search2 .ensures, at-search2 .search2 .kept .1 .1 .0 ∙ v .4, at-search2 .search2 .kept .1 .1 .1 .0 ∙ v .5)
 
 same-length : tie.Need-same-length Inv-loop μ-loop
 same-length c = c .before .before .loop .inv .0 .same-x
@@ -51,10 +72,16 @@ same-length-4 : tie.Need-same-length-4 Inv-loop μ-loop
 same-length-4 c = c .before .before .loop .inv .0 .same-users
 
 same-length-5 : tie.Need-same-length-5 Inv-loop μ-loop
-same-length-5 c = c .before .before .loop .inv .4 ∙ c .before .before .before .before .before .before .before .search .kept .1 .1 .0
+same-length-5 c =
+    let at-loop = c .before .before in
+    let at-search = at-loop .before .before .before .before .before in
+    at-loop .loop .inv .4 ∙ at-search .search .kept .1 .1 .0
 
 same-length-6 : tie.Need-same-length-6 Inv-loop μ-loop
-same-length-6 c = c .before .before .loop .inv .5 ∙ c .before .before .before .before .before .before .before .search .kept .1 .1 .1 .0
+same-length-6 c =
+    let at-loop = c .before .before in
+    let at-search = at-loop .before .before .before .before .before in
+    at-loop .loop .inv .5 ∙ at-search .search .kept .1 .1 .1 .0
 
 returns : tie.Need-returns Inv-loop μ-loop
 returns c = let v = c .before .before .loop .inv in (v .0, record { short = _; free = _; from = _; via = _; rows = v .1; columns = v .2; stuck = v .3 .none (c .if1 .left) })

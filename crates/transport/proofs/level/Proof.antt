@@ -22,13 +22,21 @@ mul-difference : tie.Need-mul-difference Inv-loop μ-loop
 mul-difference c = omega (arith, c .lowest .ensures .0)
 
 shared-slice-read-difference : tie.Need-shared-slice-read-difference Inv-loop μ-loop
-shared-slice-read-difference c = c .before .before .before .before .before .before .before .before .pre .3 _ (c .before .before .before .loop .inv .2 .part _ (c .before .lowest .ensures .1 .here))
+shared-slice-read-difference c =
+    let at-lowest = c .before in
+    let at-loop = at-lowest .before .before in
+    let start = at-loop .before .before .before .before .before in
+    start .pre .3 _ (at-loop .loop .inv .2 .part _ (at-lowest .lowest .ensures .1 .here))
 
 difference-requires : tie.Need-difference-requires Inv-loop μ-loop
 difference-requires c κs = tt
 
 spread-requires : tie.Need-spread-requires Inv-loop μ-loop
-spread-requires c κs = let v = c .before .before .before .before .before .before .loop .inv in let h = c .before .before .before .before .before .before .before .before .before .before .before .pre in (h .0, omega (arith, v .0, h .1), omega (arith, v .1, h .2), c .before .before .before .before .lowest .ensures .0)
+spread-requires c κs =
+    let at-lowest = c .before .before .before .before in
+    let at-loop = at-lowest .before .before in
+    let start = at-loop .before .before .before .before .before in
+    let v = at-loop .loop .inv in let h = start .pre in (h .0, omega (arith, v .0, h .1), omega (arith, v .1, h .2), at-lowest .lowest .ensures .0)
 
 union-requires : tie.Need-union-requires Inv-loop μ-loop
 union-requires c κs = tt
@@ -40,7 +48,13 @@ loop-less : tie.Need-loop-less Inv-loop μ-loop
 loop-less c = c .without-lowest .ensures .1
 
 loop-again : tie.Need-loop-again Inv-loop μ-loop
-loop-again c = let v = c .before .before .before .before .before .before .before .before .before .before .before .before .before .loop .inv in (c .before .before .before .before .before .before .spread .kept .1 .0 ∙ v .0, c .before .before .before .before .before .before .spread .kept .1 .1 .0 ∙ v .1, levelling-next (c .before .before .before .before .before .before .before .before .before .difference .result) (v .2) (c .before .before .before .before .before .before .before .before .before .before .before .lowest .ensures .1) (c .without-lowest .ensures .0 _ (c .before .before .before .before .before .before .before .before .before .before .before .lowest .ensures .1)) (c .before .before .before .before .before .before .before .before .before .difference .ensures) (c .before .before .before .before .before .before .spread .ensures) (c .before .union .ensures))
+loop-again c =
+    let at-union = c .before in
+    let at-spread = at-union .before .before .before .before .before in
+    let at-difference = at-spread .before .before .before in
+    let at-lowest = at-difference .before .before in
+    let at-loop = at-lowest .before .before in
+    let v = at-loop .loop .inv in (at-spread .spread .kept .1 .0 ∙ v .0, at-spread .spread .kept .1 .1 .0 ∙ v .1, levelling-next (at-difference .difference .result) (v .2) (at-lowest .lowest .ensures .1) (c .without-lowest .ensures .0 _ (at-lowest .lowest .ensures .1)) (at-difference .difference .ensures) (at-spread .spread .ensures) (at-union .union .ensures))
 
 same-length : tie.Need-same-length Inv-loop μ-loop
 same-length c = c .before .loop .inv .0

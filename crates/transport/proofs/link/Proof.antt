@@ -1,5 +1,5 @@
 -- `transport::link` meets its contract: the rows passed are linked. Assumes nothing.
-use mathlib.Core.Path.{_≡_, refl, _∙_}
+use mathlib.Core.Path.{_≡_, refl}
 use native.Mathlib.Omega.{arith}
 use lib.ListN.{length, length-set}
 use Rattle.transport.proofs.SearchLaws.{Linking, linking-none, linking-next, linking-end}
@@ -37,7 +37,12 @@ loop-less : tie.Need-loop-less Inv-loop μ-loop
 loop-less c = c .without-lowest .ensures .1
 
 loop-again : tie.Need-loop-again Inv-loop μ-loop
-loop-again c = let v = c .before .before .before .before .before .loop .inv in (simp length-set (v .0), simp length-set (v .1), linking-next (v .2) (omega (arith, c .before .before .before .lowest .ensures .0)) (omega (arith, c .before .before .before .lowest .ensures .0)) (c .before .before .byte .ensures) (c .before .byte2 .ensures) (c .before .before .before .lowest .ensures .1) (c .without-lowest .ensures .0 _ (c .before .before .before .lowest .ensures .1)))
+loop-again c =
+    let at-byte2 = c .before in
+    let at-byte = at-byte2 .before in
+    let at-lowest = at-byte .before in
+    let at-loop = at-lowest .before .before in
+    let v = at-loop .loop .inv in (simp length-set (v .0), simp length-set (v .1), linking-next (v .2) (omega (arith, at-lowest .lowest .ensures .0)) (omega (arith, at-lowest .lowest .ensures .0)) (at-byte .byte .ensures) (at-byte2 .byte2 .ensures) (at-lowest .lowest .ensures .1) (c .without-lowest .ensures .0 _ (at-lowest .lowest .ensures .1)))
 
 same-length : tie.Need-same-length Inv-loop μ-loop
 same-length c = c .before .loop .inv .0

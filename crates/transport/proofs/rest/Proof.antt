@@ -1,5 +1,4 @@
 -- `transport::rest` meets its contract. Assumes nothing.
-use native.Mathlib.Omega.{arith}
 use Rattle.relation.proofs.Mask.{member-none}
 use Rattle.transport.proofs.MaskedLaws.{neither, rest-part}
 use borrow.Author.Needs.{needs}

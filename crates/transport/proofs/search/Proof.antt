@@ -17,7 +17,10 @@ loop-holds : tie.Need-loop-holds Inv-loop μ-loop
 loop-holds c = (refl, refl, frontier-none, omega (arith, unreached-most (c .before .before .before .before .args .short)))
 
 hit-requires : tie.Need-hit-requires Inv-loop μ-loop
-hit-requires c κs = frontier-rows (c .before .before .before .before .before .before .pre) (c .before .loop .inv .2)
+hit-requires c κs =
+    let at-loop = c .before in
+    let start = at-loop .before .before .before .before .before in
+    frontier-rows (start .pre) (at-loop .loop .inv .2)
 
 same-length : tie.Need-same-length Inv-loop μ-loop
 same-length c = c .before .before .before .loop .inv .0
@@ -38,10 +41,19 @@ add-depth : tie.Need-add-depth Inv-loop μ-loop
 add-depth c = omega (arith, c .before .before .before .before .before .before .before .before .before .before .before .loop .inv .3)
 
 loop-less : tie.Need-loop-less Inv-loop μ-loop
-loop-less c = omega (arith, c .before .before .before .before .before .before .before .before .before .before .loop-test .taken, unreached-falls _ _ (c .difference .result) (c .difference .ok) (c .before .before .before .before .before .level .ensures .grows .kept) (c .difference .ensures))
+loop-less c =
+    let at-level = c .before .before .before .before .before in
+    let at-loop-test = at-level .before .before .before .before .before in
+    omega (arith, at-loop-test .loop-test .taken, unreached-falls _ _ (c .difference .result) (c .difference .ok) (at-level .level .ensures .grows .kept) (c .difference .ensures))
 
 loop-again : tie.Need-loop-again Inv-loop μ-loop
-loop-again c = let v = c .before .before .before .before .before .before .before .before .before .before .before .loop .inv in (c .before .before .before .before .before .level .kept .1 .1 .0 ∙ v .0, c .before .before .before .before .before .level .kept .1 .1 .1 .0 ∙ v .1, frontier-next _ _ _ (v .2) (c .before .before .before .before .before .before .before .before .before .hit .ensures) (c .before .before .before .before .before .before .before .before .if1 .left) (c .before .before .before .before .before .level .ensures) (c .difference .ensures), omega (arith, v .3, c .before .before .before .before .before .before .before .before .before .before .loop-test .taken, unreached-falls _ _ (c .difference .result) (c .difference .ok) (c .before .before .before .before .before .level .ensures .grows .kept) (c .difference .ensures)))
+loop-again c =
+    let at-level = c .before .before .before .before .before in
+    let at-if1 = at-level .before .before .before in
+    let at-hit = at-if1 .before in
+    let at-loop-test = at-hit .before in
+    let at-loop = at-loop-test .before in
+    let v = at-loop .loop .inv in (at-level .level .kept .1 .1 .0 ∙ v .0, at-level .level .kept .1 .1 .1 .0 ∙ v .1, frontier-next _ _ _ (v .2) (at-hit .hit .ensures) (at-if1 .if1 .left) (at-level .level .ensures) (c .difference .ensures), omega (arith, v .3, at-loop-test .loop-test .taken, unreached-falls _ _ (c .difference .result) (c .difference .ok) (at-level .level .ensures .grows .kept) (c .difference .ensures)))
 
 same-length-3 : tie.Need-same-length-3 Inv-loop μ-loop
 same-length-3 c = c .before .loop .inv .0

@@ -28,7 +28,11 @@ difference-requires : tie.Need-difference-requires Inv-loop μ-loop
 difference-requires c κs = tt
 
 link-requires : tie.Need-link-requires Inv-loop μ-loop
-link-requires c κs = let v = c .before .before .before .before .before .before .loop .inv in let h = c .before .before .before .before .before .before .before .before .before .before .pre in (omega (arith, v .0, h .1), omega (arith, v .1, h .2), h .3, c .before .before .before .before .lowest .ensures .0)
+link-requires c κs =
+    let at-lowest = c .before .before .before .before in
+    let at-loop = at-lowest .before .before in
+    let start = at-loop .before .before .before .before in
+    let v = at-loop .loop .inv in let h = start .pre in (omega (arith, v .0, h .1), omega (arith, v .1, h .2), h .3, at-lowest .lowest .ensures .0)
 
 union-requires : tie.Need-union-requires Inv-loop μ-loop
 union-requires c κs = tt
@@ -40,7 +44,13 @@ loop-less : tie.Need-loop-less Inv-loop μ-loop
 loop-less c = c .without-lowest .ensures .1
 
 loop-again : tie.Need-loop-again Inv-loop μ-loop
-loop-again c = let v = c .before .before .before .before .before .before .before .before .before .before .before .before .before .loop .inv in (c .before .before .before .before .before .before .link .kept .0 ∙ v .0, c .before .before .before .before .before .before .link .kept .1 .0 ∙ v .1, spreading-next (c .before .before .before .before .before .before .before .before .before .difference .result) (v .2) (c .before .before .before .before .before .before .before .before .before .before .before .lowest .ensures .1) (c .without-lowest .ensures .0 _ (c .before .before .before .before .before .before .before .before .before .before .before .lowest .ensures .1)) (c .before .before .before .before .before .before .before .before .before .difference .ensures) (c .before .before .before .before .before .before .link .ensures) (c .before .union .ensures))
+loop-again c =
+    let at-union = c .before in
+    let at-link = at-union .before .before .before .before .before in
+    let at-difference = at-link .before .before .before in
+    let at-lowest = at-difference .before .before in
+    let at-loop = at-lowest .before .before in
+    let v = at-loop .loop .inv in (at-link .link .kept .0 ∙ v .0, at-link .link .kept .1 .0 ∙ v .1, spreading-next (at-difference .difference .result) (v .2) (at-lowest .lowest .ensures .1) (c .without-lowest .ensures .0 _ (at-lowest .lowest .ensures .1)) (at-difference .difference .ensures) (at-link .link .ensures) (at-union .union .ensures))
 
 same-length : tie.Need-same-length Inv-loop μ-loop
 same-length c = c .before .loop .inv .0

@@ -1,8 +1,8 @@
 -- `transport::supply` meets its contract. Assumes nothing.
-use mathlib.Core.Path.{_≡_, refl, sym, ap, _∙_}
-use Prim.Native.Nat.{ℕ, _+_, _*_, _≤_, _<_, _-_}
+use mathlib.Core.Path.{_≡_, refl, ap}
+use Prim.Native.Nat.{ℕ, _*_, _≤_, _-_}
 use native.Mathlib.Omega.{arith}
-use lib.ListN.{length, getD, length-set}
+use lib.ListN.{length, length-set}
 use Rattle.transport.specs.Start.{Supplies}
 use Rattle.transport.proofs.StartLaws.{supplies-none, supplies-next, supplies-is, supply-fits, weight-le}
 use Rattle.transport.proofs.supply.Statement.{statement}
@@ -27,7 +27,11 @@ wide-requires : tie.Need-wide-requires Inv-loop μ-loop
 wide-requires c κs = tt
 
 mul-a : tie.Need-mul-a Inv-loop μ-loop
-mul-a c = let l = c .before .before .before .loop in let h = c .before .before .before .before .before .before .pre in record { fits = supply-fits _ _ (omega (arith, h .2, c .wide .ensures, weight-le (c .before .before .before .before .before .before .args .w .now) (l .i) (c .before .before .loop-test .taken))) (h .1) }
+mul-a c =
+    let at-loop-test = c .before .before in
+    let at-loop = at-loop-test .before in
+    let start = at-loop .before .before .before in
+    let l = at-loop .loop in let h = start .pre in record { fits = supply-fits _ _ (omega (arith, h .2, c .wide .ensures, weight-le (start .args .w .now) (l .i) (at-loop-test .loop-test .taken))) (h .1) }
 
 mul-a-2 : tie.Need-mul-a-2 Inv-loop μ-loop
 mul-a-2 c = omega arith
@@ -42,7 +46,10 @@ loop-less : tie.Need-loop-less Inv-loop μ-loop
 loop-less c = omega arith
 
 loop-again : tie.Need-loop-again Inv-loop μ-loop
-loop-again c = let l = c .before .before .before .loop in (omega arith, simp length-set (l .inv .1), supplies-next (omega arith) (ap (λ (n : ℕ). n * c .before .before .before .before .before .before .args .other) (c .wide .ensures)) (l .inv .2))
+loop-again c =
+    let at-loop = c .before .before .before in
+    let start = at-loop .before .before .before in
+    let l = at-loop .loop in (omega arith, simp length-set (l .inv .1), supplies-next (omega arith) (ap (λ (n : ℕ). n * start .args .other) (c .wide .ensures)) (l .inv .2))
 
 same-length : tie.Need-same-length Inv-loop μ-loop
 same-length c = c .before .loop .inv .1

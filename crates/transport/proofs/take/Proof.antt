@@ -1,5 +1,4 @@
 -- `transport::take` meets its contract. Assumes nothing.
-use mathlib.Core.Path.{refl}
 use native.Mathlib.Omega.{arith}
 use lib.Seq.{getD-set-same}
 use Rattle.transport.proofs.MatrixLaws.{adds, set-takes-at}

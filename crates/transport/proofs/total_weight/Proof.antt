@@ -1,22 +1,22 @@
--- `transport::total_weight` meets its contract. Assumes nothing.
-use mathlib.Core.Path.{_≡_, refl, sym, ap, _∙_}
-use Prim.Native.Nat.{ℕ, _+_, _*_, _≤_, _<_, _-_}
+-- `transport::total_weight` meets its contract: a weight is below 2^16, so that 64 of them fit. Assumes nothing.
+use mathlib.Core.Path.{_≡_, ap, _∙_}
+use Prim.Native.Nat.{ℕ, _*_, _≤_, _-_}
 use native.Mathlib.Omega.{arith}
-use lib.ListN.{length, getD, length-set}
+use lib.ListN.{length}
 use Rattle.simulation.specs.Sum.{sum}
 use Rattle.simulation.specs.Fit.{weight, total}
-use Rattle.transport.proofs.MatrixLaws.{sum-none, running, running-lt}
+use Rattle.transport.proofs.MatrixLaws.{sum-none, running}
 use Rattle.transport.proofs.total_weight.Statement.{statement}
 use Rattle.transport.proofs.total_weight.Tie as tie
 
 abbrev Inv-loop : tie.InvT-loop
-Inv-loop w s₀ i₀ s i = (i ≤ length w) × (s ≡ sum i (weight w))
+Inv-loop w s₀ i₀ s i = (i ≤ length w) × (s ≡ sum i (weight w)) × (s ≤ i * 65535)
 
 abbrev μ-loop : tie.MeasureT-loop
 μ-loop w s₀ i₀ s i = length w - i
 
 loop-holds : tie.Need-loop-holds Inv-loop μ-loop
-loop-holds c = (omega arith, sum-none (weight (c .before .args .w .now)))
+loop-holds c = (omega arith, sum-none (weight (c .before .args .w .now)), omega arith)
 
 mul-wide : tie.Need-mul-wide Inv-loop μ-loop
 mul-wide c = omega arith
@@ -28,8 +28,10 @@ wide-requires : tie.Need-wide-requires Inv-loop μ-loop
 wide-requires c κs = tt
 
 add-s : tie.Need-add-s Inv-loop μ-loop
-unfolding total
-add-s c = let l = c .before .before .before .loop in let t = running-lt (l .i) (length (c .before .before .before .before .before .args .w .now)) _ (weight (c .before .before .before .before .before .args .w .now)) (c .before .before .loop-test .taken) (l .inv .1) (c .wide .ensures) (c .before .before .before .before .before .pre) in omega (arith, t)
+add-s c =
+    let at-shared-slice-known2 = c .before in
+    let at-loop = at-shared-slice-known2 .before .before in
+    omega (arith, at-loop .loop .inv .2, c .wide .ensures, at-shared-slice-known2 .shared-slice-known2 .given (at-loop .loop .i))
 
 add-i : tie.Need-add-i Inv-loop μ-loop
 add-i c = omega arith
@@ -38,11 +40,18 @@ loop-less : tie.Need-loop-less Inv-loop μ-loop
 loop-less c = omega arith
 
 loop-again : tie.Need-loop-again Inv-loop μ-loop
-loop-again c = let l = c .before .before .before .loop in (omega arith, running (l .i) (weight (c .before .before .before .before .before .args .w .now)) (l .inv .1) (c .wide .ensures))
+loop-again c =
+    let at-shared-slice-known2 = c .before in
+    let at-loop = at-shared-slice-known2 .before .before in
+    let start = at-loop .before .before in
+    let l = at-loop .loop in (omega arith, running (l .i) (weight (start .args .w .now)) (l .inv .1) (c .wide .ensures), omega (arith, at-loop .loop .inv .2, c .wide .ensures, at-shared-slice-known2 .shared-slice-known2 .given (at-loop .loop .i)))
 
 returns : tie.Need-returns Inv-loop μ-loop
 unfolding total
-returns c = let l = c .before .loop in l .inv .1 ∙ ap (λ (n : ℕ). sum n (weight (c .before .before .before .args .w .now))) (let e : l .i ≡ length (c .before .before .before .args .w .now) = omega arith in e)
+returns c =
+    let at-loop = c .before in
+    let start = at-loop .before .before in
+    let l = at-loop .loop in l .inv .1 ∙ ap (λ (n : ℕ). sum n (weight (start .args .w .now))) (let e : l .i ≡ length (start .args .w .now) = omega arith in e)
 
 pub total-weight-spec : {M : Type 1} → statement M
 total-weight-spec =

@@ -1,5 +1,5 @@
 -- `transport::transport` meets its contract. Assumes nothing.
-use mathlib.Core.Path.{_≡_, _∙_}
+use mathlib.Core.Path.{_∙_}
 use native.Mathlib.Omega.{arith}
 use Rattle.transport.proofs.MatrixLaws.{outside-trans}
 use Rattle.transport.proofs.FlowLaws.{preserves-trans}
@@ -43,7 +43,13 @@ slice-aggregate-fill-3 : tie.Need-slice-aggregate-fill-3
 slice-aggregate-fill-3 c = search needs
 
 fill-requires : tie.Need-fill-requires
-fill-requires c κs = let h = c .before .before .before .before .before .before .before .before .before .before .before .before .before .before .before .before .before .before .before .before .before .pre in let k = c .before .before .before .before .before .before .before .before .begin .kept in begun (c .before .before .before .before .before .before .before .before .begin .ensures) (c .before .before .before .before .before .before .before .before .before .before .before .before .before .before .no-users .result) h (k .1 .1 .0) (omega (arith, h .few-rows, k .1 .1 .1 .0, c .before .before .before .before .before .before .before .before .before .before .before .before .before .before .before .before .no-amounts .ensures)) (omega (arith, h .few-columns, k .1 .1 .1 .1 .0, c .before .before .before .before .before .before .before .before .before .before .before .before .before .before .before .no-amounts2 .ensures)) (omega (arith, c .before .before .before .before .before .before .before .before .before .before .before .before .before .before .no-users .ensures .0)) (c .before .before .before .before .before .before .before .before .before .before .before .before .before .before .no-users .ensures .1)
+fill-requires c κs =
+    let at-begin = c .before .before .before .before .before .before .before .before in
+    let at-no-users = at-begin .before .before .before .before .before .before in
+    let at-no-amounts2 = at-no-users .before in
+    let at-no-amounts = at-no-amounts2 .before in
+    let start = at-no-amounts .before .before .before .before .before in
+    let h = start .pre in let k = at-begin .begin .kept in begun (at-begin .begin .ensures) (at-no-users .no-users .result) h (k .1 .1 .0) (omega (arith, h .few-rows, k .1 .1 .1 .0, at-no-amounts .no-amounts .ensures)) (omega (arith, h .few-columns, k .1 .1 .1 .1 .0, at-no-amounts2 .no-amounts2 .ensures)) (omega (arith, at-no-users .no-users .ensures .0)) (at-no-users .no-users .ensures .1)
 
 slice-aggregate-improve : tie.Need-slice-aggregate-improve
 slice-aggregate-improve c = search needs
@@ -61,13 +67,21 @@ slice-aggregate-improve-5 : tie.Need-slice-aggregate-improve-5
 slice-aggregate-improve-5 c = search needs
 
 improve-requires : tie.Need-improve-requires
-improve-requires c κs = let e = c .before .before .before .before .before .before .before .before .before .before .before .fill .ensures in (e .0 .flow, e .1, omega (arith, c .before .before .before .before .before .before .before .before .before .before .before .before .before .before .before .before .before .before .before .before .before .before .before .before .before .no-links .ensures), omega (arith, c .before .before .before .before .before .before .before .before .before .before .before .before .before .before .before .before .before .before .before .before .before .before .before .before .no-links2 .ensures))
+improve-requires c κs =
+    let at-fill = c .before .before .before .before .before .before .before .before .before .before .before in
+    let at-no-links2 = at-fill .before .before .before .before .before .before .before .before .before .before .before .before .before in
+    let at-no-links = at-no-links2 .before in
+    let e = at-fill .fill .ensures in (e .0 .flow, e .1, omega (arith, at-no-links .no-links .ensures), omega (arith, at-no-links2 .no-links2 .ensures))
 
 same-length : tie.Need-same-length
 same-length c = search needs
 
 returns : tie.Need-returns
-returns c = let f = c .before .before .before .before .before .before .before .before .before .before .before .before .before .before .before .before .before .before .before .fill .ensures in let v = c .before .before .before .before .before .before .before .improve .ensures in let d = v .1 in finished (c .before .before .before .before .before .before .before .improve .result) (v .0 .flow) (d .rows) (d .columns) (d .stuck) (balanced (c .before .before .before .before .before .before .before .before .before .before .before .before .before .before .before .before .before .before .before .before .before .before .before .before .before .before .before .before .begin .ensures) (preserves-trans (f .0 .preserves) (v .0 .preserves))) (c .before .before .before .before .before .before .before .improve .ok) (outside-trans (c .before .before .before .before .before .before .before .before .before .before .before .before .before .before .before .before .before .before .before .before .before .before .before .before .before .before .before .before .begin .ensures .cleared .outside) (outside-trans (f .0 .outside) (v .0 .outside))) (v .0 .same-x ∙ f .0 .same-x ∙ c .before .before .before .before .before .before .before .before .before .before .before .before .before .before .before .before .before .before .before .before .before .before .before .before .before .before .before .before .begin .kept .1 .1 .0)
+returns c =
+    let at-improve = c .before .before .before .before .before .before .before in
+    let at-fill = at-improve .before .before .before .before .before .before .before .before .before .before .before .before in
+    let at-begin = at-fill .before .before .before .before .before .before .before .before .before in
+    let f = at-fill .fill .ensures in let v = at-improve .improve .ensures in let d = v .1 in finished (at-improve .improve .result) (v .0 .flow) (d .rows) (d .columns) (d .stuck) (balanced (at-begin .begin .ensures) (preserves-trans (f .0 .preserves) (v .0 .preserves))) (at-improve .improve .ok) (outside-trans (at-begin .begin .ensures .cleared .outside) (outside-trans (f .0 .outside) (v .0 .outside))) (v .0 .same-x ∙ f .0 .same-x ∙ at-begin .begin .kept .1 .1 .0)
 
 pub transport-spec : {M : Type 1} → statement M
 transport-spec =

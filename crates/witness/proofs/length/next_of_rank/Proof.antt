@@ -1,68 +1,74 @@
 -- `length::next_of_rank` meets its contract. Assumes nothing.
-use mathlib.Core.List.{List}
-use mathlib.Core.Path.{_≡_, ap, sym, _∙_}
-use Prim.Native.Nat.{ℕ, _+_, _-_, _≤_, _<_}
-use native.Mathlib.Omega.{arith}
-use native.Mathlib.Decide.{ℕ-discrete}
+use mathlib.Core.Path.{_≡_}
+use Prim.Native.Nat.{ℕ, _-_, _*_, _≤_, _<_}
 use native.Mathlib.Nat.{le-refl}
+use native.Mathlib.Omega.{arith}
 use lib.ListN.{getD}
+use Rattle.witness.proofs.Bounds.{row-in, row-ends, row-holds, in-row, none-joined}
 use Rattle.witness.proofs.length.next_of_rank.Statement.{statement}
 use Rattle.witness.proofs.length.next_of_rank.Tie as tie
 
--- one place more
-none-more : (ranks : List ℕ) (r p q : ℕ) → ((k : ℕ) → p ≤ k → k < q → getD ranks k 0 ≡ r → ⊥) → (getD ranks q 0 ≡ r → ⊥) → (k : ℕ) → p ≤ k → k < q + 1 → getD ranks k 0 ≡ r → ⊥
-none-more ranks r p q h d k a b e = at (ℕ-discrete k q)
-  where
-    at : Dec (k ≡ q) → ⊥
-    at (yes i) = d (sym (ap (λ (j : ℕ). getD ranks j 0) i) ∙ e)
-    at (no i) = h k a (omega (arith, i)) e
-
 abbrev Inv-loop : tie.InvT-loop
-Inv-loop ranks r p end q₀ q =
-    (p ≤ q) × (q ≤ end) × ((k : ℕ) → p ≤ k → k < q → getD ranks k 0 ≡ r → ⊥)
+Inv-loop ranks least width rows r p q₀ q =
+    (p ≤ q) × (q ≤ rows * width) × ((k : ℕ) → p ≤ k → k < q → getD ranks k 0 ≡ r → ⊥)
 
 abbrev μ-loop : tie.MeasureT-loop
-μ-loop ranks r p end q₀ q =
-    end - q
+μ-loop ranks least width rows r p q₀ q = rows * width - q
 
 loop-holds : tie.Need-loop-holds Inv-loop μ-loop
-loop-holds c =
-    (le-refl _, c .pre .0, λ k a b _. absurd (omega arith))
+loop-holds c = (le-refl _, c .before .before .pre .1, λ k a b _. absurd (omega arith))
 
-mul-if1 : tie.Need-mul-if1 Inv-loop μ-loop
-mul-if1 c =
-    record { fits = omega (arith, c .before .before .pre .1, c .loop-test .taken) }
+mul-loop : tie.Need-mul-loop Inv-loop μ-loop
+mul-loop c = record { fits = omega (arith, c .before .before .before .pre .0 .small) }
 
-shared-slice-read-if1 : tie.Need-shared-slice-read-if1 Inv-loop μ-loop
-shared-slice-read-if1 c =
-    let entry = c .before .before .before in
-    omega (arith, entry .pre .2, c .before .loop-test .taken)
+div-s : tie.Need-div-s Inv-loop μ-loop
+div-s c = omega (arith, c .before .before .before .before .pre .0 .some)
+
+add-stop : tie.Need-add-stop Inv-loop μ-loop
+add-stop c =
+    let g = c .before .before .before .before .pre .0 in
+    record { fits = omega (arith, row-in g (c .loop-test .taken), g .few) }
+
+mul-stop : tie.Need-mul-stop Inv-loop μ-loop
+mul-stop c =
+    let g = c .before .before .before .before .pre .0 in
+    record { fits = omega (arith, row-ends g (c .loop-test .taken), g .small) }
+
+next-in-row-requires : tie.Need-next-in-row-requires Inv-loop μ-loop
+next-in-row-requires c κs = in-row (c .before .before .before .before .pre .0) (c .loop-test .taken)
 
 returns : tie.Need-returns Inv-loop μ-loop
 returns c =
-    let at-loop = c .before .before .before in
-    let l = at-loop .loop .inv in record { low = l .0; high = l .1; none = l .2; here = λ _. c .if1 .taken }
-
-add-q : tie.Need-add-q Inv-loop μ-loop
-add-q c =
-    let entry = c .before .before .before .before in
-    record { fits = omega (arith, entry .pre .1, c .before .before .loop-test .taken) }
+    let at-test = c .before .before in
+    let g = at-test .before .before .before .before .pre .0 in
+    let w = at-test .before .loop .inv in
+    let n = c .before .next-in-row .ensures in
+    record {
+      low = omega (arith, w .0, n .low);
+      high = omega (arith, n .high, row-ends g (at-test .loop-test .taken));
+      none = none-joined (w .2) n;
+      here = λ _. n .here (c .if1 .taken);
+    }
 
 loop-less : tie.Need-loop-less Inv-loop μ-loop
 loop-less c =
-    omega (arith, c .before .before .loop-test .taken)
+    let at-test = c .before .before in
+    let g = at-test .before .before .before .before .pre .0 in
+    let lt = at-test .loop-test .taken in
+    omega (arith, c .if1 .left, row-holds g lt .1, lt)
 
 loop-again : tie.Need-loop-again Inv-loop μ-loop
 loop-again c =
-    let at-loop = c .before .before .before in
-    let entry = at-loop .before in
-    let l = at-loop .loop in
-    let a = entry .args in
-    (omega (arith, l .inv .0), omega (arith, c .before .before .loop-test .taken), none-more (a .ranks .now) (a .r) (a .p) (l .q) (l .inv .2) (c .if1 .left))
+    let at-test = c .before .before in
+    let g = at-test .before .before .before .before .pre .0 in
+    let w = at-test .before .loop .inv in
+    let n = c .before .next-in-row .ensures in
+    (omega (arith, w .0, n .low), omega (arith, n .high, row-ends g (at-test .loop-test .taken)), none-joined (w .2) n)
 
 returns-2 : tie.Need-returns-2 Inv-loop μ-loop
 returns-2 c =
-    let l = c .before .loop .inv in record { low = l .0; high = l .1; none = l .2; here = λ h. absurd (omega (arith, h, c .loop-test .left)) }
+    let w = c .before .loop .inv in
+    record { low = w .0; high = w .1; none = w .2; here = λ h. absurd (omega (arith, h, c .loop-test .left)) }
 
 pub next-of-rank-spec : {M : Type 1} → statement M
 next-of-rank-spec =
@@ -71,10 +77,12 @@ next-of-rank-spec =
     Inv-loop
     μ-loop
     loop-holds
-    mul-if1
-    shared-slice-read-if1
+    mul-loop
+    div-s
+    add-stop
+    mul-stop
+    next-in-row-requires
     returns
-    add-q
     loop-less
     loop-again
     returns-2)

@@ -92,7 +92,7 @@ pub +write-node+write-transition-spec : {M : Type 1} → statement M
     node-room (entry .pre .1))
     -- write-node-loop-holds
     (λ c. let entry = c .before .before .before .before .before .before .before .before in
-    node-begins (entry .pre .1) _ (c .count .ensures) (entry .fits .members .fits) (entry .good .1 .1 .1 .1 .1 .1 .1 .1 .1 .0 .0))
+    node-begins (entry .pre .1) _ (c .count .ensures) (entry .good .1 .1 .1 .1 .1 .1 .1 .1 .1 .0 .0))
     -- write-node-lowest-requires
     (λ c κs. pos-of-ne-zero (c .loop-test .taken))
     -- write-node-sub-write-transition
@@ -126,7 +126,7 @@ pub +write-node+write-transition-spec : {M : Type 1} → statement M
     let at-lowest = at-write-transition .before .before .before .before .before in
     let at-loop = at-lowest .before .before in
     let low = at-lowest .lowest in let less = c .without-lowest .ensures in
-    node-next (at-loop .loop .inv) _ (low .ensures .1) (at-write-transition .write-transition .ensures) (less .0 _ (low .ensures .1)) (less .1) (at-rel .rel .given) (at-x .x .given) (at-stack .stack .given))
+    node-next (at-loop .loop .inv) _ (low .ensures .1) (at-write-transition .write-transition .ensures) (less .0 _ (low .ensures .1)) (at-rel .rel .given) (at-x .x .given) (at-stack .stack .given))
     -- write-node-same-length
     (λ c. c .before .loop .inv .same-rel)
     -- write-node-same-length-2

@@ -1,79 +1,63 @@
 -- `tree::put_entry` meets its contract. Assumes nothing.
-use mathlib.Core.Path.{_≡_, ap, _∙_}
+use mathlib.Core.Path.{ap, _∙_}
 use mathlib.Core.List.{List}
-use Prim.Native.Nat.{ℕ, _<_, _%_, _/_}
+use Prim.Native.Nat.{ℕ, _%_, _/_}
 use native.Mathlib.Omega.{arith}
 use borrow.Author.Needs.{needs}
-use lib.ListN.{length, getD, length-set}
-use Rattle.simulation.specs.Table.{weights, targets}
-use Rattle.table.specs.Form.{Loaded, transitions-of, transition-at}
-use Rattle.table.proofs.FormLaws.{limited-at, limits, distribution-at, targets-length, weights-length}
+use lib.ListN.{getD, length-set}
 use Rattle.buffer.specs.Buffer.{over}
 use Rattle.witness.specs.Writing.{entry-bytes}
 use Rattle.buffer.proofs.Buffer.{start, store, finish}
+use Rattle.witness.proofs.Places.{place-small, in-targets, in-weights, target-byte}
 use Rattle.witness.proofs.tree.put_entry.Statement.{statement}
 use Rattle.witness.proofs.tree.put_entry.Tie as tie
-
--- a place of a transition
-module _ (f : List ℕ) (j i : ℕ) (l : Loaded f) (h : j < transitions-of f) (lt : i < length (transition-at f j .entries)) where
-  place-small : i < 64
-  place-small = omega (arith, limited-at f l j h .few, weights-length (transition-at f j))
-
-  in-targets : (ts : List ℕ) → ts ≡ targets (transition-at f j) → i < length ts
-  in-targets ts e = omega (arith, ap length e, targets-length (transition-at f j))
-
-  in-weights : (ws : List ℕ) → ws ≡ weights (transition-at f j) → i < length ws
-  in-weights ws e = omega (arith, ap length e, weights-length (transition-at f j))
-
-  target-small : (ts : List ℕ) → ts ≡ targets (transition-at f j) → getD ts i 0 < 64
-  target-small ts e = omega (arith, ap (λ (l : List ℕ). getD l i 0) e, distribution-at f l j h .in-range i lt, limits f l .states-few)
 
 targets-requires : tie.Need-targets-requires
 targets-requires c κs = search needs
 
 mul-target : tie.Need-mul-target
-mul-target c = let k = c .before .before .before in let p = k .pre in record { fits = omega (arith, place-small (k .args .first .now) (k .args .j) (k .args .i) (p .0) (p .1) (p .2)) }
+mul-target c = let entry = c .before .before .before in let p = entry .pre in record { fits = omega (arith, place-small (entry .args .first .now) (entry .args .j) (p .0) (p .1) (entry .args .i) (p .2)) }
 
 shared-slice-read-target : tie.Need-shared-slice-read-target
 shared-slice-read-target c =
     let entry = c .before .before .before .before in
     let p = entry .pre in
-    in-targets (entry .args .first .now) (entry .args .j) (entry .args .i) (p .0) (p .1) (p .2) _ (c .before .targets .ensures)
+    in-targets (entry .args .first .now) (entry .args .j) (p .0) (p .1) (entry .args .i) (p .2) _ (c .before .targets .ensures)
 
 weights-requires : tie.Need-weights-requires
 weights-requires c κs = search needs
 
 mul-weight : tie.Need-mul-weight
-mul-weight c = let k = c .before .before .before .before .before in let p = k .pre in record { fits = omega (arith, place-small (k .args .first .now) (k .args .j) (k .args .i) (p .0) (p .1) (p .2)) }
+mul-weight c = let entry = c .before .before .before .before .before in let p = entry .pre in record { fits = omega (arith, place-small (entry .args .first .now) (entry .args .j) (p .0) (p .1) (entry .args .i) (p .2)) }
 
 shared-slice-read-weight : tie.Need-shared-slice-read-weight
 shared-slice-read-weight c =
     let entry = c .before .before .before .before .before .before in
     let p = entry .pre in
-    in-weights (entry .args .first .now) (entry .args .j) (entry .args .i) (p .0) (p .1) (p .2) _ (c .before .weights .ensures)
+    in-weights (entry .args .first .now) (entry .args .j) (p .0) (p .1) (entry .args .i) (p .2) _ (c .before .weights .ensures)
 
 cast-buf : tie.Need-cast-buf
 cast-buf c =
     let at-targets = c .before .before .before in
     let entry = at-targets .before .before .before in
     let p = entry .pre in
-    record { fits = omega (arith, target-small (entry .args .first .now) (entry .args .j) (entry .args .i) (p .0) (p .1) (p .2) _ (at-targets .targets .ensures)) }
+    record { fits = omega (arith, target-byte (entry .args .first .now) (entry .args .j) (p .0) (p .1) (entry .args .i) (p .2) _ (at-targets .targets .ensures)) }
 
 slice-write-buf : tie.Need-slice-write-buf
 slice-write-buf c = search needs
 
 cast-buf-2 : tie.Need-cast-buf-2
-cast-buf-2 c = search needs
+cast-buf-2 c =
+    let entry = c .before .before .before .before .before .before in
+    record { fits = omega (arith, c .shared-slice-known3 .given (entry .args .i)) }
 
 slice-write-buf-2 : tie.Need-slice-write-buf-2
 slice-write-buf-2 c = rw length-set (omega arith)
 
 cast-buf-3 : tie.Need-cast-buf-3
-cast-buf-3 c = record {
-  fits =
-      let entry = c .before .before .before .before .before .before in
-      omega (arith, c .shared-slice-known3 .given (entry .args .i));
-}
+cast-buf-3 c =
+    let entry = c .before .before .before .before .before .before in
+    record { fits = omega (arith, c .shared-slice-known3 .given (entry .args .i)) }
 
 slice-write-buf-3 : tie.Need-slice-write-buf-3
 slice-write-buf-3 c = search needs
@@ -83,7 +67,7 @@ cast-result c =
     let at-targets = c .before .before .before in
     let entry = at-targets .before .before .before in
     let p = entry .pre in
-    record { fits = omega (arith, target-small (entry .args .first .now) (entry .args .j) (entry .args .i) (p .0) (p .1) (p .2) _ (at-targets .targets .ensures)) }
+    record { fits = omega (arith, target-byte (entry .args .first .now) (entry .args .j) (p .0) (p .1) (entry .args .i) (p .2) _ (at-targets .targets .ensures)) }
 
 same-length : tie.Need-same-length
 same-length c = search needs
