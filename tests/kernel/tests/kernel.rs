@@ -88,12 +88,16 @@ fn zigzags() {
     }
 }
 
+// The best of many tries: whatever else the machine is doing only adds.
 fn time_of(problem: &Problem) -> Duration {
-    let start = Instant::now();
-    for _ in 0..2_000 {
-        problem.by_kernel();
-    }
-    start.elapsed()
+    let tries = (0..40).map(|_| {
+        let start = Instant::now();
+        for _ in 0..50 {
+            problem.by_kernel();
+        }
+        start.elapsed()
+    });
+    tries.min().unwrap()
 }
 
 // Augmentations are bounded by the targets, not by the amounts: with amounts 1,600 times as large the time stays within a
@@ -102,7 +106,7 @@ fn time_of(problem: &Problem) -> Duration {
 fn work_does_not_grow_with_the_amounts() {
     for pairs in [1, 5, 20] {
         let (small, large) = (time_of(&zigzag(pairs, 10)), time_of(&zigzag(pairs, 16_000)));
-        assert!(large < 20 * small + Duration::from_millis(5), "{small:?} {large:?}");
+        assert!(large < 20 * small + Duration::from_millis(1), "{small:?} {large:?}");
     }
 }
 
