@@ -1,5 +1,4 @@
 //! Calls the library on one input of podcheck's, all buffers on the heap, so that the stack is the library's own.
-//! With the word "idle" as first argument everything is done but the call.
 
 use std::io::Read;
 
@@ -36,26 +35,24 @@ fn main() {
     let mut flow = vec![0u8; 196_993];
     let mut tree = vec![0u8; 65_535];
     let mut answer = vec![0u32; 8];
-    if std::env::args().nth(1).as_deref() != Some("idle") {
-        // SAFETY: every pointer is good for the length beside it, and the buffers do not overlap.
-        unsafe {
-            pod_check(
-                first.as_ptr(),
-                first.len(),
-                second.as_ptr(),
-                second.len(),
-                0,
-                0,
-                ranks.as_mut_ptr(),
-                ranks.len(),
-                flow.as_mut_ptr(),
-                flow.len(),
-                tree.as_mut_ptr(),
-                tree.len(),
-                answer.as_mut_ptr(),
-                answer.len(),
-            );
-        }
+    // SAFETY: every pointer is good for the length beside it, and the buffers do not overlap.
+    unsafe {
+        pod_check(
+            first.as_ptr(),
+            first.len(),
+            second.as_ptr(),
+            second.len(),
+            0,
+            0,
+            ranks.as_mut_ptr(),
+            ranks.len(),
+            flow.as_mut_ptr(),
+            flow.len(),
+            tree.as_mut_ptr(),
+            tree.len(),
+            answer.as_mut_ptr(),
+            answer.len(),
+        );
     }
     println!("{answer:?}");
 }
