@@ -17,6 +17,10 @@ unfoldable pub total : List ℕ → ℕ
 unfolding sum
 total ws = sum (length ws) (weight ws)
 
+-- no weight is zero
+abbrev pub Positive : List ℕ → Type 0
+Positive ws = (i : ℕ) → i < length ws → 0 < weight ws i
+
 abbrev pub Amounts : Type 0
 Amounts = ℕ → ℕ → ℕ
 

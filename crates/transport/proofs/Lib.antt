@@ -8,3 +8,5 @@ pub mod SearchLaws
 pub mod StartLaws
 pub mod Certificate
 pub mod PushLaws
+pub mod GreedyLaws
+pub mod QuickLaws

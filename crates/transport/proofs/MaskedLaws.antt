@@ -11,7 +11,7 @@ use lib.Dec.{eqb}
 use lib.ListN.{length, getD, set, replicate, length-replicate, getD-replicate, List·getD-eq-default}
 use lib.Seq.{getD-set-same, getD-set-other}
 use borrow.Author.Tests.{eq-eqb, ne-eqb, eqb-true, eqb-false}
-use Rattle.relation.specs.Mask.{Test, member, with-member, without-member, both, except, either, Lowest}
+use Rattle.relation.specs.Mask.{Test, member, with-member, without-member, both, except, either}
 use Rattle.relation.proofs.Mask.{member-none, lowest-of, below-or-not}
 use Rattle.transport.specs.Answer.{cell, relates}
 use Rattle.transport.specs.Matrix.{Adds}
@@ -197,10 +197,6 @@ noted {x} users m {i} {j} {v} h e c = record {
   here = ap member (getD-set-same users j m 0 h) ∙ c ∙ ap (λ (n : ℕ). put i n (member (getD users j 0))) (sym e);
   other = λ k o. getD-set-other users j k m 0 o;
 }
-
--- what is left after the lowest member is a part
-pub rest-part : (m r : ℕ) → m < 2 ^ 64 → 0 < m → ((t : ℕ) → Lowest (member m) t → member r ≡ without-member t (member m)) → (j : ℕ) → member r j ≡ true → member m j ≡ true
-rest-part m r b h e j t = let l = lowest-of 64 m b h in drop-at (member m) _ j (e _ (l .1)) t .0
 
 -- a user is a row, and has a column
 pub user-column : {p q : ℕ} {x users : List ℕ} → Used p q x users → (i j : ℕ) → relates users j i ≡ true → j < q

@@ -13,7 +13,7 @@ use lib.ListN.{length, getD, set}
 use lib.Seq.{getD-set-same, getD-set-other}
 use borrow.Author.Tests.{eq-eqb, ne-eqb}
 use Rattle.simulation.specs.Sum.{sum, when}
-use Rattle.simulation.proofs.Finite.Sums.{sum-ext, sum-add, sum-term, sum-pick}
+use Rattle.simulation.proofs.Finite.Sums.{sum-ext, sum-zero, sum-add, sum-term, sum-pick}
 use Rattle.transport.specs.Answer.{cell, Outside}
 use Rattle.transport.specs.Matrix.{delta, row-sum, column-sum, AddsAt, Adds}
 
@@ -83,6 +83,9 @@ delta-place i j i′ j′ d h h′ = elim (ℕ-discrete i i′) [
 pub adds : {x y : List ℕ} (i j : ℕ) {d : ℕ} → j < 64 → AddsAt x y (i * 64 + j) d → Adds x y i j d
 adds {x} {y} i j {d} h a = record { more = λ i′ j′ h′. a .more (i′ * 64 + j′) ∙ ap (λ (m : ℕ). cell x i′ j′ + m) (delta-place i j i′ j′ d h h′) }
 
+pub adds-is : {x y : List ℕ} {i j d d′ : ℕ} → d ≡ d′ → Adds x y i j d → Adds x y i j d′
+adds-is {x} {y} {i} {j} e a = subst (λ (d : ℕ). Adds x y i j d) e a
+
 module _ (p q : ℕ) {x y : List ℕ} {i j d : ℕ} (w : q ≤ 64) (a : Adds x y i j d) where
   pub row-adds : j < q → (i′ : ℕ) → row-sum q y i′ ≡ row-sum q x i′ + delta i i′ d
   unfolding row-sum
@@ -97,6 +100,23 @@ module _ (p q : ℕ) {x y : List ℕ} {i j d : ℕ} (w : q ≤ 64) (a : Adds x y
       sum-ext p (λ i′. cell y i′ j′) (λ i′. cell x i′ j′ + delta i i′ (delta j j′ d)) (λ i′ m. a .more i′ j′ (omega arith))
       ∙ sum-add p (λ i′. cell x i′ j′) (λ i′. delta i i′ (delta j j′ d))
       ∙ ap (λ (m : ℕ). sum p (λ i′. cell x i′ j′) + m) (sum-delta p i (delta j j′ d) h)
+
+-- sums of equal cells, and of none
+pub row-same : (n i : ℕ) (x y : List ℕ) → ((j : ℕ) → j < n → cell y i j ≡ cell x i j) → row-sum n y i ≡ row-sum n x i
+unfolding row-sum
+row-same n i x y h = sum-ext n (λ j. cell y i j) (λ j. cell x i j) h
+
+pub column-same : (n j : ℕ) (x y : List ℕ) → ((i : ℕ) → i < n → cell y i j ≡ cell x i j) → column-sum n y j ≡ column-sum n x j
+unfolding column-sum
+column-same n j x y h = sum-ext n (λ i. cell y i j) (λ i. cell x i j) h
+
+pub row-none : (n i : ℕ) (x : List ℕ) → ((j : ℕ) → j < n → cell x i j ≡ 0) → row-sum n x i ≡ 0
+unfolding row-sum
+row-none n i x h = sum-ext n (λ j. cell x i j) (λ j. 0) h ∙ sum-zero n
+
+pub column-none : (n j : ℕ) (x : List ℕ) → ((i : ℕ) → i < n → cell x i j ≡ 0) → column-sum n x j ≡ 0
+unfolding column-sum
+column-none n j x h = sum-ext n (λ i. cell x i j) (λ i. 0) h ∙ sum-zero n
 
 pub cell-le : (q : ℕ) (x : List ℕ) (i j : ℕ) → j < q → cell x i j ≤ row-sum q x i
 unfolding row-sum

@@ -1,9 +1,10 @@
 -- One path found by the search: how much it carries, and the flow after the move.
 -- Assumes nothing.
-use mathlib.Core.Path.{_≡_, ap, subst⁻¹}
+use mathlib.Core.Path.{_≡_, ap, ap₂, _∙_, subst, subst⁻¹}
 use mathlib.Core.Bool.{true}
 use mathlib.Core.List.{List}
-use Prim.Native.Nat.{ℕ, _≤_, _<_, min}
+use Prim.Native.Nat.{ℕ, _+_, _≤_, _<_, min}
+use native.Mathlib.Numerals.{add-one}
 use native.Mathlib.Omega.{arith}
 use lib.ListN.{length, getD}
 use Rattle.relation.specs.Mask.{Test, member, both, Lowest}
@@ -13,6 +14,7 @@ use Rattle.transport.specs.Masks.{MaskOf}
 use Rattle.transport.specs.Flow.{missing, Flow, Extends, Improves}
 use Rattle.transport.specs.Search.{Room, Reaches}
 use Rattle.transport.specs.Path.{root, carried, Safe, Movable, Moved}
+use Rattle.transport.specs.Paths.{Augments, Augmented}
 use Rattle.transport.proofs.MaskedLaws.{both-at, both-in, not-zero, user-row}
 use Rattle.transport.proofs.FlowLaws.{improved, missing-falls}
 use Rattle.transport.proofs.PathLaws.{Tree, Walk, Carries, carries-of, tree-of, tree-safe, tree-root, tree-carries, walk-start, movable, moved}
@@ -78,7 +80,16 @@ module _ {p q : ℕ} {rel x a b users from via : List ℕ} {short free : ℕ} {S
 
         pub pushed : {x′ a′ b′ users′ : List ℕ} {short′ free′ : ℕ} → Moved from via d depth r j x users x′ users′ → length x′ ≡ length x → length a′ ≡ length a → length b′ ≡ length b → length users′ ≡ length users
             → AddsAt a′ a i d → AddsAt b′ b j d → MaskOf p (λ k. getD a′ k 0) short′ → MaskOf q (λ k. getD b′ k 0) free′
-            → Improves p q rel x a b users x′ a′ b′ users′ × (missing q b′ < missing q b) × MaskOf p (λ k. getD a′ k 0) short′ × MaskOf q (λ k. getD b′ k 0) free′
-        pushed {x′} mv lx la lb lu s u v v′ =
+            → Improves p q rel x a b users x′ a′ b′ users′ × Augments p q rel x a b users x′ a′ b′ users′ × (missing q b′ < missing q b) × MaskOf p (λ k. getD a′ k 0) short′ × MaskOf q (λ k. getD b′ k 0) free′
+        pushed {x′} {a′} {b′} {users′} mv lx la lb lu s u v v′ =
             let w = moved p q rel x a from via (f .sized .few-columns) walk (f .used) mv in
-            (improved f lx la lb lu (subst⁻¹ (λ (n : ℕ). Extends p q rel x x′ n j d) ei (w .0)) s u (w .1), omega (arith, missing-falls path-free u, positive), v, v′)
+            (improved f lx la lb lu (subst⁻¹ (λ (n : ℕ). Extends p q rel x x′ n j d) ei (w .0)) s u (w .1), augments, omega (arith, missing-falls path-free u, positive), v, v′)
+          where
+            augments : Augments p q rel x a b users x′ a′ b′ users′
+            augments = record { short = short; free = free; from = from; via = via; reached = S; r = r; depth = depth; c = j; d = d; rows = rows; columns = columns; found = t; related = at .0; is-free = at .1; most = ed ∙ ap₂ min ec left-root; moved = mv; sent = subst (λ (n : ℕ). AddsAt a′ a n d) ei s; taken = u }
+
+-- one path more, as the loop counts
+pub augmented-next : {p q n : ℕ} {rel x a b u x′ a′ b′ u′ x″ a″ b″ u″ : List ℕ} → Augmented p q rel n x a b u x′ a′ b′ u′ → Augments p q rel x′ a′ b′ u′ x″ a″ b″ u″
+    → Augmented p q rel (n + 1) x a b u x″ a″ b″ u″
+augmented-next {p} {q} {n} {rel} {x} {a} {b} {u} {x″ = x″} {a″ = a″} {b″ = b″} {u″ = u″} s t =
+    subst⁻¹ (λ (m : ℕ). Augmented p q rel m x a b u x″ a″ b″ u″) (add-one n) (Augmented.more s t)

@@ -14,9 +14,9 @@ use lib.Seq.{getD-set-same, getD-set-other}
 use Rattle.simulation.specs.Sum.{sum, when}
 use Rattle.simulation.proofs.Finite.Sums.{sum-mono, sum-strict, when-not, one-less, members-most}
 use Rattle.relation.specs.Mask.{Test, member, without-member, both, except, either, Lowest}
-use Rattle.relation.proofs.Mask.{member-none, member-below}
+use Rattle.relation.proofs.Mask.{member-none, member-below, below-or-not}
 use Rattle.transport.specs.Answer.{relates}
-use Rattle.transport.specs.Search.{Room, Linked, Grows, Spread, Closed, Levelled, HitOf, Forest, SearchOf}
+use Rattle.transport.specs.Search.{Room, Linked, Grows, Spread, Closed, Levelled, Hit, HitOf, Forest, Walk, SearchOf}
 use Rattle.transport.proofs.MaskedLaws.{true-or-false, neither, both-at, both-out, except-at, except-out, either-at, either-left, either-right, drop-at, drop-out, some-member, no-members}
 
 -- the rows of `new` but those left are linked
@@ -199,7 +199,7 @@ hitting-found {rel} {free} {r = r} m h b s l e n = record {
 pub hitting-end : {rel : List ℕ} {free F left : ℕ} → left ≡ 0 → Hitting rel free F left → HitOf rel free (member F) 64
 hitting-end z s = record { found = λ h. absurd (omega arith); none = λ _ i j h u. s .none i j h (no-members z i) u }
 
--- S is reached, the rows of F last; the others have gone to all their columns and have no free one
+-- S is reached, the rows of F last, in `depth` steps and no fewer; the others have gone to all their columns and have no free one
 pub record Frontier (rel users : List ℕ) (short free : ℕ) (from via : List ℕ) (S F seen depth : ℕ) : Type 0 where
   pub rank : ℕ → ℕ
   pub forest : Forest rel users short from via (member S) rank
@@ -209,9 +209,11 @@ pub record Frontier (rel users : List ℕ) (short free : ℕ) (from via : List �
   pub closed : Closed users (member seen) (member S)
   pub gone : (i j : ℕ) → member S i ≡ true → member F i ≡ false → relates rel i j ≡ true → member seen j ≡ true
   pub shut : (i j : ℕ) → member S i ≡ true → member F i ≡ false → relates rel i j ≡ true → member free j ≡ false
+  pub near : (k i : ℕ) → Walk rel users short k i → k ≤ depth → member S i ≡ true
+  pub nearer : (k i : ℕ) → Walk rel users short k i → k < depth → member F i ≡ false
 
 pub frontier-none : {rel users : List ℕ} {short free : ℕ} {from via : List ℕ} → Frontier rel users short free from via short short 0 0
-frontier-none = record {
+frontier-none {rel} {users} {short} = record {
   rank = λ i. 0;
   forest = record { root = λ i h e. h; before = λ i k h e. absurd (omega arith); lower = λ i k h e. absurd (omega arith); related = λ i k h e. absurd (omega arith); user = λ i k h e. absurd (omega arith) };
   starts = λ i h. h;
@@ -220,7 +222,13 @@ frontier-none = record {
   closed = record { users-in = λ i j h. absurd (neither h (member-none j)) };
   gone = λ i j h l. absurd (neither h l);
   shut = λ i j h l. absurd (neither h l);
+  near = λ k i w l. none-near w l;
+  nearer = λ k i w l. absurd (omega arith);
 }
+  where
+    none-near : {k i : ℕ} → Walk rel users short k i → k ≤ 0 → member short i ≡ true
+    none-near (Walk.here m) l = m
+    none-near (Walk.step i′ j w r u) l = absurd (omega arith)
 
 module _ {rel users : List ℕ} {short free : ℕ} {from via from′ via′ : List ℕ} {S F seen depth r : ℕ} (S′ F′ seen′ : ℕ) (s : Frontier rel users short free from via S F seen depth)
     (h : HitOf rel free (member F) r) (o : 64 ≤ r) (l : Levelled rel users (member F) (member seen) (member seen′) (member S) (member S′) from via from′ via′)
@@ -261,6 +269,17 @@ module _ {rel users : List ℕ} {short free : ℕ} {from via from′ via′ : Li
   was-in : (i : ℕ) → member S′ i ≡ true → member F′ i ≡ false → member S i ≡ true
   was-in i m n = ⊎-elim (λ c. c) (λ c. absurd (neither m c)) (except-out (member S′) (member S) i e n)
 
+  -- a walk of one step more ends in a row of S′: its last step leaves a row of S
+  next-near : {k i : ℕ} → Walk rel users short k i → k ≤ depth + 1 → member S′ i ≡ true
+  next-near (Walk.here m) g = l .grows .kept _ (s .starts _ m)
+  next-near (Walk.step {i = i} i′ j w u v) g =
+      let m = s .near _ i w (omega arith) in
+      l .closed .users-in i′ j (⊎-elim (λ f. l .all i j f u) (λ f. l .still j (s .gone i j m f u)) (true-or-false (member F i))) v
+
+  -- and a walk of fewer ends in one of S, which is not new
+  next-nearer : (k i : ℕ) → Walk rel users short k i → k < depth + 1 → member F′ i ≡ false
+  next-nearer k i w g = ⊎-elim (λ f. absurd (neither (s .near k i w (omega arith)) (except-at (member S′) (member S) i e f .1))) (λ f. f) (true-or-false (member F′ i))
+
   pub frontier-next : Frontier rel users short free from′ via′ S′ F′ seen′ (depth + 1)
   frontier-next = record {
     rank = new-rank;
@@ -271,12 +290,20 @@ module _ {rel users : List ℕ} {short free : ℕ} {from via from′ via′ : Li
     closed = l .closed;
     gone = λ i j m n u. let c = was-in i m n in ⊎-elim (λ f. l .all i j f u) (λ f. l .still j (s .gone i j c f u)) (true-or-false (member F i));
     shut = λ i j m n u. let c = was-in i m n in ⊎-elim (λ f. h .none o i j f u) (λ f. s .shut i j c f u) (true-or-false (member F i));
+    near = λ k i w g. next-near w g;
+    nearer = next-nearer;
   }
+
+-- a shorter walk ends in a row of S outside F, and none of those has a free column
+frontier-shortest : {rel users : List ℕ} {short free : ℕ} {from via : List ℕ} {S F seen depth : ℕ} → Frontier rel users short free from via S F seen depth
+    → (k i : ℕ) → Walk rel users short k i → Hit rel free i → depth ≤ k
+frontier-shortest {depth = depth} s k i w h =
+    ⊎-elim (λ l. absurd (neither (h .is-free) (s .shut i (h .column) (s .near k i w (omega arith)) (s .nearer k i w l) (h .related)))) (λ l. l) (below-or-not k depth)
 
 pub frontier-found : {rel users : List ℕ} {short free : ℕ} {from via : List ℕ} {S F seen depth r : ℕ} → Frontier rel users short free from via S F seen depth → HitOf rel free (member F) r → r < 64
     → SearchOf rel users short free from via (member S) r depth
 frontier-found s h l = record {
-  found = λ _. let w = h .found l in record { rank = s .rank; forest = s .forest; inside = s .inside _ (w .0); deep = s .deep _ (w .0); hit = w .1 };
+  found = λ _. let w = h .found l in record { rank = s .rank; forest = s .forest; inside = s .inside _ (w .0); deep = s .deep _ (w .0); hit = w .1; shortest = frontier-shortest s };
   none = λ g. absurd (omega arith);
 }
 

@@ -3,19 +3,18 @@
 use mathlib.Core.Path.{_≡_, refl, sym, _∙_, subst}
 use mathlib.Core.List.{List}
 use Prim.Native.Nat.{ℕ, _+_, _*_, _≤_, _<_, _^_}
-use native.Mathlib.Nat.{mul-le-mul-right, mul-le-mul-left}
+use native.Mathlib.Nat.{mul-comm, mul-le-mul-right, mul-le-mul-left}
 use native.Mathlib.Decide.{ℕ-discrete}
 use native.Mathlib.Omega.{arith}
 use lib.ListN.{length, getD, set}
 use lib.Seq.{getD-set-same, getD-set-other}
-use Rattle.simulation.specs.Sum.{sum}
 use Rattle.simulation.specs.Fit.{weight, total}
-use Rattle.simulation.proofs.Finite.Sums.{sum-ext, sum-zero, sum-term}
+use Rattle.simulation.proofs.Finite.Sums.{sum-mono, sum-mul, sum-term}
 use Rattle.transport.specs.Answer.{cell, Given}
 use Rattle.transport.specs.Matrix.{row-sum, column-sum}
-use Rattle.transport.specs.Flow.{Flow, Preserves}
+use Rattle.transport.specs.Flow.{missing, Flow, Preserves}
 use Rattle.transport.specs.Start.{Supplies, RowCleared, Cleared, Begun, Balanced}
-use Rattle.transport.proofs.MatrixLaws.{outside-refl}
+use Rattle.transport.proofs.MatrixLaws.{row-none, column-none, outside-refl}
 use Rattle.transport.proofs.MaskedLaws.{mask-zero}
 
 pub supplies-none : {ws a : List ℕ} {other : ℕ} → Supplies ws other 0 a
@@ -74,17 +73,12 @@ cleared-next {i} {q} {x} {y} {z} w s t = record {
 pub cleared-end : {n m q : ℕ} {x y : List ℕ} → n ≡ m → Cleared n q x y → Cleared m q x y
 cleared-end {q = q} {x = x} {y = y} e s = subst (λ (n : ℕ). Cleared n q x y) e s
 
-none-of : (n : ℕ) (f : ℕ → ℕ) → ((k : ℕ) → k < n → f k ≡ 0) → sum n f ≡ 0
-none-of n f h = sum-ext n f (λ k. 0) h ∙ sum-zero n
-
 module _ {ws vs x₀ x a b : List ℕ} (s : Begun ws vs x₀ x a b) where
   no-row : (i : ℕ) → i < length ws → row-sum (length vs) x i ≡ 0
-  unfolding row-sum
-  no-row i h = none-of (length vs) (λ j. cell x i j) (λ j l. s .cleared .zero i j h l)
+  no-row i h = row-none (length vs) i x (λ j l. s .cleared .zero i j h l)
 
   no-column : (j : ℕ) → j < length vs → column-sum (length ws) x j ≡ 0
-  unfolding column-sum
-  no-column j h = none-of (length ws) (λ i. cell x i j) (λ i l. s .cleared .zero i j l h)
+  no-column j h = column-none (length ws) j x (λ i l. s .cleared .zero i j l h)
 
   -- nothing is sent
   pub begun : {rel : List ℕ} (users : List ℕ) → Given ws vs rel x₀ → length x ≡ length x₀ → length ws ≤ length a → length vs ≤ length b → 64 ≤ length users
@@ -101,3 +95,13 @@ module _ {ws vs x₀ x a b : List ℕ} (s : Begun ws vs x₀ x a b) where
     sent = λ i h. omega (arith, k .sent i h, no-row i h, s .supplies .supply i h);
     taken = λ j h. omega (arith, k .taken j h, no-column j h, s .demands .supply j h);
   }
+
+-- what the columns lack fits 32 bits
+pub missing-fits : {ws vs rel x₀ x a b : List ℕ} → Given ws vs rel x₀ → Balanced ws vs x a b → missing (length vs) b < 2 ^ 32
+unfolding missing total
+missing-fits {ws} {vs} {b = b} g k = omega (
+  arith,
+  supply-fits (total ws) (total vs) (g .total-ws) (g .total-vs),
+  sum-mono (length vs) (λ j. getD b j 0) (λ j. total ws * weight vs j) (λ j h. omega (arith, k .taken j h, mul-comm (weight vs j) (total ws))),
+  sum-mul (length vs) (total ws) (weight vs),
+)

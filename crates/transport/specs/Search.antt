@@ -4,7 +4,7 @@
 use mathlib.Core.Path.{_≡_}
 use mathlib.Core.Bool.{true, false}
 use mathlib.Core.List.{List}
-use Prim.Native.Nat.{ℕ, suc, _≤_, _<_}
+use Prim.Native.Nat.{ℕ, zero, suc, _≤_, _<_}
 use lib.ListN.{length, getD}
 use Rattle.relation.specs.Mask.{Test, member}
 use Rattle.transport.specs.Answer.{relates}
@@ -68,13 +68,19 @@ pub record Forest (rel users : List ℕ) (short : ℕ) (from via : List ℕ) (S 
   pub related : (i k : ℕ) → S i ≡ true → rank i ≡ suc k → relates rel (getD from i 0) (getD via i 0) ≡ true
   pub user : (i k : ℕ) → S i ≡ true → rank i ≡ suc k → relates users (getD via i 0) i ≡ true
 
--- a shortest path of `depth` steps from a short row to row r, which has a free column
+-- row i is k steps from a short row: a step goes from a row to a column that it is related to, and on to a user of the column
+pub data Walk (rel users : List ℕ) (short : ℕ) : (k i : ℕ) → Type 0 where
+  here : {i : ℕ} → member short i ≡ true → Walk rel users short zero i
+  step : {k i : ℕ} (i′ j : ℕ) → Walk rel users short k i → relates rel i j ≡ true → relates users j i′ ≡ true → Walk rel users short (suc k) i′
+
+-- a path of `depth` steps from a short row to row r, which has a free column; no walk to such a row is shorter
 pub record Reaches (rel users : List ℕ) (short free : ℕ) (from via : List ℕ) (S : Test) (r depth : ℕ) : Type 0 where
   pub rank : ℕ → ℕ
   pub forest : Forest rel users short from via S rank
   pub inside : S r ≡ true
   pub deep : rank r ≡ depth
   pub hit : Hit rel free r
+  pub shortest : (k i : ℕ) → Walk rel users short k i → Hit rel free i → depth ≤ k
 
 -- no path: S has the short rows, is closed, and no row of it has a free column
 pub record Stuck (rel users : List ℕ) (short free : ℕ) (from via : List ℕ) (S : Test) : Type 0 where

@@ -1,12 +1,19 @@
-//! The flow kernel, problems for it, and two other ways to the answer: all subsets, and a maximum flow of its own.
+//! The flow kernel, problems for it, two other ways to the answer, all subsets and a maximum flow of its own, and a flow
+//! that grows along depth-first paths.
 
 extern "C" {
     fn transport_flow(m: *const u16, p: usize, n: *const u16, q: usize, rel: *const u64, rows: usize, x: *mut u32, cells: usize) -> u64;
+    fn transport_paths(m: *const u16, p: usize, n: *const u16, q: usize, rel: *const u64, rows: usize, x: *mut u32, cells: usize) -> u32;
 }
 
 pub fn flow(m: &[u16], n: &[u16], rel: &[u64], x: &mut [u32]) -> u64 {
     // SAFETY: pointers and lengths of slices that outlive the call.
     unsafe { transport_flow(m.as_ptr(), m.len(), n.as_ptr(), n.len(), rel.as_ptr(), rel.len(), x.as_mut_ptr(), x.len()) }
+}
+
+pub fn paths(m: &[u16], n: &[u16], rel: &[u64], x: &mut [u32]) -> u32 {
+    // SAFETY: as above.
+    unsafe { transport_paths(m.as_ptr(), m.len(), n.as_ptr(), n.len(), rel.as_ptr(), rel.len(), x.as_mut_ptr(), x.len()) }
 }
 
 pub struct Random(pub u64);
@@ -136,6 +143,102 @@ impl Problem {
             assert!(if cut == 0 { columns[j] == whole } else { columns[j] <= whole }, "column {j}: {self:?}");
         }
         Right { sent: rows.iter().sum(), cut }
+    }
+
+    /// The augmenting paths that the kernel takes; the flow is the same as without counting them.
+    pub fn paths(&self) -> usize {
+        let (mut x, mut y) = (vec![0; 4096], vec![0; 4096]);
+        flow(&self.m, &self.n, &self.rel, &mut x);
+        let count = paths(&self.m, &self.n, &self.rel, &mut y);
+        assert_eq!(x, y, "{self:?}");
+        count as usize
+    }
+
+    /// What a flow sends that grows along depth-first paths, and how many it takes. It starts as the kernel does.
+    pub fn by_depth(&self) -> (u64, usize) {
+        let mut depth = Depth::start(self);
+        let mut count = 0;
+        loop {
+            let before = count;
+            for i in 0..self.m.len() {
+                count += (depth.a[i] > 0 && depth.augment(i)) as usize;
+            }
+            if count == before {
+                return (depth.x.iter().flatten().sum(), count);
+            }
+        }
+    }
+}
+
+// A flow, what each row and column has left, and the rows and columns of the path so far or behind it.
+struct Depth<'a> {
+    problem: &'a Problem,
+    x: Vec<Vec<u64>>,
+    a: Vec<u64>,
+    b: Vec<u64>,
+    rows: Vec<bool>,
+    columns: Vec<bool>,
+}
+
+impl Depth<'_> {
+    fn start(problem: &Problem) -> Depth<'_> {
+        let (t, u) = (total(&problem.m), total(&problem.n));
+        let mut a: Vec<u64> = problem.m.iter().map(|&w| w as u64 * u).collect();
+        let mut b: Vec<u64> = problem.n.iter().map(|&w| w as u64 * t).collect();
+        let mut x = vec![vec![0; b.len()]; a.len()];
+        for i in 0..a.len() {
+            for j in (0..b.len()).filter(|&j| problem.related(i, j)) {
+                let d = a[i].min(b[j]);
+                x[i][j] = d;
+                a[i] -= d;
+                b[j] -= d;
+            }
+        }
+        Depth { problem, x, a, b, rows: Vec::new(), columns: Vec::new() }
+    }
+
+    fn augment(&mut self, root: usize) -> bool {
+        self.rows = vec![false; self.a.len()];
+        self.columns = vec![false; self.b.len()];
+        let sent = self.send(root, self.a[root]);
+        self.a[root] -= sent;
+        sent > 0
+    }
+
+    // The first related column that is free, or whose first user can send on, takes as much as the whole path carries.
+    fn send(&mut self, i: usize, most: u64) -> u64 {
+        self.rows[i] = true;
+        for j in 0..self.b.len() {
+            if self.columns[j] || !self.problem.related(i, j) {
+                continue;
+            }
+            self.columns[j] = true;
+            let sent = self.take(j, most);
+            if sent > 0 {
+                self.x[i][j] += sent;
+                return sent;
+            }
+        }
+        0
+    }
+
+    fn take(&mut self, j: usize, most: u64) -> u64 {
+        if self.b[j] > 0 {
+            let sent = most.min(self.b[j]);
+            self.b[j] -= sent;
+            return sent;
+        }
+        for k in 0..self.a.len() {
+            if self.rows[k] || self.x[k][j] == 0 {
+                continue;
+            }
+            let sent = self.send(k, most.min(self.x[k][j]));
+            if sent > 0 {
+                self.x[k][j] -= sent;
+                return sent;
+            }
+        }
+        0
     }
 }
 

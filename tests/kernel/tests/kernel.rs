@@ -1,10 +1,13 @@
-//! The flow kernel against all subsets and against a maximum flow of its own, at the limits, and on problems made to be slow.
+//! The flow kernel against all subsets and against a maximum flow of its own, at the limits, and on problems made to be slow,
+//! where its augmenting paths are counted.
 
-use kernel_tests::{flow, total, Problem, Random, Right};
-use std::time::{Duration, Instant};
+use kernel_tests::{flow, paths, total, Problem, Random, Right};
 
+// The kernel is right, and takes no more augmenting paths than there are targets.
 fn agree(problem: &Problem, right: Right) {
     assert_eq!(problem.by_kernel(), right, "{problem:?}");
+    let (paths, targets) = (problem.paths(), problem.m.len() + problem.n.len());
+    assert!(paths <= targets, "{paths} paths: {problem:?}");
 }
 
 #[test]
@@ -23,7 +26,7 @@ fn ten_thousand_problems_against_all_subsets() {
 #[test]
 fn up_to_64_targets_against_a_network() {
     let mut random = Random(0xfeed_beef_cafe_f00d);
-    for k in 0..2_000 {
+    for k in 0..10_000 {
         let rows = if k % 4 == 0 { 64 } else { 1 + random.below(64) as usize };
         let columns = if k % 4 == 0 { 64 } else { 1 + random.below(64) as usize };
         let percent = [1, 2, 3, 5, 10, 30, 100][random.below(7) as usize];
@@ -62,51 +65,65 @@ fn long_paths() {
     }
 }
 
-// Two large flows joined by a narrow pair, as often as `pairs` says: paths that are not shortest would go back and forth
-// over it, one unit a time.
-fn zigzag(pairs: usize, large: u16) -> Problem {
-    let size = 3 * pairs;
-    let mut problem = Problem { m: vec![0; size], n: vec![0; size], rel: vec![0; size] };
-    for k in 0..pairs {
-        let large = large / pairs as u16 + 1;
-        for (i, w, row) in [(0, large, 0b011), (1, large, 0b110), (2, 1, 0b111)] {
-            problem.m[3 * k + i] = w;
-            problem.n[3 * k + 2 - i] = w;
-            problem.rel[3 * k + i] = row << (3 * k) | 1 << (3 * (k + 1) % size);
+// Pairs of rows that have large amounts left after the greedy start, which can move only along a chain of rows for each,
+// one chain longer than the other, to the last column. A narrow row and its two narrow columns join the rows of a pair:
+// depth-first paths go through them, forth from the one row and back from the other, and carry one unit.
+fn zigzag(pairs: usize, chain: usize, whole: u64) -> Problem {
+    let (rows, columns) = (2 * chain + 4, 2 * chain + 3);
+    let last = pairs * columns;
+    let large = (whole as usize / pairs - 2) / (rows - 1);
+    let mut problem = Problem { m: vec![large as u16; pairs * rows], n: vec![large as u16; last + 1], rel: vec![0; pairs * rows] };
+    for pair in 0..pairs {
+        let (row, column) = (pair * rows, pair * columns);
+        problem.m[row] = 1;
+        problem.rel[row] = 3 << column;
+        for side in 0..2 {
+            problem.n[column + side] = 1;
+            let links = column + 2 + side * chain;
+            problem.rel[row + rows - 2 + side] = 1 << (column + side) | 1 << links;
+            for l in 0..chain + side {
+                let next = if l + 1 < chain + side { links + l + 1 } else { last };
+                problem.rel[row + 1 + side * chain + l] = 1 << (links + l) | 1 << next;
+            }
         }
+        problem.m[row + rows - 1] += 1;
     }
+    // The end of the first chain sends what remains to the last column at the start.
+    problem.m[chain] += (whole - total(&problem.m)) as u16;
+    problem.n[last] += (whole - total(&problem.n)) as u16;
     problem
 }
 
+// With large amounts of 10, of 100, and as large as there can be.
+fn zigzags(pairs: usize, chain: usize) -> [Problem; 3] {
+    let whole = |large: usize| (pairs * (large * (2 * chain + 3) + 2)) as u64;
+    [whole(10), whole(100), 65_535].map(|whole| zigzag(pairs, chain, whole))
+}
+
+// Pairs and chains with 6, 20 and, six times, 60 to 64 rows.
+const ZIGZAGS: [(usize, usize); 8] = [(1, 1), (1, 8), (1, 30), (2, 14), (4, 6), (5, 4), (8, 2), (10, 1)];
+
 #[test]
-fn zigzags() {
-    for large in [10, 1000, 16_000] {
-        for pairs in 1..=20 {
-            let problem = zigzag(pairs, large);
+fn zigzags_against_a_network() {
+    for (pairs, chain) in ZIGZAGS {
+        for problem in zigzags(pairs, chain) {
             agree(&problem, problem.by_network());
         }
     }
 }
 
-// The best of many tries: whatever else the machine is doing only adds.
-fn time_of(problem: &Problem) -> Duration {
-    let tries = (0..40).map(|_| {
-        let start = Instant::now();
-        for _ in 0..50 {
-            problem.by_kernel();
-        }
-        start.elapsed()
-    });
-    tries.min().unwrap()
-}
-
-// Augmentations are bounded by the targets, not by the amounts: with amounts 1,600 times as large the time stays within a
-// small factor, where one unit a time would take 1,600 times as long.
 #[test]
-fn work_does_not_grow_with_the_amounts() {
-    for pairs in [1, 5, 20] {
-        let (small, large) = (time_of(&zigzag(pairs, 10)), time_of(&zigzag(pairs, 16_000)));
-        assert!(large < 20 * small + Duration::from_millis(1), "{small:?} {large:?}");
+fn paths_do_not_grow_with_the_amounts() {
+    for (pairs, chain) in ZIGZAGS {
+        let problems = zigzags(pairs, chain);
+        let [few, some, most] = problems.each_ref().map(Problem::paths);
+        let targets = problems[0].m.len() + problems[0].n.len();
+        assert!(few == some && some == most, "{pairs} pairs, {chain} links: {few}, {some}, {most} paths");
+        assert!(0 < most && most <= targets / 5, "{pairs} pairs, {chain} links: {most} paths with {targets} targets");
+        // The bound says something: depth-first paths from the same start send as much, by thousands.
+        let (sent, count) = problems[2].by_depth();
+        assert_eq!(sent, 65_535 * 65_535);
+        assert!(count > 2_000, "{pairs} pairs, {chain} links: {count} depth-first paths");
     }
 }
 
@@ -133,6 +150,7 @@ fn what_the_kernel_does_not_take_is_refused() {
     let refuse = |m: &[u16], n: &[u16], rel: &[u64], cells: usize| {
         let mut x = vec![7u32; cells];
         assert_eq!(flow(m, n, rel, &mut x), u64::MAX);
+        assert_eq!(paths(m, n, rel, &mut x), u32::MAX);
         assert!(x.iter().all(|&v| v == 7));
     };
     refuse(&[1; 65], &[1], &full, 8192);

@@ -1,0 +1,121 @@
+-- `transport::counted` meets its contract. Assumes nothing.
+use mathlib.Core.Path.{refl, _∙_}
+use Prim.Native.Nat.{_<_, _^_}
+use native.Mathlib.Omega.{arith}
+use Rattle.transport.proofs.MatrixLaws.{outside-trans}
+use Rattle.transport.proofs.FlowLaws.{preserves-trans}
+use Rattle.transport.proofs.StartLaws.{begun, balanced, missing-fits}
+use Rattle.transport.proofs.GreedyLaws.{greedy-is}
+use Rattle.transport.proofs.Certificate.{finished}
+use borrow.Author.Needs.{needs}
+use Rattle.transport.proofs.counted.Statement.{statement}
+use Rattle.transport.proofs.counted.Tie as tie
+
+no-amounts-requires : tie.Need-no-amounts-requires
+no-amounts-requires c κs = search needs
+
+no-amounts-requires-2 : tie.Need-no-amounts-requires-2
+no-amounts-requires-2 c κs = search needs
+
+no-users-requires : tie.Need-no-users-requires
+no-users-requires c κs = search needs
+
+no-links-requires : tie.Need-no-links-requires
+no-links-requires c κs = search needs
+
+no-links-requires-2 : tie.Need-no-links-requires-2
+no-links-requires-2 c κs = search needs
+
+slice-aggregate-begin : tie.Need-slice-aggregate-begin
+slice-aggregate-begin c = search needs
+
+slice-aggregate-begin-2 : tie.Need-slice-aggregate-begin-2
+slice-aggregate-begin-2 c = search needs
+
+begin-requires : tie.Need-begin-requires
+begin-requires c κs = search needs
+
+slice-aggregate-fill : tie.Need-slice-aggregate-fill
+slice-aggregate-fill c = search needs
+
+slice-aggregate-fill-2 : tie.Need-slice-aggregate-fill-2
+slice-aggregate-fill-2 c = search needs
+
+slice-aggregate-fill-3 : tie.Need-slice-aggregate-fill-3
+slice-aggregate-fill-3 c = search needs
+
+fill-requires : tie.Need-fill-requires
+fill-requires c κs =
+    let at-begin = c .before .before .before .before .before .before .before .before in
+    let at-no-users = at-begin .before .before .before .before .before .before in
+    let at-no-amounts2 = at-no-users .before in
+    let at-no-amounts = at-no-amounts2 .before in
+    let start = at-no-amounts .before .before .before .before .before in
+    let h = start .pre in let k = at-begin .begin .kept in (begun (at-begin .begin .ensures) (at-no-users .no-users .result) h (k .1 .1 .0) (omega (arith, h .few-rows, k .1 .1 .1 .0, at-no-amounts .no-amounts .ensures)) (omega (arith, h .few-columns, k .1 .1 .1 .1 .0, at-no-amounts2 .no-amounts2 .ensures)) (omega (arith, at-no-users .no-users .ensures .0)) (at-no-users .no-users .ensures .1), at-begin .begin .ensures .cleared .zero)
+
+slice-aggregate-improve : tie.Need-slice-aggregate-improve
+slice-aggregate-improve c = search needs
+
+slice-aggregate-improve-2 : tie.Need-slice-aggregate-improve-2
+slice-aggregate-improve-2 c = search needs
+
+slice-aggregate-improve-3 : tie.Need-slice-aggregate-improve-3
+slice-aggregate-improve-3 c = search needs
+
+slice-aggregate-improve-4 : tie.Need-slice-aggregate-improve-4
+slice-aggregate-improve-4 c = search needs
+
+slice-aggregate-improve-5 : tie.Need-slice-aggregate-improve-5
+slice-aggregate-improve-5 c = search needs
+
+improve-requires : tie.Need-improve-requires
+improve-requires c κs =
+    let at-fill = c .before .before .before .before .before .before .before .before .before .before .before in
+    let at-begin = at-fill .before .before .before .before .before .before .before .before .before in
+    let at-no-links2 = at-fill .before .before .before .before .before .before .before .before .before .before .before .before .before in
+    let at-no-links = at-no-links2 .before in
+    let start = at-no-links .before .before .before .before .before .before .before .before in
+    let e = at-fill .fill .ensures in (e .0 .flow, e .1, omega (arith, at-no-links .no-links .ensures), omega (arith, at-no-links2 .no-links2 .ensures), missing-fits (start .pre) (balanced (at-begin .begin .ensures) (e .0 .preserves)))
+
+same-length : tie.Need-same-length
+same-length c =
+    let at-improve = c .before .before .before .before .before .before .before in
+    let at-fill = at-improve .before .before .before .before .before .before .before .before .before .before .before .before in
+    let at-begin = at-fill .before .before .before .before .before .before .before .before .before in
+    omega (arith, at-improve .improve .ensures .0 .same-x, at-fill .fill .ensures .0 .same-x, at-begin .begin .kept .1 .1 .0)
+
+returns : tie.Need-returns
+returns c =
+    let at-improve = c .before .before .before .before .before .before .before in
+    let at-fill = at-improve .before .before .before .before .before .before .before .before .before .before .before .before in
+    let at-begin = at-fill .before .before .before .before .before .before .before .before .before in
+    let fits : at-improve .improve .result .cut < 2 ^ 64 = search needs in
+    let f = at-fill .fill .ensures in let v = at-improve .improve .ensures in let d = v .1 in let n = at-begin .begin .ensures in (
+      finished (at-improve .improve .result .cut) (v .0 .flow) (d .rows) (d .columns) (d .stuck) (balanced n (preserves-trans (f .0 .preserves) (v .0 .preserves))) fits (outside-trans (n .cleared .outside) (outside-trans (f .0 .outside) (v .0 .outside))) (v .0 .same-x ∙ f .0 .same-x ∙ at-begin .begin .kept .1 .1 .0),
+      record { x₁ = _; a₁ = _; b₁ = _; users₁ = _; a = _; b = _; users = _; greedy = greedy-is refl (n .supplies .supply) (n .demands .supply) (f .2); left = balanced n (f .0 .preserves); used = f .0 .flow .used; chain = v .2; bound = omega (arith, v .3) },
+    )
+
+pub counted-spec : {M : Type 1} → statement M
+counted-spec =
+    tie.close
+    (tie.spec
+    no-amounts-requires
+    no-amounts-requires-2
+    no-users-requires
+    no-links-requires
+    no-links-requires-2
+    slice-aggregate-begin
+    slice-aggregate-begin-2
+    begin-requires
+    slice-aggregate-fill
+    slice-aggregate-fill-2
+    slice-aggregate-fill-3
+    fill-requires
+    slice-aggregate-improve
+    slice-aggregate-improve-2
+    slice-aggregate-improve-3
+    slice-aggregate-improve-4
+    slice-aggregate-improve-5
+    improve-requires
+    same-length
+    returns)
