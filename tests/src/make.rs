@@ -64,6 +64,12 @@ pub fn random(random: &mut Random, shape: Shape) -> Table {
     Table::new(list)
 }
 
+/// The same table with more states, which can do nothing, up to a number.
+pub fn padded(mut table: Table, states: usize) -> Table {
+    table.states.resize(states, Vec::new());
+    table
+}
+
 /// The same table with some codes listed that no transition uses.
 pub fn listing_more(random: &mut Random, mut table: Table) -> Table {
     let more = random.below(256 - table.codes.len());
@@ -209,9 +215,18 @@ fn ring(n: usize) -> Vec<Vec<Transition>> {
 /// that the last of the second lacks, so for coprime lengths the ranks go
 /// up to p × q. That step leads to one more state, which can do nothing.
 pub fn cycles(p: usize, q: usize) -> (Table, Table) {
+    cycles_to(p, q, 1)
+}
+
+/// The same where that step leads to several states. For coprime lengths
+/// the tree of the start states has 6 × p × q - 3 bytes and 4 for each.
+pub fn cycles_to(p: usize, q: usize, ends: usize) -> (Table, Table) {
     let (mut first, mut second) = (ring(p), ring(q));
-    first[p - 1].push(to(code(1), p));
-    first.push(Vec::new());
+    first[p - 1].push(Transition {
+        code: code(1),
+        entries: (p..p + ends).map(|end| (end as u8, 1)).collect(),
+    });
+    first.resize(p + ends, Vec::new());
     for steps in &mut second[..q - 1] {
         steps.push(to(code(1), 0));
     }

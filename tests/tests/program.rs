@@ -6,7 +6,7 @@ use pod_tests::random::Random;
 use pod_tests::table::{Table, C, LONE, P};
 use std::io::Write;
 use std::path::PathBuf;
-use std::process::{Command, Stdio};
+use std::process::{Child, Command, Stdio};
 
 /// The program, or another one to hold against the same.
 fn program() -> PathBuf {
@@ -17,12 +17,16 @@ fn program() -> PathBuf {
     }
 }
 
-fn run(input: &[u8]) -> String {
-    let mut child = Command::new(program())
+fn started() -> Child {
+    Command::new(program())
         .stdin(Stdio::piped())
         .stdout(Stdio::piped())
         .spawn()
-        .expect("podcheck runs");
+        .expect("podcheck runs")
+}
+
+fn run(input: &[u8]) -> String {
+    let mut child = started();
     // The program need not read what it ignores.
     let mut stdin = child.stdin.take().unwrap();
     let written = stdin.write_all(input);
@@ -33,6 +37,26 @@ fn run(input: &[u8]) -> String {
         assert_eq!(error.kind(), std::io::ErrorKind::BrokenPipe);
     }
     String::from_utf8(done.stdout).unwrap()
+}
+
+/// Writes the input in parts, with time between them for the program to read.
+fn run_in_parts(parts: &[&[u8]]) -> String {
+    let mut child = started();
+    let mut stdin = child.stdin.take().unwrap();
+    for part in parts {
+        stdin.write_all(part).unwrap();
+        std::thread::sleep(std::time::Duration::from_millis(20));
+    }
+    drop(stdin);
+    String::from_utf8(child.wait_with_output().unwrap().stdout).unwrap()
+}
+
+/// For tables that are too large to try all subsets.
+fn held_large(first: &Table, second: &Table) -> String {
+    let bytes = input(&first.bytes(), &second.bytes());
+    let text = run(&bytes);
+    assert!(text == output_by(0, &bytes), "{bytes:02x?}");
+    text
 }
 
 fn held(input: &[u8]) -> String {
@@ -139,14 +163,115 @@ fn random_tables() {
     assert!(yes > 50 && no > 50);
 }
 
+/// Two accepted tables with their lengths, one byte less than what is read
+/// at first.
+const TWO_TABLES: usize = 4_238;
+
+#[test]
+fn input_around_two_tables() {
+    let mut random = Random::new(44);
+    let mut largest = |codes| {
+        let mut table = make::limit(&mut random, codes, true);
+        table.codes = (1..=255).collect();
+        table.bytes()
+    };
+    let whole = input(&largest(1), &largest(2));
+    assert_eq!(whole.len(), TWO_TABLES);
+    let due = output_by(0, &whole);
+    assert!(due.starts_with("tables 64 64\n"));
+    assert_eq!(run(&whole[..TWO_TABLES - 1]), "refused 2 1\n");
+    for more in 0..4 {
+        let longer = [&whole[..], &vec![7; more]].concat();
+        assert!(run(&longer) == due, "{more}");
+        for at in [2_121, TWO_TABLES - 1, TWO_TABLES, longer.len()] {
+            assert!(run_in_parts(&[&longer[..at], &longer[at..]]) == due, "{at}");
+        }
+    }
+}
+
+#[test]
+fn input_around_what_is_read_first() {
+    let small = input(&P, &C);
+    for length in TWO_TABLES - 1..=TWO_TABLES + 3 {
+        // What follows the second table.
+        let mut bytes = small.clone();
+        bytes.resize(length, 7);
+        assert_eq!(held(&bytes), output(&small));
+        // A second table that goes on to the end, or beyond it.
+        for more in [0, 1, 60_000] {
+            let stated = (length - 28 + more) as u16;
+            bytes[26..28].copy_from_slice(&stated.to_le_bytes());
+            assert_eq!(held(&bytes), "refused 2 2\n");
+        }
+        // A first table up to there, and the second after it.
+        for first in length - 4..=length {
+            let table = [&P[..], &vec![0; first - P.len()]].concat();
+            assert_eq!(held(&input(&table, &C)), "refused 1 2\n");
+        }
+        // A first table that goes on to the end, or beyond it.
+        for more in [0, 1, 60_000] {
+            let stated = (length - 2 + more) as u16;
+            bytes[..2].copy_from_slice(&stated.to_le_bytes());
+            assert_eq!(held(&bytes), "refused 1 2\n");
+        }
+    }
+}
+
+#[test]
+fn pairs_around_the_short_buffers() {
+    let few = [(24, 24), (64, 9), (9, 64), (24, 25), (60, 10), (10, 60)];
+    let many = [(43, 14), (14, 43), (25, 25), (64, 10), (10, 64)];
+    assert!(few.iter().all(|(p, q)| p * q <= 600));
+    assert!(many.iter().all(|(p, q)| p * q > 600));
+    let mut random = Random::new(45);
+    for sizes in [&few[..], &many] {
+        let (mut yes, mut no) = (0, 0);
+        for (&(p, q), round) in sizes.iter().flat_map(|size| (0..6).map(move |n| (size, n))) {
+            let shape = Shape {
+                states: p.min(q),
+                codes: 2,
+                steps: 2,
+                width: 3,
+                weight: 4,
+            };
+            let first = make::random(&mut random, shape);
+            let second = make::edited(&mut random, &first, 2 * round, 2);
+            let text = held_large(&make::padded(first, p), &make::padded(second, q));
+            assert!(text.starts_with(&format!("tables {p} {q}\n")));
+            yes += text.contains("verdict yes\n") as usize;
+            no += text.contains("\ntree ") as usize;
+        }
+        println!("{yes} yes, {no} no");
+        assert!(yes > 5 && no > 5);
+    }
+    // Ranks up to 575 and 600.
+    for (p, states) in [(23, 24), (24, 25)] {
+        let (first, second) = make::cycles(p, 25);
+        let text = held_large(&first, &second);
+        assert!(text.starts_with(&format!("tables {states} 25\n")));
+        assert!(text.contains(&format!("\nrounds {} ", p * 25)));
+    }
+}
+
+#[test]
+fn trees_around_the_short_buffers() {
+    for (p, q, ends, length) in [(10, 17, 1, 1_021), (11, 15, 9, 1_023), (10, 17, 2, 1_025)] {
+        let (first, second) = make::cycles_to(p, q, ends);
+        // As few states as there are, as many as 600 pairs allow, one more.
+        for states in [first.states.len(), 600 / q, 600 / q + 1] {
+            let first = make::padded(first.clone(), states);
+            let text = held_large(&first, &second);
+            assert!(text.starts_with(&format!("tables {states} {q}\n")));
+            let tree = text.lines().last().unwrap();
+            assert!(tree.starts_with("tree 01 "));
+            assert_eq!(tree.split(' ').count() - 1, length);
+        }
+    }
+}
+
 #[test]
 fn large_tables() {
-    let held = |first: &Table, second: &Table| {
-        let bytes = input(&first.bytes(), &second.bytes());
-        let text = run(&bytes);
-        assert!(text == output_by(0, &bytes));
-        text
-    };
+    let held = held_large;
     let mut random = Random::new(43);
     for round in 0..24 {
         let first = make::limit(&mut random, 1 + round % 4, round % 3 == 0);

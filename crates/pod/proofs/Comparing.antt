@@ -21,9 +21,8 @@ use Rattle.table.specs.Form.{table-of, Loaded}
 use Rattle.table.specs.Bytes.{Decoded, refused, accepted, decode, table, refusal as refused-by}
 use Rattle.table.specs.Fill.{Reads}
 use Rattle.table.proofs.DecodeLaws.{decode-accepted}
-use Rattle.ranking.proofs.Turning.{few-pairs}
+use Rattle.table.proofs.FormLaws.{few-pairs}
 use Rattle.witness.specs.Flow.{Right, flow-bytes, flow-room}
-use Rattle.buffer.specs.Buffer.{Filled as Written}
 use Rattle.ranking.specs.Rows.{Filled as RanksFilled}
 use Rattle.witness.specs.Choice.{Ranked}
 use Rattle.witness.specs.FlowSteps.{Flowed}
@@ -206,12 +205,12 @@ module _ (M N : Table) (s t : ℕ) (b : t < states-of N) (a : Answer) (tree : Li
           written = λ _ g. absurd (omega (arith, bytes-long));
         }
 
-    pub tree-shown : {r : Answer} {n : ℕ} {tree′ : List ℕ} → len ≤ length tree → Written (tree-bytes M N s t) n tree tree′ → r ≡ with-written len a → TreeShown M N s t a r tree tree′
+    pub tree-shown : {r : Answer} {tree′ : List ℕ} → len ≤ length tree → tree′ ≡ over (tree-bytes M N s t) tree → r ≡ with-written len a → TreeShown M N s t a r tree tree′
     tree-shown h w er =
         record {
           long = λ g. absurd (omega (arith, bytes-long));
           refused = λ _ g. absurd (omega (arith, bytes-long));
-          written = λ _ _. (er ∙ ap (λ (n : ℕ). with-written n a) length-is, w .bytes);
+          written = λ _ _. (er ∙ ap (λ (n : ℕ). with-written n a) length-is, w);
         }
 
 -- pairs are few, and their places are small

@@ -1,4 +1,6 @@
 // The check of two loaded tables: ranks for all pairs, then a flow or a tree for the chosen one.
+// What the arrays lent as room hold is free. Each is made in the function that lends it, since returning it would copy it, and of ones,
+// which the compiler writes in words, where zeros become a call of memset.
 use crate::Answer;
 use ranking;
 use table::form;
@@ -12,11 +14,12 @@ ghost use Rattle.simulation.specs.Table.{states-of};
 ghost use Rattle.simulation.specs.Round.{pairs};
 ghost use Rattle.simulation.specs.Length.{tree-length};
 ghost use Rattle.table.specs.Form.{table-of, Loaded};
+ghost use Rattle.buffer.specs.Buffer.{over};
 ghost use Rattle.witness.specs.Flow.{flow-room};
 ghost use Rattle.witness.specs.Choice.{Ranked, Lost, Lent};
 ghost use Rattle.witness.specs.FlowSteps.{Chosen};
-ghost use Rattle.pod.specs.Check.{lent, left};
-ghost use Rattle.pod.specs.Steps.{with-written, found-answer, Compared, FlowShown, TreeShown};
+ghost use Rattle.pod.specs.Check.{tree-bytes, lent, left};
+ghost use Rattle.pod.specs.Steps.{with-written, found-answer, Compared, FlowShown, TreeReady, TreeShown};
 
 // The most bytes that a tree may have.
 const LONGEST: u32 = 65_535;
@@ -68,22 +71,6 @@ fn show_flow(
     with_written(a, written as u32)
 }
 
-fn no_lengths() -> [u32; 4096] {
-    [0u32; 4096]
-}
-
-fn no_words() -> [u64; 16384] {
-    [0u64; 16384]
-}
-
-fn no_rows() -> [u64; 64] {
-    [0u64; 64]
-}
-
-fn no_amounts() -> [u32; 4096] {
-    [0u32; 4096]
-}
-
 // How many bytes the tree of the pair takes, 65,536 for any number above 65,535. The lengths of all pairs live here only, so that the writer has the stack.
 fn tree_length(
     first: &[u16],
@@ -91,15 +78,73 @@ fn tree_length(
     ranks: &[u16],
     s: usize,
     t: usize,
-    words: &mut [u64],
     rel: &mut [u64],
     x: &mut [u32],
 ) -> u32
-    requires { ⌜ Ranked (now first) (now second) (now ranks) × Lost (now first) (now second) s t × Lent (now rel) (now x) × (64 ≤ length (now words)) ⌝ }
+    requires { ⌜ Ranked (now first) (now second) (now ranks) × Lost (now first) (now second) s t × Lent (now rel) (now x) ⌝ }
     ensures { λ r. ⌜ r ≡ min 65536 (tree-length (table-of (now (first .entry))) (table-of (now (second .entry))) s t) ⌝ }
 {
-    let mut lens = no_lengths();
-    witness::length::tree_length(first, second, ranks, s, t, &mut lens, words, rel, x)
+    let mut counts = [1u32; 4096];
+    let mut sets = [1u64; 64];
+    witness::length::tree_length(first, second, ranks, s, t, &mut counts, &mut sets, rel, x)
+}
+
+// The tree of the pair, of fewer than 1,024 bytes.
+fn write_short(
+    first: &[u16],
+    second: &[u16],
+    ranks: &[u16],
+    s: usize,
+    t: usize,
+    rel: &mut [u64],
+    x: &mut [u32],
+    tree: &mut [u8],
+)
+    requires { ⌜ TreeReady (now first) (now second) (now ranks) s t (now rel) (now x) 1023 (now tree) ⌝ }
+    ensures { λ _. ⌜ now (tree .exit) ≡ over (tree-bytes (table-of (now (first .entry))) (table-of (now (second .entry))) s t) (now (tree .entry)) ⌝ }
+{
+    let mut stack = [1u64; 256];
+    witness::tree::tree(first, second, ranks, s, t, rel, x, &mut stack, tree);
+}
+
+// The tree of the pair, of at most 65,535 bytes.
+fn write_long(
+    first: &[u16],
+    second: &[u16],
+    ranks: &[u16],
+    s: usize,
+    t: usize,
+    rel: &mut [u64],
+    x: &mut [u32],
+    tree: &mut [u8],
+)
+    requires { ⌜ TreeReady (now first) (now second) (now ranks) s t (now rel) (now x) 65535 (now tree) ⌝ }
+    ensures { λ _. ⌜ now (tree .exit) ≡ over (tree-bytes (table-of (now (first .entry))) (table-of (now (second .entry))) s t) (now (tree .entry)) ⌝ }
+{
+    let mut stack = [1u64; 16384];
+    witness::tree::tree(first, second, ranks, s, t, rel, x, &mut stack, tree);
+}
+
+// The tree of the pair, of `len` bytes. A short one pays for a short stack only.
+fn write_tree(
+    first: &[u16],
+    second: &[u16],
+    ranks: &[u16],
+    s: usize,
+    t: usize,
+    len: u32,
+    rel: &mut [u64],
+    x: &mut [u32],
+    tree: &mut [u8],
+)
+    requires { ⌜ (len ≤ 65535) × TreeReady (now first) (now second) (now ranks) s t (now rel) (now x) len (now tree) ⌝ }
+    ensures { λ _. ⌜ now (tree .exit) ≡ over (tree-bytes (table-of (now (first .entry))) (table-of (now (second .entry))) s t) (now (tree .entry)) ⌝ }
+{
+    if len < 1024 {
+        write_short(first, second, ranks, s, t, rel, x, tree);
+        return;
+    }
+    write_long(first, second, ranks, s, t, rel, x, tree);
 }
 
 // Shows a pair that is not kept: its tree, if it is short enough and there is room for it.
@@ -116,16 +161,15 @@ fn show_tree(
     requires { ⌜ Ranked (now first) (now second) (now ranks) × Lost (now first) (now second) s t × (4096 ≤ length (now x)) ⌝ }
     ensures { λ r. ⌜ TreeShown (table-of (now (first .entry))) (table-of (now (second .entry))) s t a r (now (tree .entry)) (now (tree .exit)) ⌝ }
 {
-    let mut words = no_words();
-    let mut rel = no_rows();
-    let len = tree_length(first, second, ranks, s, t, &mut words, &mut rel, x);
+    let mut rel = [1u64; 64];
+    let len = tree_length(first, second, ranks, s, t, &mut rel, x);
     if LONGEST < len {
         return Answer::refused(23, 0, 0);
     }
     if tree.len() < len as usize {
         return Answer::refused(22, 0, len);
     }
-    witness::tree::tree(first, second, ranks, s, t, &mut rel, x, &mut words, tree);
+    write_tree(first, second, ranks, s, t, len, &mut rel, x, tree);
     with_written(a, len)
 }
 
@@ -167,7 +211,7 @@ fn show(
     ensures { λ r. ⌜ Compared (table-of (now (first .entry))) (table-of (now (second .entry))) s t
         (lent (now (ranks .entry)) (now (flow .entry)) (now (tree .entry))) (left r (lent (now (ranks .exit)) (now (flow .exit)) (now (tree .exit)))) ⌝ }
 {
-    let mut x = no_amounts();
+    let mut x = [1u32; 4096];
     let r = ranking::rank(first, second, ranks, &mut x);
     let place = s * form::states(second) + t;
     let a = found(ranks, place, r.rounds, r.kept);

@@ -1,37 +1,63 @@
 -- From the tables, the answer and the text for it to what is printed.
 -- Assumes nothing.
-use mathlib.Core.Path.{_≡_, sym, ap, _∙_, subst₂}
+use mathlib.Core.Path.{_≡_, refl, ap, ap₂, _∙_, subst, subst₂}
 use mathlib.Core.List.{List}
-use Prim.Native.Nat.{ℕ}
+use mathlib.Core.Logic.{_≢_}
+use Prim.Native.Nat.{ℕ, _*_, _≤_}
+use native.Mathlib.Decide.{ℕ-discrete}
+use native.Mathlib.Omega.{arith}
 use lib.ListN.{length}
 use Rattle.pod.specs.declared.Answer.{Answer}
-use Rattle.pod.specs.Check.{lent, left, Checked, states-in}
+use Rattle.pod.specs.Check.{lent, left, longest, Checked, states-in}
+use Rattle.pod.specs.Demands.{Call}
+use Rattle.pod.proofs.Enough.{call-of, of-both, ranks-enough, tree-enough}
 use Rattle.report.specs.Input.{first-of-input, second-of-input}
 use Rattle.report.specs.Text.{answer-text}
 use Rattle.report.specs.Writes.{Over}
-use Rattle.podcheck.specs.Printed.{Printed}
+use Rattle.report.proofs.Bounds.{some-text}
+use Rattle.podcheck.specs.Printed.{Counted, Printed, Short, Answered}
 
-pub printed : {input before after first second ranks₀ flow₀ tree₀ ranks flow tree : List ℕ} {a : Answer} {written p q : ℕ}
-    → first ≡ first-of-input input
-    → second ≡ second-of-input input
-    → 4096 ≡ length ranks₀
-    → 196993 ≡ length flow₀
-    → 65535 ≡ length tree₀
-    → Checked first second 0 0 (lent ranks₀ flow₀ tree₀) (left a (lent ranks flow tree))
-    → p ≡ states-in first
-    → q ≡ states-in second
-    → Over (answer-text (a .table) (a .number) (a .written) p q ranks tree) before written after
-    → Printed input before written after
-printed {input} {before} {after} {first} {second} {ranks₀} {flow₀} {tree₀} {ranks} {flow} {tree} {a} {written} {p} {q} ef es er el et checked ep eq over =
-    record {
-      ranks₀ = ranks₀;
-      flow₀ = flow₀;
-      tree₀ = tree₀;
-      sizes = record { of-ranks = sym er; of-flow = sym el; of-tree = sym et };
-      answer = a;
-      ranks = ranks;
-      flow = flow;
-      tree = tree;
-      checked = subst₂ (λ (f s : List ℕ). Checked f s 0 0 (lent ranks₀ flow₀ tree₀) (left a (lent ranks flow tree))) ef es checked;
-      text = subst₂ (λ (m n : ℕ). Over (answer-text (a .table) (a .number) (a .written) m n ranks tree) before written after) (ep ∙ ap states-in ef) (eq ∙ ap states-in es) over;
-    }
+module _ (input : List ℕ) {first second ranks₀ flow₀ tree₀ ranks flow tree : List ℕ} {a : Answer}
+    (ef : first ≡ first-of-input input) (es : second ≡ second-of-input input)
+    (h : Checked first second 0 0 (lent ranks₀ flow₀ tree₀) (left a (lent ranks flow tree))) where
+  checked : Checked (first-of-input input) (second-of-input input) 0 0 (lent ranks₀ flow₀ tree₀) (left a (lent ranks flow tree))
+  checked = subst₂ (λ (f s : List ℕ). Checked f s 0 0 (lent ranks₀ flow₀ tree₀) (left a (lent ranks flow tree))) ef es h
+
+  -- the tree has no room
+  pub without-room : {before after : List ℕ} → a .number ≡ 22 → Answered input tree₀ before 0 after
+  without-room e =
+      record {
+        printed = λ d. absurd (d refl);
+        short = λ _. record { ranks = ranks₀; flow = flow₀; call = of-both (omega arith) (subst (λ (n : ℕ). Call (first-of-input input) (second-of-input input) 0 0 (lent ranks₀ flow₀ tree₀) n (a .table)) e (call-of checked)) };
+      }
+
+  -- the text of any other answer
+  pub with-text : {written p q : ℕ} {before after : List ℕ} → Counted input p q → p * q ≤ length ranks₀ → a .number ≢ 22
+      → Over (answer-text (a .table) (a .number) (a .written) p q ranks tree) before written after → Answered input tree₀ before written after
+  with-text {written} {p} {q} {before} {after} sizes room d over =
+      record {
+        printed = λ _. record {
+          buffers₀ = lent ranks₀ flow₀ tree₀;
+          answer = a;
+          buffers = lent ranks flow tree;
+          checked = checked;
+          ranks-fit = ranks-enough (omega (arith, ap₂ (λ (m n : ℕ). m * n) (sizes .first-states) (sizes .second-states))) (call-of checked);
+          tree-fits = d;
+          text = subst₂ (λ (m n : ℕ). Over (answer-text (a .table) (a .number) (a .written) m n ranks tree) before written after) (sizes .first-states) (sizes .second-states) over;
+        };
+        short = λ z. absurd (omega (arith, over .count, some-text (a .table) (a .number) (a .written) p q ranks tree));
+      }
+
+-- a tree buffer of the largest length is never too short
+pub always : {input tree before after : List ℕ} {written : ℕ} → longest ≤ length tree → Answered input tree before written after → Printed input before written after
+always {input} {tree} {before} {after} {written} le h = go (ℕ-discrete written 0)
+  where
+    go : Dec (written ≡ 0) → Printed input before written after
+    go (yes z) = absurd (tree-enough le (h .short z .call) refl)
+    go (no d) = h .printed d
+
+-- the tables of an input, counted
+pub counted : (input : List ℕ) {first second : List ℕ} {p q : ℕ} → first ≡ first-of-input input → second ≡ second-of-input input
+    → (p ≡ states-in first) × (p ≤ 64) → (q ≡ states-in second) × (q ≤ 64) → Counted input p q
+counted input ef es p q =
+    record { first-states = p .0 ∙ ap states-in ef; second-states = q .0 ∙ ap states-in es; first-few = p .1; second-few = q .1 }

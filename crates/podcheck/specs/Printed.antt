@@ -2,35 +2,46 @@
 -- Assumes nothing.
 use mathlib.Core.Path.{_≡_}
 use mathlib.Core.List.{List}
-use Prim.Native.Nat.{ℕ}
-use lib.ListN.{length}
+use mathlib.Core.Logic.{_≢_}
+use Prim.Native.Nat.{ℕ, _≤_}
 use Rattle.pod.specs.declared.Answer.{Answer}
-use Rattle.pod.specs.Check.{lent, left, Checked, states-in}
+use Rattle.pod.specs.Check.{Buffers, lent, left, Checked, states-in}
+use Rattle.pod.specs.Demands.{Call}
 use Rattle.report.specs.Input.{first-of-input, second-of-input}
 use Rattle.report.specs.Text.{answer-text}
 use Rattle.report.specs.Writes.{Over}
 
--- the three buffers that the check is lent: every rank, flow and tree has room
-pub record Lent (ranks flow tree : List ℕ) : Type 0 where
-  pub of-ranks : length ranks ≡ 4096
-  pub of-flow : length flow ≡ 196993
-  pub of-tree : length tree ≡ 65535
+-- the tables in the input have p and q states
+pub record Counted (input : List ℕ) (p q : ℕ) : Type 0 where
+  pub first-states : p ≡ states-in (first-of-input input)
+  pub second-states : q ≡ states-in (second-of-input input)
+  pub first-few : p ≤ 64
+  pub second-few : q ≤ 64
 
 -- the text for an answer and the ranks and tree that came with it
-abbrev pub text-of : List ℕ → Answer → List ℕ → List ℕ → List ℕ
-text-of input a ranks tree =
-    answer-text (a .table) (a .number) (a .written) (states-in (first-of-input input)) (states-in (second-of-input input)) ranks tree
+abbrev pub text-of : List ℕ → Answer → Buffers → List ℕ
+text-of input a b =
+    answer-text (a .table) (a .number) (a .written) (states-in (first-of-input input)) (states-in (second-of-input input)) (b .ranks) (b .tree)
 
+-- the text for an answer that no buffer was too short for, but for that of the flow, which no text shows
 pub record Printed (input before : List ℕ) (written : ℕ) (after : List ℕ) : Type 0 where
   -- the buffers as they are lent
-  pub ranks₀ : List ℕ
-  pub flow₀ : List ℕ
-  pub tree₀ : List ℕ
-  pub sizes : Lent ranks₀ flow₀ tree₀
+  pub buffers₀ : Buffers
   -- the answer, and the buffers as they come back
   pub answer : Answer
+  pub buffers : Buffers
+  pub checked : Checked (first-of-input input) (second-of-input input) 0 0 buffers₀ (left answer buffers)
+  pub ranks-fit : answer .number ≢ 20
+  pub tree-fits : answer .number ≢ 22
+  pub text : Over (text-of input answer buffers) before written after
+
+-- the check refuses a tree buffer: the tree is longer
+pub record Short (input tree : List ℕ) : Type 0 where
   pub ranks : List ℕ
   pub flow : List ℕ
-  pub tree : List ℕ
-  pub checked : Checked (first-of-input input) (second-of-input input) 0 0 (lent ranks₀ flow₀ tree₀) (left answer (lent ranks flow tree))
-  pub text : Over (text-of input answer ranks tree) before written after
+  pub call : Call (first-of-input input) (second-of-input input) 0 0 (lent ranks flow tree) 22 0
+
+-- the text, or 0 where the tree is longer than its buffer
+pub record Answered (input tree before : List ℕ) (written : ℕ) (after : List ℕ) : Type 0 where
+  pub printed : written ≢ 0 → Printed input before written after
+  pub short : written ≡ 0 → Short input tree

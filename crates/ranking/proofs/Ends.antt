@@ -3,20 +3,23 @@
 use mathlib.Core.Path.{_≡_, sym, ap, ap₂, _∙_}
 use mathlib.Core.Bool.{Bool, _&&_, and-false}
 use mathlib.Core.List.{List}
+use mathlib.Core.Logic.{⊎-elim}
 use Prim.Native.Nat.{ℕ, _+_, _*_, _≤_, _<_}
 use native.Mathlib.Omega.{arith}
 use native.Mathlib.Decide.{decLt}
 use borrow.Author.Tests.{lt-ltb, le-ltb}
 use lib.Dec.{ltb}
-use lib.ListN.{length, getD}
+use lib.ListN.{length, getD, replicate, length-replicate, getD-replicate, List·getD-eq-default}
 use Rattle.simulation.specs.Sum.{sum}
 use Rattle.simulation.specs.Table.{Table, states-of}
-use Rattle.simulation.specs.Round.{zeros}
 use Rattle.relation.specs.Mask.{Test, both, up-to, size}
-use Rattle.relation.specs.Related.{related, all-below, pairs-of}
+use Rattle.relation.specs.Related.{related, none, all-below, pairs-of}
 use Rattle.relation.specs.declared.Relation.{Relation}
-use Rattle.ranking.specs.Rows.{holds, Cleared, After, Open, Refined, Filled}
-use Rattle.ranking.proofs.Rounds.{begins}
+use Rattle.relation.proofs.Mask.{below-or-not}
+use Rattle.relation.proofs.Rows.{pairs-most}
+use Rattle.matching.specs.Held.{holds}
+use Rattle.ranking.specs.Rows.{Empty, Cleared, After, Open, Refined, Filled}
+use Rattle.ranking.proofs.RoundLaws.{begins}
 use Rattle.ranking.proofs.Answer.{ranks-list, kept-are}
 use Rattle.ranking.proofs.Settling.{row-place}
 
@@ -28,6 +31,15 @@ full-row r e s t a = ap (λ (R : ℕ → Test). R s t) e ∙ ap (λ (b : Bool). 
 -- its rows have all members
 pub all-rows : (r : Relation) → related r ≡ all-below 64 64 → 64 ≤ length (r .rows) → Open (r .rows)
 all-rows r e room = record { room = room; all = λ s t a b. full-row r e s t a ∙ lt-ltb t 64 b }
+
+-- the empty relation's have none
+pub no-rows : (r : Relation) → related r ≡ none → Empty (r .rows)
+unfolding related
+no-rows r e s t = ap (λ (R : ℕ → Test). R s t) e
+
+-- a list of zeros has no other number
+pub zeros-at : (n i : ℕ) → _≡_ {A = ℕ} (getD (replicate n 0) i 0) 0
+zeros-at n i = ⊎-elim (λ lt. getD-replicate n i 0 0 lt) (λ le. List·getD-eq-default (replicate n 0) 0 (omega (arith, length-replicate {A = ℕ} n 0))) (below-or-not i n)
 
 -- all pairs, cut to the states, and zeros
 pub begun : (M N : Table) {p q : ℕ} (full rows old ranks : List ℕ) → Open full → p ≡ states-of M → q ≡ states-of N → p ≤ 64 → q ≤ 64
@@ -54,6 +66,10 @@ refined-over M N u v c f =
       rows-are = f .rows-are;
       columns = f .columns;
     }
+
+-- few pairs are kept
+pub kept-few : (r : Relation) (n : ℕ) {k : ℕ} → n ≤ 64 → k ≡ pairs-of n (related r) → k ≤ 4096
+kept-few r n a e = omega (arith, pairs-most (related r) n)
 
 -- the answer
 pub filled : (M N : Table) (r : Relation) {p k rounds : ℕ} {old new : List ℕ} → states-of N ≤ 64 → states-of M * states-of N ≤ length old → length new ≡ length old

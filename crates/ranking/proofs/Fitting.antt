@@ -2,17 +2,15 @@
 -- Assumes nothing.
 use mathlib.Core.Path.{_≡_, ap, subst}
 use mathlib.Core.Bool.{Bool, _&&_}
-use mathlib.Core.List.{List}
 use Prim.Native.Nat.{ℕ, _<_}
 use lib.Dec.{T, eqb}
 use lib.ListN.{length}
 use Rattle.simulation.specs.Sum.{any-of}
-use Rattle.simulation.specs.Fit.{Set, gain, largest-gain, fits?, cut}
 use Rattle.simulation.specs.Table.{Transition, Table, weights, steps, no-transition, transition}
 use Rattle.simulation.specs.Round.{Relation, between, fits-step}
 use Rattle.simulation.proofs.Finite.Lists.{all-of-at, all-of-by, any-of-at, any-of-by}
 use Rattle.simulation.proofs.Fit.Agree.{Agree, fits-agree}
-use Rattle.ranking.specs.Rows.{matched}
+use Rattle.matching.specs.Held.{matched}
 
 -- two relations agree on the targets of m and of n
 abbrev pub Alike : Relation → Relation → Transition → Transition → Type 0

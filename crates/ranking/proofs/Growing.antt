@@ -1,9 +1,9 @@
--- Rows that only grow, member by member.
+-- Rows that grow, member by member: the links between states, and the doubts that lost pairs raise.
 -- Assumes nothing.
 use mathlib.Core.Path.{_≡_, refl, sym, ap, _∙_, subst}
-use mathlib.Core.Bool.{Bool, true, false, not, _&&_, _||_, and-true, true≢false}
+use mathlib.Core.Bool.{Bool, true, false, _||_, true≢false}
 use mathlib.Core.List.{List}
-use mathlib.Core.Logic.{⊎-elim}
+use mathlib.Core.Logic.{_≢_, _⊎_, inl, inr, ⊎-elim}
 use Prim.Native.Nat.{ℕ, _+_, _≤_, _<_}
 use native.Mathlib.Omega.{arith}
 use native.Mathlib.Decide.{ℕ-discrete}
@@ -11,12 +11,14 @@ use borrow.Author.Tests.{eq-eqb, ne-eqb}
 use lib.Dec.{eqb}
 use lib.ListN.{length, getD, set}
 use lib.Seq.{getD-set-same, getD-set-other}
-use Rattle.simulation.proofs.Finite.Tests.{last-or-below}
+use Rattle.simulation.proofs.Finite.Tests.{is-true, is-false, last-or-below}
 use Rattle.simulation.specs.Table.{targets}
 use Rattle.table.specs.Form.{transition-at}
 use Rattle.relation.specs.Mask.{Test, member, with-member, without-member, either}
 use Rattle.relation.proofs.Mask.{member-none}
-use Rattle.ranking.specs.Rows.{holds, Grown, Doubted}
+use Rattle.matching.specs.Held.{holds}
+use Rattle.ranking.specs.Rows.{Covered, Within, Grown, Joins, Doubted}
+use Rattle.ranking.proofs.Walks.{left-self, left-other}
 
 or-old : (a b : Bool) → b ≡ true → (a || b) ≡ true
 or-old true b h = refl
@@ -72,7 +74,7 @@ module _ (S : Test) (P : ℕ → Type 0) where
     where
       go : Dec (u ≡ t) → P u
       go (yes q) = subst P (sym q) here
-      go (no d) = h u m (sym (and-true (member x u)) ∙ ap (λ (b : Bool). member x u && not b) (sym (ne-eqb u t d)) ∙ ap (λ (Y : Test). Y u) (sym e) ∙ l)
+      go (no d) = h u m (sym (left-other x y t e u d) ∙ l)
 
   pub walk-end : (x : ℕ) → x ≡ 0 → ((u : ℕ) → S u ≡ true → member x u ≡ false → P u) → (u : ℕ) → S u ≡ true → P u
   walk-end x e h u m = h u m (ap (λ (n : ℕ). member n u) e ∙ member-none u)
@@ -87,19 +89,86 @@ links-next f s j₀ j {ts} {before} {before′} grows e here h k i a b =
     (λ k b a c. grows .still _ _ (h k i a b c))
     (λ _ c. subst (λ (l : List ℕ). i < length l → holds before′ (getD l i 0) s ≡ true) e (here i) c) k b a
 
--- row by row, the lost pairs raise their doubts
-pub doubted-none : {lost before behind doubt : List ℕ} → Doubted 0 lost before behind doubt
-doubted-none = record { raised = λ a s u t b. absurd (omega arith) }
+-- rows that grow by s only
+pub joins-none : {s : ℕ} {rows : List ℕ} → Joins s rows rows
+joins-none = record { grown = grown-none; within = λ n a h. h }
 
-pub doubted-next : {a : ℕ} {lost before behind doubt doubt′ : List ℕ} → Grown doubt doubt′
-    → ((s u t : ℕ) → holds before a s ≡ true → holds lost a u ≡ true → holds behind u t ≡ true → holds doubt′ s t ≡ true)
-    → Doubted a lost before behind doubt → Doubted (a + 1) lost before behind doubt′
-doubted-next {a} {lost} {before} {behind} {doubt} {doubt′} grows here h =
+pub joins-more : {s : ℕ} {a b c : List ℕ} → Joins s a b → Joins s b c → Joins s a c
+joins-more f g = record { grown = grown-more (f .grown) (g .grown); within = λ n a h. g .within n a (f .within n a h) }
+
+pub joins-set : (rows : List ℕ) (s t x : ℕ) → t < length rows → member x ≡ with-member s (holds rows t) → Joins s rows (set rows t x)
+joins-set rows s t x room e =
     record {
-      raised = λ b s u t l.
-          each-next (λ b. holds before b s ≡ true → holds lost b u ≡ true → holds behind u t ≡ true → holds doubt′ s t ≡ true) a
-          (λ b l x y z. grows .still s t (h .raised b s u t l x y z)) (here s u t) b l;
+      grown = grown-set rows t x room (λ k h. with-old (getD rows t 0) x s k e h);
+      within = λ n a h u k m. go n a h u k m (ℕ-discrete u t) (ℕ-discrete k s);
+    }
+  where
+    go : (n : ℕ) → s < n → Within n rows → (u k : ℕ) → holds (set rows t x) u k ≡ true → Dec (u ≡ t) → Dec (k ≡ s) → k < n
+    go n a h u k m c (yes q) = omega arith
+    go n a h u k m (no d) (no q) = h u k (ap (λ (y : ℕ). member y k) (sym (getD-set-other rows t u x 0 d)) ∙ m)
+    go n a h u k m (yes c) (no q) =
+        h t k
+        (ap (λ (b : Bool). b || holds rows t k) (sym (ne-eqb k s q))
+        ∙ sym (ap (λ (X : Test). X k) e)
+        ∙ ap (λ (y : ℕ). member y k) (sym (getD-set-same rows t x 0 room))
+        ∙ ap (λ (u : ℕ). holds (set rows t x) u k) (sym c)
+        ∙ m)
+
+-- the lost pairs of the rows that are not left have raised their doubts, and are gone from lost′
+pub record Raised (lost before behind : List ℕ) (left doubtful : ℕ) (doubt lost′ : List ℕ) : Type 0 where
+  pub raised : (a : ℕ) → member left a ≡ false → (s u t : ℕ) → holds before a s ≡ true → holds lost a u ≡ true → holds behind u t ≡ true → (member doubtful s ≡ true) × (holds doubt s t ≡ true)
+  pub within : (n : ℕ) → Within n before → (s : ℕ) → member doubtful s ≡ true → s < n
+  pub same : (a : ℕ) → member left a ≡ true → getD lost′ a 0 ≡ getD lost a 0
+  pub empty : (a t : ℕ) → member left a ≡ false → holds lost′ a t ≡ false
+
+pub raised-none : {fell : ℕ} {lost before behind doubt : List ℕ} → Covered fell lost → Raised lost before behind fell 0 doubt lost
+raised-none {fell} {lost} covered =
+    record {
+      raised = λ a l s u t x y z. absurd (true≢false (sym (covered a u y) ∙ l));
+      within = λ n h s m. absurd (true≢false (sym m ∙ member-none s));
+      same = λ a l. refl;
+      empty = λ a t l. is-false (holds lost a t) (λ h. true≢false (sym (covered a t (is-true (holds lost a t) h)) ∙ l));
     }
 
-pub doubted-all : {a p : ℕ} {lost before behind doubt : List ℕ} → p ≤ a → Doubted a lost before behind doubt → Doubted p lost before behind doubt
-doubted-all c h = record { raised = λ a s u t b. h .raised a s u t (omega arith) }
+-- the lost pairs of one row more raise their doubts
+pub raised-next : {lost before behind doubt doubt′ lost′ : List ℕ} {a left rest doubtful doubtful′ : ℕ} → a < length lost′
+    → member left a ≡ true → member rest ≡ without-member a (member left) → member doubtful′ ≡ either (member doubtful) (holds before a) → Grown doubt doubt′
+    → ((s u t : ℕ) → holds before a s ≡ true → holds lost′ a u ≡ true → holds behind u t ≡ true → holds doubt′ s t ≡ true)
+    → Raised lost before behind left doubtful doubt lost′ → Raised lost before behind rest doubtful′ doubt′ (set lost′ a 0)
+raised-next {lost} {before} {behind} {doubt} {doubt′} {lost′} {a} {left} {rest} {doubtful} {doubtful′} room has e d grows here h =
+    record {
+      raised = λ b l. step b l (ℕ-discrete b a);
+      within = λ n w s m. split n w s (either-of (member doubtful s) (holds before a s) (sym (ap (λ (X : Test). X s) d) ∙ m));
+      same = λ b l. kept b l (ℕ-discrete b a);
+      empty = λ b t l. gone b t l (ℕ-discrete b a);
+    }
+  where
+    step : (b : ℕ) → member rest b ≡ false → Dec (b ≡ a) → (s u t : ℕ) → holds before b s ≡ true → holds lost b u ≡ true → holds behind u t ≡ true → (member doubtful′ s ≡ true) × (holds doubt′ s t ≡ true)
+    step b l (yes c) s u t x y z =
+        let x′ : holds before a s ≡ true = ap (λ (b : ℕ). holds before b s) (sym c) ∙ x in
+        let y′ : holds lost′ a u ≡ true = ap (λ (n : ℕ). member n u) (h .same a has) ∙ ap (λ (b : ℕ). holds lost b u) (sym c) ∙ y in
+        (union-right doubtful (getD before a 0) doubtful′ s d x′, here s u t x′ y′ z)
+    step b l (no c) s u t x y z =
+        let r = h .raised b (sym (left-other left rest a e b c) ∙ l) s u t x y z in
+        (union-left doubtful (getD before a 0) doubtful′ s d (r .0), grows .still s t (r .1))
+
+    either-of : (x y : Bool) → (x || y) ≡ true → (x ≡ true) ⊎ (y ≡ true)
+    either-of true y q = inl refl
+    either-of false y q = inr q
+
+    split : (n : ℕ) → Within n before → (s : ℕ) → (member doubtful s ≡ true) ⊎ (holds before a s ≡ true) → s < n
+    split n w s (inl x) = h .within n w s x
+    split n w s (inr x) = w a s x
+
+    kept : (b : ℕ) → member rest b ≡ true → Dec (b ≡ a) → getD (set lost′ a 0) b 0 ≡ getD lost b 0
+    kept b l (yes c) = absurd (true≢false (sym l ∙ ap (member rest) c ∙ left-self left rest a e))
+    kept b l (no c) = getD-set-other lost′ a b 0 0 c ∙ h .same b (sym (left-other left rest a e b c) ∙ l)
+
+    gone : (b t : ℕ) → member rest b ≡ false → Dec (b ≡ a) → holds (set lost′ a 0) b t ≡ false
+    gone b t l (yes c) = ap (λ (b : ℕ). holds (set lost′ a 0) b t) c ∙ ap (λ (y : ℕ). member y t) (getD-set-same lost′ a 0 0 room) ∙ member-none t
+    gone b t l (no c) = ap (λ (y : ℕ). member y t) (getD-set-other lost′ a b 0 0 c) ∙ h .empty b t (sym (left-other left rest a e b c) ∙ l)
+
+pub raised-all : {lost before behind doubt lost′ : List ℕ} {left doubtful : ℕ} → left ≡ 0 → Raised lost before behind left doubtful doubt lost′ → Doubted lost before behind doubtful doubt lost′
+raised-all {left = left} e h =
+    let none : (a : ℕ) → member left a ≡ false = λ a. ap (λ (n : ℕ). member n a) e ∙ member-none a in
+    record { raised = λ a s u t. h .raised a (none a) s u t; within = h .within; empty = λ a t. h .empty a t (none a) }

@@ -1,19 +1,23 @@
 -- Rows and ranks written place by place.
 -- Assumes nothing.
-use mathlib.Core.Path.{_≡_, refl, sym, ap, ap₂, _∙_, subst}
-use mathlib.Core.Bool.{Bool, true, cond, not, _&&_}
+use mathlib.Core.Path.{_≡_, refl, sym, ap, ap₂, _∙_, subst, fun-ext}
+use mathlib.Core.Bool.{Bool, true, false, cond, not, _&&_, and-true, and-false, true≢false}
 use mathlib.Core.List.{List}
-use mathlib.Core.Logic.{⊎-elim}
+use mathlib.Core.Logic.{_≢_, ⊎-elim}
 use Prim.Native.Nat.{ℕ, suc, _+_, _-_, _*_, _≤_, _<_}
 use native.Mathlib.Nat.{mul-le-mul-right, suc-mul}
-use native.Mathlib.Numerals.{add-one}
 use native.Mathlib.Omega.{arith}
+use native.Mathlib.Decide.{ℕ-discrete, decLe}
 use borrow.Author.Tests.{le-leb, lt-leb}
+use lib.Dec.{T, T-not}
 use lib.ListN.{length, getD, set}
 use lib.Seq.{getD-set-same, getD-set-other}
-use Rattle.simulation.proofs.Finite.Tests.{is-true, is-false, last-or-below}
-use Rattle.relation.specs.Mask.{Test, member, except}
-use Rattle.ranking.specs.Rows.{holds, marked, Settled, Cleared}
+use Rattle.simulation.proofs.Finite.Tests.{and-left, and-right, is-true, is-false, last-or-below}
+use Rattle.relation.specs.Mask.{Test, member, without-member, except}
+use Rattle.relation.proofs.Mask.{member-none}
+use Rattle.matching.specs.Held.{holds}
+use Rattle.ranking.specs.Rows.{marked, Covered, Settled, Cleared}
+use Rattle.ranking.proofs.Walks.{left-self, left-other}
 
 -- one row more
 pub rows-next : (F : ℕ → Test) (l : List ℕ) (n x : ℕ) → n < length l → member x ≡ F n → ((s t : ℕ) → s < n → holds l s t ≡ F s t) → (s t : ℕ) → s < n + 1 → holds (set l n x) s t ≡ F s t
@@ -32,54 +36,112 @@ rows-left l₀ l n x h s a = getD-set-other l n s x 0 (omega arith) ∙ h s (ome
 pub row-place : (s n q t : ℕ) → s < n → t < q → s * q + t < n * q
 row-place s n q t a b = let m : suc s * q ≤ n * q = mul-le-mul-right q a in omega (arith, suc-mul s q)
 
-pub next-row : (n q : ℕ) → (n + 1) * q ≡ n * q + q
-next-row n q = ap (λ (k : ℕ). k * q) (add-one n) ∙ omega (arith, suc-mul n q)
+-- places of two rows differ
+apart : (s n q t u : ℕ) → t < q → u < q → s ≢ n → s * q + t ≢ n * q + u
+apart s n q t u a b d e = go (decLe s n)
+  where
+    go : Dec (s ≤ n) → ⊥
+    go (yes c) = let m : suc s * q ≤ n * q = mul-le-mul-right q (let f : s < n = omega arith in f) in omega (arith, suc-mul s q)
+    go (no c) = let m : suc n * q ≤ s * q = mul-le-mul-right q (let f : n < s = omega arith in f) in omega (arith, suc-mul n q)
 
 module _ (X : Test) (base k : ℕ) (l : List ℕ) where
-  marked-below : (i : ℕ) → i < base → marked X base k l i ≡ getD l i 0
-  marked-below i a = ap (λ (b : Bool). cond (b && X (i - base)) k (getD l i 0)) (lt-leb base i a)
-
   marked-at : (t : ℕ) → marked X base k l (base + t) ≡ cond (X t) k (getD l (base + t) 0)
   marked-at t =
       ap (λ (b : Bool). cond (b && X (base + t - base)) k (getD l (base + t) 0)) (le-leb base (base + t) (omega arith))
       ∙ ap (λ (n : ℕ). cond (X n) k (getD l (base + t) 0)) (let e : base + t - base ≡ t = omega arith in e)
 
-  marked-past : (q i : ℕ) → base + q ≤ i → ((t : ℕ) → X t ≡ true → t < q) → marked X base k l i ≡ getD l i 0
-  marked-past q i a h =
-      ap₂ (λ (b c : Bool). cond (b && c) k (getD l i 0)) (le-leb base i (omega arith))
-      (is-false (X (i - base)) (λ m. let c : i - base < q = h (i - base) (is-true (X (i - base)) m) in omega arith))
+  -- a place of no member is as it was
+  marked-other : (i : ℕ) → ((t : ℕ) → X t ≡ true → i ≢ base + t) → marked X base k l i ≡ getD l i 0
+  marked-other i h = go (decLe base i)
+    where
+      go : Dec (base ≤ i) → marked X base k l i ≡ getD l i 0
+      go (yes a) =
+          ap₂ (λ (b c : Bool). cond (b && c) k (getD l i 0)) (le-leb base i a)
+          (is-false (X (i - base)) (λ m. h (i - base) (is-true (X (i - base)) m) (omega arith)))
+      go (no a) = ap (λ (b : Bool). cond (b && X (i - base)) k (getD l i 0)) (lt-leb base i (omega arith))
 
-pub settled-none : {q k : ℕ} {lost rows ranks : List ℕ} → Settled q k lost 0 rows rows ranks ranks
-settled-none = record { rows-done = λ s t a. absurd (omega arith); rows-left = λ s a. refl; ranks-done = λ s t a. absurd (omega arith); ranks-left = λ i a. refl }
+-- the lost pairs of the rows that are not left
+abbrev pub passed : List ℕ → ℕ → ℕ → Test
+passed lost left s t = holds lost s t && not (member left s)
+
+-- at first all lost pairs are left
+pub settled-none : {q k : ℕ} {rows ranks : List ℕ} (lost : List ℕ) (fell : ℕ) → Covered fell lost → Settled q k (passed lost fell) rows rows ranks ranks
+settled-none {q} {k} {rows} {ranks} lost fell covered =
+    record {
+      rows-done = λ s t. sym (ap (λ (b : Bool). holds rows s t && not b) (none s t) ∙ and-true (holds rows s t));
+      ranks-done = λ s t a. ap (λ (b : Bool). cond b k (getD ranks (s * q + t) 0)) (sym (none s t));
+      ranks-left = λ i h. refl;
+    }
+  where
+    none : (s t : ℕ) → passed lost fell s t ≡ false
+    none s t = is-false (passed lost fell s t) (λ h.
+        T-not (member fell s) (and-right (holds lost s t) (not (member fell s)) h)
+        (subst T (sym (covered s t (is-true (holds lost s t) (and-left (holds lost s t) (not (member fell s)) h)))) tt))
 
 -- one row more is settled
-pub settled-next : {q k n : ℕ} {lost rows rows′ ranks ranks′ : List ℕ} (ranks″ : List ℕ) (x : ℕ) → n < length rows′
+pub settled-next : {q k n : ℕ} {rows rows′ ranks ranks′ : List ℕ} (lost : List ℕ) (left rest : ℕ) (ranks″ : List ℕ) (x : ℕ) → n < length rows′
+    → member left n ≡ true → member rest ≡ without-member n (member left)
     → ((t : ℕ) → holds lost n t ≡ true → t < q)
     → ((i : ℕ) → getD ranks″ i 0 ≡ marked (holds lost n) (n * q) k ranks′ i)
     → member x ≡ except (holds rows′ n) (holds lost n)
-    → Settled q k lost n rows rows′ ranks ranks′ → Settled q k lost (n + 1) rows (set rows′ n x) ranks ranks″
-settled-next {q} {k} {n} {lost} {rows} {rows′} {ranks} {ranks′} ranks″ x room within m e h =
+    → Settled q k (passed lost left) rows rows′ ranks ranks′ → Settled q k (passed lost rest) rows (set rows′ n x) ranks ranks″
+settled-next {q} {k} {n} {rows} {rows′} {ranks} {ranks′} lost left rest ranks″ x room has e within m d h =
     record {
-      rows-done = rows-next (λ s t. holds rows s t && not (holds lost s t)) rows′ n x room (e ∙ ap (λ (y : ℕ). except (member y) (holds lost n)) (h .rows-left n (omega arith))) (h .rows-done);
-      rows-left = rows-left rows rows′ n x (h .rows-left);
-      ranks-done = λ s t a b. ⊎-elim (last s t b) (λ c. before s t c b) (last-or-below s n (omega arith));
+      rows-done = λ s t. row s t (ℕ-discrete s n);
+      ranks-done = λ s t a. place s t a (ℕ-discrete s n);
       ranks-left = λ i a.
-          let r = next-row n q in
-          m i ∙ marked-past (holds lost n) (n * q) k ranks′ q i (omega arith) within ∙ h .ranks-left i (omega arith);
+          m i
+          ∙ marked-other (holds lost n) (n * q) k ranks′ i (λ t b. a n t (new t ∙ b))
+          ∙ h .ranks-left i (λ s t b. a s t (more s t b (ℕ-discrete s n)));
     }
   where
-    before : (s t : ℕ) → s < n → t < q → getD ranks″ (s * q + t) 0 ≡ cond (holds lost s t) k (getD ranks (s * q + t) 0)
-    before s t a b = m (s * q + t) ∙ marked-below (holds lost n) (n * q) k ranks′ (s * q + t) (row-place s n q t a b) ∙ h .ranks-done s t a b
+    old : (t : ℕ) → passed lost left n t ≡ false
+    old t = ap (λ (b : Bool). holds lost n t && not b) has ∙ and-false (holds lost n t)
 
-    here : (t : ℕ) → getD ranks″ (n * q + t) 0 ≡ cond (holds lost n t) k (getD ranks (n * q + t) 0)
-    here t = m (n * q + t) ∙ marked-at (holds lost n) (n * q) k ranks′ t ∙ ap (λ (v : ℕ). cond (holds lost n t) k v) (h .ranks-left (n * q + t) (omega arith))
+    new : (t : ℕ) → passed lost rest n t ≡ holds lost n t
+    new t = ap (λ (b : Bool). holds lost n t && not b) (left-self left rest n e) ∙ and-true (holds lost n t)
 
-    last : (s t : ℕ) → t < q → s ≡ n → getD ranks″ (s * q + t) 0 ≡ cond (holds lost s t) k (getD ranks (s * q + t) 0)
-    last s t b e = subst (λ (s : ℕ). getD ranks″ (s * q + t) 0 ≡ cond (holds lost s t) k (getD ranks (s * q + t) 0)) (sym e) (here t)
+    same : (s t : ℕ) → s ≢ n → passed lost rest s t ≡ passed lost left s t
+    same s t c = ap (λ (b : Bool). holds lost s t && not b) (left-other left rest n e s c)
 
--- all rows are
-pub settled-all : {q k n p : ℕ} {lost rows rows′ ranks ranks′ : List ℕ} → n ≡ p → Settled q k lost n rows rows′ ranks ranks′ → Settled q k lost p rows rows′ ranks ranks′
-settled-all {q} {k} {lost = lost} {rows} {rows′} {ranks} {ranks′} e h = subst (λ (n : ℕ). Settled q k lost n rows rows′ ranks ranks′) e h
+    more : (s t : ℕ) → passed lost left s t ≡ true → Dec (s ≡ n) → passed lost rest s t ≡ true
+    more s t b (yes c) = absurd (true≢false (sym b ∙ ap (λ (s : ℕ). passed lost left s t) c ∙ old t))
+    more s t b (no c) = same s t c ∙ b
+
+    here : (t : ℕ) → holds (set rows′ n x) n t ≡ (holds rows n t && not (passed lost rest n t))
+    here t =
+        ap (λ (y : ℕ). member y t) (getD-set-same rows′ n x 0 room)
+        ∙ ap (λ (X : Test). X t) d
+        ∙ ap (λ (b : Bool). b && not (holds lost n t)) (h .rows-done n t ∙ ap (λ (b : Bool). holds rows n t && not b) (old t) ∙ and-true (holds rows n t))
+        ∙ ap (λ (b : Bool). holds rows n t && not b) (sym (new t))
+
+    row : (s t : ℕ) → Dec (s ≡ n) → holds (set rows′ n x) s t ≡ (holds rows s t && not (passed lost rest s t))
+    row s t (yes c) = subst (λ (s : ℕ). holds (set rows′ n x) s t ≡ (holds rows s t && not (passed lost rest s t))) (sym c) (here t)
+    row s t (no c) =
+        ap (λ (y : ℕ). member y t) (getD-set-other rows′ n s x 0 c)
+        ∙ h .rows-done s t
+        ∙ ap (λ (b : Bool). holds rows s t && not b) (sym (same s t c))
+
+    there : (t : ℕ) → t < q → getD ranks″ (n * q + t) 0 ≡ cond (passed lost rest n t) k (getD ranks (n * q + t) 0)
+    there t a =
+        m (n * q + t)
+        ∙ marked-at (holds lost n) (n * q) k ranks′ t
+        ∙ ap (λ (v : ℕ). cond (holds lost n t) k v) (h .ranks-done n t a ∙ ap (λ (b : Bool). cond b k (getD ranks (n * q + t) 0)) (old t))
+        ∙ ap (λ (b : Bool). cond b k (getD ranks (n * q + t) 0)) (sym (new t))
+
+    place : (s t : ℕ) → t < q → Dec (s ≡ n) → getD ranks″ (s * q + t) 0 ≡ cond (passed lost rest s t) k (getD ranks (s * q + t) 0)
+    place s t a (yes c) = subst (λ (s : ℕ). getD ranks″ (s * q + t) 0 ≡ cond (passed lost rest s t) k (getD ranks (s * q + t) 0)) (sym c) (there t a)
+    place s t a (no c) =
+        m (s * q + t)
+        ∙ marked-other (holds lost n) (n * q) k ranks′ (s * q + t) (λ u b. apart s n q t u a (within u b) c)
+        ∙ h .ranks-done s t a
+        ∙ ap (λ (b : Bool). cond b k (getD ranks (s * q + t) 0)) (sym (same s t c))
+
+-- none is left
+pub settled-all : {q k : ℕ} {rows rows′ ranks ranks′ : List ℕ} (lost : List ℕ) (left : ℕ) → left ≡ 0 → Settled q k (passed lost left) rows rows′ ranks ranks′ → Settled q k (holds lost) rows rows′ ranks ranks′
+settled-all {q} {k} {rows} {rows′} {ranks} {ranks′} lost left e h =
+    subst (λ (R : ℕ → Test). Settled q k R rows rows′ ranks ranks′)
+    (fun-ext (λ s. fun-ext (λ t. ap (λ (n : ℕ). holds lost s t && not (member n s)) e ∙ ap (λ (b : Bool). holds lost s t && not b) (member-none s) ∙ and-true (holds lost s t)))) h
 
 pub cleared-none : {l : List ℕ} → Cleared 0 l l
 cleared-none = record { zero-at = λ i a. absurd (omega arith); left = λ i a. refl }

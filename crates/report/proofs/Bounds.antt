@@ -3,13 +3,14 @@
 use mathlib.Core.Bool.{Bool, true, false, cond}
 use mathlib.Core.Path.{_≡_}
 use mathlib.Core.List.{List, [], _∷_, _++_}
-use Prim.Native.Nat.{ℕ, zero, suc, _+_, _*_, _^_, _≤_, _<_, zero-le}
-use native.Mathlib.Nat.{suc-mul, mul-le-mul-right}
+use Prim.Native.Nat.{ℕ, zero, suc, _+_, _*_, _^_, _≤_, _<_, max, zero-le}
+use native.Mathlib.Nat.{suc-mul, mul-le-mul, mul-le-mul-right}
 use native.Mathlib.Omega.{arith}
-use lib.ListN.{length, getD, length-append}
+use lib.Dec.{eqb}
+use lib.ListN.{length, take, getD, length-append}
 use Rattle.simulation.specs.Round.{maximum, zeros}
 use Rattle.report.specs.Text.{word-rounds, word-kept, word-verdict, word-yes, word-no, word-row, word-tables, word-refused, word-tree}
-use Rattle.report.specs.Text.{pieces, decimal, hex, space, newline, labelled, pair-line, ranks-text, row-line, rows-text, yes?, summary-line, rounds-line, bytes-text, tree-line, tree-text, refused-text, report-text, longest-text}
+use Rattle.report.specs.Text.{pieces, decimal, hex, space, newline, labelled, pair-line, ranks-text, row-line, rows-text, yes?, summary-line, rounds-line, bytes-text, tree-line, tree-text, refused-text, report-text, answer-text, text-bound, longest-text, short-text}
 use Rattle.report.specs.Writes.{Room}
 use Rattle.report.proofs.Counting.{zeros-most}
 use Rattle.report.proofs.Digits.{decimal-short}
@@ -41,14 +42,14 @@ module _ (ranks : List ℕ) (small : (i : ℕ) → getD ranks i 0 < 2 ^ 16) wher
   unfolding ranks-text
   ranks-short from q = pieces-short (λ t. labelled space (getD ranks (from + t) 0)) q 6 (λ t _. labelled-short space (getD ranks (from + t) 0) 4 (omega (arith, small (from + t))))
 
-  row-short : (q s : ℕ) → q ≤ 64 → s < 64 → length (row-line ranks q s) ≤ 391
+  row-short : (q s : ℕ) → s < 64 → length (row-line ranks q s) ≤ 7 + 6 * q
   unfolding row-line
-  row-short q s lq ls =
+  row-short q s ls =
       omega (arith, length-append (labelled word-row s ++ ranks-text ranks (s * q) q) newline, length-append (labelled word-row s) (ranks-text ranks (s * q) q), labelled-short word-row s 1 (omega arith), ranks-short (s * q) q)
 
-  rows-short : (p q : ℕ) → p ≤ 64 → q ≤ 64 → length (rows-text ranks q p) ≤ p * 391
+  rows-short : (p q : ℕ) → p ≤ 64 → length (rows-text ranks q p) ≤ p * (7 + 6 * q)
   unfolding rows-text
-  rows-short p q lp lq = pieces-short (row-line ranks q) p 391 (λ s lt. row-short q s lq (omega arith))
+  rows-short p q lp = pieces-short (row-line ranks q) p (7 + 6 * q) (λ s lt. row-short q s (omega arith))
 
 verdict-short : (good : Bool) → length (cond good word-yes word-no) ≤ 4
 verdict-short true = omega arith
@@ -62,19 +63,19 @@ summary-short rounds kept good lr lk =
     let c = cond good word-yes word-no in
     omega (arith, length-append (a ++ b ++ word-verdict) c, length-append (a ++ b) word-verdict, length-append a b, labelled-short word-rounds rounds 4 lr, labelled-short word-kept kept 4 lk, verdict-short good)
 
-tree-short : (good long : Bool) (bytes : List ℕ) → length bytes ≤ 65535 → length (tree-text good long bytes) ≤ 196610
+tree-short : (good long : Bool) (bytes : List ℕ) → length (tree-text good long bytes) ≤ max 16 (5 + 3 * length bytes)
 unfolding tree-text tree-line bytes-text
-tree-short true long bytes le = zero-le
-tree-short false true bytes le = omega arith
-tree-short false false bytes le =
+tree-short true long bytes = zero-le
+tree-short false true bytes = omega arith
+tree-short false false bytes =
     let f : ℕ → List ℕ = λ i. space ++ hex (getD bytes i 0) in
     omega (arith, length-append (word-tree ++ pieces f (length bytes)) newline, length-append word-tree (pieces f (length bytes)), pieces-short f (length bytes) 3 (λ i _. omega arith))
 
 -- the whole text, for tables within the limits
-pub report-short : (p q : ℕ) (ranks : List ℕ) (long : Bool) (tree : List ℕ) → p ≤ 64 → q ≤ 64 → p * q ≡ length ranks → ((i : ℕ) → getD ranks i 0 < 2 ^ 16)
-    → length tree ≤ 65535 → length (report-text p q ranks long tree) ≤ longest-text
+report-short : (p q : ℕ) (ranks : List ℕ) (long : Bool) (tree : List ℕ) → p ≤ 64 → q ≤ 64 → p * q ≡ length ranks → ((i : ℕ) → getD ranks i 0 < 2 ^ 16)
+    → length (report-text p q ranks long tree) ≤ text-bound p q (length tree)
 unfolding report-text
-report-short p q ranks long tree lp lq e small lt =
+report-short p q ranks long tree lp lq e small =
     let a = pair-line word-tables p q in
     let b = rows-text ranks q p in
     let c = rounds-line ranks in
@@ -85,11 +86,31 @@ report-short p q ranks long tree lp lq e small lt =
       length-append (a ++ b) c,
       length-append a b,
       pair-short word-tables p q 1 (omega arith) (omega arith),
-      rows-short ranks small p q lp lq,
+      rows-short ranks small p q lp,
       summary-short (maximum ranks) (zeros ranks) (yes? ranks) (omega (arith, maximum-short ranks (2 ^ 16) (omega arith) small)) (omega (arith, zeros-most ranks, mul-le-mul-right q lp)),
-      tree-short (yes? ranks) long tree lt,
+      tree-short (yes? ranks) long tree,
     )
 
 pub report-room : (p q : ℕ) (ranks : List ℕ) (long : Bool) (tree buf : List ℕ) → p ≤ 64 → q ≤ 64 → p * q ≡ length ranks → ((i : ℕ) → getD ranks i 0 < 2 ^ 16)
-    → length tree ≤ 65535 → longest-text ≤ length buf → Room (report-text p q ranks long tree) 0 buf
-report-room p q ranks long tree buf lp lq e small lt room = record { enough = omega (arith, report-short p q ranks long tree lp lq e small lt) }
+    → text-bound p q (length tree) ≤ length buf → Room (report-text p q ranks long tree) 0 buf
+report-room p q ranks long tree buf lp lq e small room = record { enough = omega (arith, report-short p q ranks long tree lp lq e small) }
+
+-- the bounds for the two sizes of buffers
+pub bound-longest : (p q k : ℕ) → p ≤ 64 → q ≤ 64 → k ≤ 65535 → text-bound p q k ≤ longest-text
+bound-longest p q k lp lq lk = omega (arith, mul-le-mul lp (let le : 7 + 6 * q ≤ 391 = omega arith in le))
+
+pub bound-short : (p q k : ℕ) → p ≤ 64 → p * q ≤ 600 → k ≤ 1023 → text-bound p q k ≤ short-text
+bound-short p q k lp few lk = omega arith
+
+-- no text is empty: each begins with a word
+pair-some : (word : List ℕ) (a b : ℕ) → length word ≤ length (pair-line word a b)
+unfolding pair-line
+pair-some word a b = simp length-append (omega arith)
+
+pub some-text : (table number written p q : ℕ) (ranks tree : List ℕ) → 0 < length (answer-text table number written p q ranks tree)
+unfolding answer-text report-text
+some-text table number written p q ranks tree = go (eqb table 0)
+  where
+    go : (c : Bool) → 0 < length (cond c (report-text p q (take (p * q) ranks) (eqb number 23) (take written tree)) (refused-text table number))
+    go true = simp length-append (omega (arith, pair-some word-tables p q))
+    go false = omega (arith, pair-some word-refused table number)

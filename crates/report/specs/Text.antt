@@ -2,7 +2,7 @@
 -- Assumes nothing.
 use mathlib.Core.Bool.{Bool, true, false, cond}
 use mathlib.Core.List.{List, [], _∷_, _++_}
-use Prim.Native.Nat.{ℕ, zero, suc, _+_, _*_, _/_, _%_}
+use Prim.Native.Nat.{ℕ, zero, suc, _+_, _*_, _/_, _%_, max}
 use lib.Dec.{ltb, eqb}
 use lib.ListN.{length, take, getD}
 use Rattle.simulation.specs.Round.{maximum, zeros}
@@ -146,7 +146,15 @@ unfolding pair-line report-text
 answer-text table number written p q ranks tree =
     cond (eqb table 0) (report-text p q (take (p * q) ranks) (eqb number 23) (take written tree)) (refused-text table number)
 
--- no text is longer, for tables within the limits and ranks of 16 bits: 13 bytes for the numbers of states, 64 rows of at most 391,
--- 36 for rounds, kept pairs and verdict, 5 + 3 × 65,535 for the tree
+-- no text is longer, for tables with p and q states, ranks of 16 bits and k bytes of tree: 13 bytes for the numbers of states, p rows of
+-- 7 and 6 for each rank, 36 for rounds, kept pairs and verdict, 5 + 3 × k for the tree or 16 to say that it is too long
+abbrev pub text-bound : (p q k : ℕ) → ℕ
+text-bound p q k = 13 + p * (7 + 6 * q) + 36 + max 16 (5 + 3 * k)
+
+-- the same for any tables within the limits and a tree of at most 65,535 bytes
 abbrev pub longest-text : ℕ
 longest-text = 221683
+
+-- the same for at most 600 pairs and a tree of at most 1,023 bytes
+abbrev pub short-text : ℕ
+short-text = 7171

@@ -9,6 +9,7 @@ pub use count::kept_of;
 pub use count::rounds_of;
 pub use input::first_table;
 pub use input::second_table;
+pub use text::SHORT_TEXT;
 pub use text::TEXT;
 pub use text::print;
 pub use text::refused;

@@ -4,7 +4,7 @@ ghost use mathlib.Core.Bool.{cond};
 ghost use mathlib.Core.List.{_++_};
 ghost use Prim.Native.Nat.{_+_, _*_, _≤_};
 ghost use lib.ListN.{length};
-ghost use Rattle.report.specs.Text.{space, hex, labelled, word-yes, word-no, refused-text, pair-line, ranks-text, row-line, rows-text, summary-line, rounds-line, bytes-text, tree-line, tree-text, report-text, answer-text, longest-text};
+ghost use Rattle.report.specs.Text.{space, hex, labelled, word-yes, word-no, refused-text, pair-line, ranks-text, row-line, rows-text, summary-line, rounds-line, bytes-text, tree-line, tree-text, report-text, answer-text, text-bound};
 ghost use Rattle.report.specs.Writes.{Over, Room, Writes};
 use crate::count::is_kept;
 use crate::count::kept_of;
@@ -18,6 +18,9 @@ use crate::put::put_word;
 // The length of a buffer that holds every text: longest-text of specs/.
 pub const TEXT: usize = 221_683;
 
+// The length of one that holds every text for at most 600 pairs and a tree of at most 1,023 bytes: short-text of specs/.
+pub const SHORT_TEXT: usize = 7_171;
+
 // The text for an answer of the check: for a refused table that alone, else the report on tables with p and q states.
 pub fn print(
     table: u32,
@@ -29,7 +32,7 @@ pub fn print(
     tree: &[u8],
     buf: &mut [u8],
 ) -> usize
-    requires { ⌜ (p ≤ 64) × (q ≤ 64) × (p * q ≤ length (now ranks)) × (length (now tree) ≤ 65535) × (longest-text ≤ length (now buf)) ⌝ }
+    requires { ⌜ (p ≤ 64) × (q ≤ 64) × (p * q ≤ length (now ranks)) × (text-bound p q (length (now tree)) ≤ length (now buf)) ⌝ }
     ensures { λ r. ⌜ Over (answer-text table number written p q (now (ranks .entry)) (now (tree .entry))) (now (buf .entry)) r (now (buf .exit)) ⌝ }
 {
     if table != 0 {
@@ -51,7 +54,7 @@ pub fn refused(table: u32, number: u32, buf: &mut [u8]) -> usize
 // The text for two accepted tables with p and q states: `ranks` are the ranks of their pairs, `long` says that the tree is too long,
 // `tree` is its bytes where it is not.
 pub fn report(p: usize, q: usize, ranks: &[u16], long: bool, tree: &[u8], buf: &mut [u8]) -> usize
-    requires { ⌜ (p ≤ 64) × (q ≤ 64) × (p * q ≡ length (now ranks)) × (length (now tree) ≤ 65535) × (longest-text ≤ length (now buf)) ⌝ }
+    requires { ⌜ (p ≤ 64) × (q ≤ 64) × (p * q ≡ length (now ranks)) × (text-bound p q (length (now tree)) ≤ length (now buf)) ⌝ }
     ensures { λ r. ⌜ Over (report-text p q (now (ranks .entry)) long (now (tree .entry))) (now (buf .entry)) r (now (buf .exit)) ⌝ }
 {
     put_report(p, q, ranks, long, tree, buf, 0)

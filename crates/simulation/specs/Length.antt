@@ -1,6 +1,6 @@
 -- How many bytes a pair's tree takes, from the lengths of pairs of lower rank: no tree is made.
 -- Assumes nothing.
-use Prim.Native.Nat.{ℕ, zero, suc, _+_, min}
+use Prim.Native.Nat.{ℕ, zero, suc, _+_}
 use lib.ListN.{length}
 use Rattle.simulation.specs.Sum.{sum, when}
 use Rattle.simulation.specs.Table.{Table, target-at, states-of}
@@ -28,7 +28,3 @@ module _ (M N : Table) where
   -- the root's count, then its one transition
   abbrev pub tree-length : ℕ → ℕ → ℕ
   tree-length s t = 1 + pair-length s t
-
-  -- no number above the limit
-  abbrev pub capped-length : (limit : ℕ) → ℕ → ℕ → ℕ
-  capped-length limit s t = min limit (pair-length s t)

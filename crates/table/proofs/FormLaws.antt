@@ -2,8 +2,8 @@
 -- Assumes nothing.
 use mathlib.Core.Path.{_≡_, sym, ap, _∙_, subst}
 use mathlib.Core.List.{List, []}
-use Prim.Native.Nat.{ℕ, _+_, _-_, _≤_, _<_}
-use native.Mathlib.Nat.{not-suc-le-zero}
+use Prim.Native.Nat.{ℕ, _+_, _-_, _*_, _≤_, _<_}
+use native.Mathlib.Nat.{mul-le-mul, not-suc-le-zero}
 use native.Mathlib.Decide.{decLe}
 use native.Mathlib.Omega.{arith}
 use lib.ListN.{length, getD, take, drop, length-map}
@@ -171,3 +171,7 @@ module _ (f : List ℕ) (l : Loaded f) where
   -- what the theory of simulation needs
   pub sound : Sound (table-of f)
   sound = valid-sound (table-of f) (l .valid)
+
+-- two tables have at most 4,096 pairs
+pub few-pairs : (f g : List ℕ) → Loaded f → Loaded g → states-of (table-of f) * states-of (table-of g) ≤ 4096
+few-pairs f g l k = mul-le-mul (limits f l .states-few) (limits g k .states-few)

@@ -1,84 +1,138 @@
--- How the chosen transition and its sets are found: the cut of two transitions, what one adds to the sets of the other, and the walks
--- over the transitions of a state.
+-- How the chosen transition and its sets are found: the walks over the members of a mask, the cut of two transitions, what one adds to
+-- the sets of the other, and the walks over the transitions of a state.
 -- Assumes nothing.
 use mathlib.Core.Path.{_≡_, refl, sym, ap, ap₂, _∙_, subst, subst₂, fun-ext}
-use mathlib.Core.Bool.{Bool, true, false, not, _&&_, _||_}
+use mathlib.Core.Bool.{Bool, true, false, not, _&&_, _||_, and-comm}
 use mathlib.Core.List.{List, [], _∷_}
+use mathlib.Core.Logic.{_⊎_, inl, inr, ⊎-elim}
 use Prim.Native.Nat.{ℕ, zero, suc, _+_, _-_, _≤_, _<_, pred}
 use native.Mathlib.Nat.{not-suc-le-zero, le-of-suc-le-suc, sub-self}
-use native.Mathlib.Numerals.{add-one}
 use native.Mathlib.Omega.{arith}
 use native.Mathlib.Decide.{ℕ-discrete, decLt}
 use lib.Dec.{T, eqb, eqb→eq}
+use borrow.Author.Tests.{lt-ltb, ltb-true}
 use lib.ListN.{length, getD, take, set, length-set}
 use lib.Seq.{take-all, getD-set-same, getD-set-other}
 use Rattle.simulation.specs.Sum.{any, any-of}
-use Rattle.simulation.specs.Fit.{total, touched, fits?}
+use Rattle.simulation.specs.Fit.{touched, fits?}
 use Rattle.simulation.specs.Table.{Transition, Table, weights, targets, target-at, states-of, steps, no-transition, transition}
-use Rattle.simulation.specs.Round.{Relation, related, between, fits-step, round}
+use Rattle.simulation.specs.Round.{Relation, between, fits-step, round}
 use Rattle.simulation.specs.Tree.{before, chosen, cut-of, apart-by, apart}
-use Rattle.simulation.proofs.Finite.Tests.{differ-eqb, is-true, is-false, same-test, any-ext, same-eqb}
+use Rattle.simulation.proofs.Finite.Tests.{and-left, and-right, differ-eqb, is-true, is-false, same-test, any-some, some-any, any-ext, same-eqb}
 use Rattle.simulation.proofs.Finite.Lists.{any-of-at, any-of-by}
 use Rattle.simulation.proofs.Trees.Choice.{Chosen, chosen-law, chosen-at}
 use Rattle.table.specs.Form.{Loaded, table-of, start-of, transitions-of, transition-at}
-use Rattle.table.proofs.FormLaws.{counts, start-bound, starts-ascend, transition-of, transition-numbered, limited-at, weights-length}
-use Rattle.relation.specs.Mask.{member, either}
-use Rattle.relation.proofs.Mask.{member-none}
-use Rattle.between.specs.Rows.{Rows, Indexed}
-use Rattle.between.proofs.Laws.{indexed, rows-round}
-use Rattle.transport.specs.Answer.{relates, Given, Answered}
-use Rattle.witness.specs.Choice.{Compared, Cut, Added, Joined, Lost, Choice}
+use Rattle.table.proofs.FormLaws.{counts, start-bound, starts-ascend, transition-of, transition-numbered, weights-length}
+use Rattle.relation.specs.Mask.{Test, member, up-to, without-member, either, except, Lowest}
+use Rattle.relation.proofs.Mask.{member-none, below-or-not}
+use Rattle.between.specs.Rows.{Rows}
+use Rattle.transport.specs.Answer.{relates}
+use Rattle.transport.specs.Quick.{CutOf}
+use Rattle.transport.proofs.MaskedLaws.{true-or-false, neither, except-at, either-at, either-left, either-right, drop-at, drop-out, no-members}
+use Rattle.witness.specs.Choice.{Compared, Cut, Names, Added, Joined, Lost, Choice}
 use Rattle.simulation.proofs.Fit.Agree.{fits-agree, cut-agree}
-use Rattle.witness.proofs.Places.{few-places, targets-count, target-state, weights-count}
+use Rattle.witness.proofs.Relating.{related-round}
 
--- ---- tests of numbers, one number more
-
-pub any-none : (f : ℕ → Bool) → any 0 f ≡ false
-unfolding any
-any-none f = refl
-
-any-suc : (n : ℕ) (f : ℕ → Bool) → any (suc n) f ≡ (f n || any n f)
-unfolding any
-any-suc n f = refl
-
-pub any-more : (n : ℕ) (f : ℕ → Bool) → any (n + 1) f ≡ (f n || any n f)
-any-more n f = ap (λ (k : ℕ). any k f) (add-one n) ∙ any-suc n f
+-- ---- a walk over the members of a mask
 
 pub eqb-flip : (a b : ℕ) → eqb a b ≡ eqb b a
 eqb-flip a b = same-test (eqb a b) (eqb b a) (λ t. same-eqb (sym (eqb→eq a b t))) (λ t. same-eqb (sym (eqb→eq b a t)))
 
--- ---- a set joined to those that a mask names
+-- a test of more numbers, none of which passes
+any-wider : (p q : ℕ) (f g : ℕ → Bool) → p ≤ q → ((i : ℕ) → i < p → f i ≡ g i) → ((i : ℕ) → p ≤ i → g i ≡ false) → any p f ≡ any q g
+any-wider p q f g le same none =
+    same-test (any p f) (any q g)
+    (λ t. let w = any-some p f t in some-any q g (w .0) (omega (arith, w .1)) (subst T (same (w .0) (w .1)) (w .2)))
+    (λ t.
+    let w = any-some q g t in
+    ⊎-elim (λ l. some-any p f (w .0) l (subst T (sym (same (w .0) l)) (w .2))) (λ l. absurd (subst T (none (w .0) l) (w .2))) (below-or-not (w .0) p))
 
--- the sets below i are joined, the others as they were
-pub record Joining (n mask more : ℕ) (sets sets′ : List ℕ) (i : ℕ) : Type 0 where
-  pub inside : i ≤ n
+-- what is left is a part of the mask
+next-part : (mask left left′ t : ℕ) → ((i : ℕ) → member left i ≡ true → member mask i ≡ true) → member left′ ≡ without-member t (member left)
+    → (i : ℕ) → member left′ i ≡ true → member mask i ≡ true
+next-part mask left left′ t part e i h = part i (drop-at (member left) t i e h .0)
+
+-- acc is the union of the sets of the members passed
+pub record Uniting (sets : ℕ → Test) (mask left acc : ℕ) : Type 0 where
+  pub part : (i : ℕ) → member left i ≡ true → member mask i ≡ true
+  pub from : (u : ℕ) → member acc u ≡ true → (i : ℕ) × (member mask i ≡ true) × (sets i u ≡ true)
+  pub all : (i u : ℕ) → member mask i ≡ true → member left i ≡ false → sets i u ≡ true → member acc u ≡ true
+
+module _ {sets : ℕ → Test} {mask : ℕ} where
+  pub uniting-start : Uniting sets mask mask 0
+  uniting-start = record {
+    part = λ i t. t;
+    from = λ u t. absurd (neither t (member-none u));
+    all = λ i u t f. absurd (neither t f);
+  }
+
+  pub uniting-next : {left acc left′ acc′ t : ℕ} → Uniting sets mask left acc → Lowest (member left) t → member left′ ≡ without-member t (member left)
+      → member acc′ ≡ either (sets t) (member acc) → Uniting sets mask left′ acc′
+  uniting-next {left} {acc} {left′} {acc′} {t} g low e u = record {
+    part = next-part mask left left′ t (g .part) e;
+    from = λ k m. ⊎-elim (λ h. (t, g .part t (low .here), h)) (g .from k) (either-at (sets t) (member acc) k u m);
+    all = λ i k m f h.
+        ⊎-elim (λ c. either-left (sets t) (member acc) k u (subst (λ (i : ℕ). sets i k ≡ true) c h)) (λ o. either-right (sets t) (member acc) k u (g .all i k m o h))
+        (drop-out (member left) t i e f);
+  }
+
+  pub uniting-end : {left acc : ℕ} (n : ℕ) → left ≡ 0 → Names mask n → Uniting sets mask left acc → (u : ℕ) → member acc u ≡ any n (λ i. member mask i && sets i u)
+  uniting-end {acc = acc} n z inside g u =
+      same-test (member acc u) (any n (λ i. member mask i && sets i u))
+      (λ t. let w = g .from u (is-true (member acc u) t) in some-any n (λ i. member mask i && sets i u) (w .0) (inside (w .0) (w .1)) (subst T (sym (ap₂ _&&_ (w .1) (w .2))) tt))
+      (λ t.
+      let w = any-some n (λ i. member mask i && sets i u) t in
+      let i = w .0 in
+      subst T (sym (g .all i u (is-true (member mask i) (and-left (member mask i) (sets i u) (w .2))) (no-members z i) (is-true (sets i u) (and-right (member mask i) (sets i u) (w .2))))) tt)
+
+-- the places below q that a mask doesn't name
+module _ (q all mask left : ℕ) (ea : member all ≡ up-to q) (el : member left ≡ except (member all) (member mask)) where
+  pub outside-names : Names left q
+  outside-names i t = ltb-true i q (sym (ap (λ X. X i) ea) ∙ except-at (member all) (member mask) i el t .0)
+
+  pub outside-any : (ts : List ℕ) (u : ℕ) → any q (λ j. member left j && eqb u (getD ts j 0)) ≡ any q (λ j. eqb (getD ts j 0) u && not (member mask j))
+  outside-any ts u =
+      any-ext q _ _ (λ j l.
+      ap₂ _&&_ (ap (λ X. X j) el ∙ ap (λ b. b && not (member mask j)) (ap (λ X. X j) ea ∙ lt-ltb j q l)) (eqb-flip u (getD ts j 0))
+      ∙ and-comm (not (member mask j)) (eqb (getD ts j 0) u))
+
+-- the sets of the members passed are joined, the others as they were
+pub record Joining (mask more : ℕ) (sets sets′ : List ℕ) (left : ℕ) : Type 0 where
   pub size : length sets′ ≡ length sets
-  pub joined : (k : ℕ) → k < i → (u : ℕ) → member (getD sets′ k 0) u ≡ ((member mask k && member more u) || member (getD sets k 0) u)
-  pub rest : (k : ℕ) → i ≤ k → getD sets′ k 0 ≡ getD sets k 0
+  pub part : (i : ℕ) → member left i ≡ true → member mask i ≡ true
+  pub joined : (i : ℕ) → member mask i ≡ true → member left i ≡ false → (u : ℕ) → member (getD sets′ i 0) u ≡ (member more u || member (getD sets i 0) u)
+  pub waiting : (i : ℕ) → member left i ≡ true → getD sets′ i 0 ≡ getD sets i 0
+  pub others : (i : ℕ) → member mask i ≡ false → getD sets′ i 0 ≡ getD sets i 0
 
-pub joining-start : (n mask more : ℕ) (sets : List ℕ) → Joining n mask more sets sets 0
-joining-start n mask more sets = record { inside = omega arith; size = refl; joined = λ k lt. absurd (not-suc-le-zero lt); rest = λ k _. refl }
+pub joining-start : (mask more : ℕ) (sets : List ℕ) → Joining mask more sets sets mask
+joining-start mask more sets = record { size = refl; part = λ i t. t; joined = λ i t f. absurd (neither t f); waiting = λ i _. refl; others = λ i _. refl }
 
-pub joining-next : {n mask more : ℕ} {sets sets′ : List ℕ} {i : ℕ} (v a : ℕ) → Joining n mask more sets sets′ i → i < n → n ≤ length sets
-    → ((u : ℕ) → member a u ≡ (member mask i && member more u)) → member v ≡ either (member a) (member (getD sets′ i 0))
-    → Joining n mask more sets (set sets′ i v) (i + 1)
-joining-next {n} {mask} {more} {sets} {sets′} {i} v a j lt le ha hv =
+pub joining-next : {mask more left left′ t : ℕ} {sets sets′ : List ℕ} (v : ℕ) → Joining mask more sets sets′ left → Names mask (length sets)
+    → Lowest (member left) t → member left′ ≡ without-member t (member left) → member v ≡ either (member more) (member (getD sets′ t 0))
+    → Joining mask more sets (set sets′ t v) left′
+joining-next {mask} {more} {left} {left′} {t} {sets} {sets′} v j names low e hv =
     record {
-      inside = omega arith;
-      size = length-set sets′ i v ∙ j .size;
-      joined = λ k b. at k (ℕ-discrete k i) b;
-      rest = λ k b. getD-set-other sets′ i k v 0 (λ e. absurd (let c : k ≡ i = e in omega arith)) ∙ j .rest k (omega arith);
+      size = length-set sets′ t v ∙ j .size;
+      part = next-part mask left left′ t (j .part) e;
+      joined = λ i m f u. at i m u (ℕ-discrete i t) (drop-out (member left) t i e f);
+      waiting = λ i h. let w = drop-at (member left) t i e h in getD-set-other sets′ t i v 0 (w .1) ∙ j .waiting i (w .0);
+      others = λ i f. getD-set-other sets′ t i v 0 (λ c. neither (ap (member mask) c ∙ j .part t (low .here)) f) ∙ j .others i f;
     }
   where
-    at : (k : ℕ) → Dec (k ≡ i) → k < i + 1 → (u : ℕ) → member (getD (set sets′ i v) k 0) u ≡ ((member mask k && member more u) || member (getD sets k 0) u)
-    at k (yes e) b u =
-        subst (λ (k : ℕ). member (getD (set sets′ i v) k 0) u ≡ ((member mask k && member more u) || member (getD sets k 0) u)) (sym e)
-        (ap (λ (y : ℕ). member y u) (getD-set-same sets′ i v 0 (omega (arith, j .size)))
-        ∙ ap (λ X. X u) hv ∙ ap₂ _||_ (ha u) (ap (λ (y : ℕ). member y u) (j .rest i (omega arith))))
-    at k (no ne) b u = ap (λ (y : ℕ). member y u) (getD-set-other sets′ i k v 0 ne) ∙ j .joined k (omega (arith, ne)) u
+    at : (i : ℕ) → member mask i ≡ true → (u : ℕ) → Dec (i ≡ t) → (i ≡ t) ⊎ (member left i ≡ false) → member (getD (set sets′ t v) i 0) u ≡ (member more u || member (getD sets i 0) u)
+    at i m u (yes c) _ =
+        subst (λ (k : ℕ). member (getD (set sets′ t v) k 0) u ≡ (member more u || member (getD sets k 0) u)) (sym c)
+        (ap (λ (y : ℕ). member y u) (getD-set-same sets′ t v 0 (omega (arith, j .size, names t (j .part t (low .here)))))
+        ∙ ap (λ X. X u) hv ∙ ap (λ (y : ℕ). member more u || member y u) (j .waiting t (low .here)))
+    at i m u (no o) (inl c) = absurd (o c)
+    at i m u (no o) (inr f) = ap (λ (y : ℕ). member y u) (getD-set-other sets′ t i v 0 o) ∙ j .joined i m f u
 
-pub joining-end : {n mask more : ℕ} {sets sets′ : List ℕ} {i : ℕ} → Joining n mask more sets sets′ i → n ≤ i → Joined n mask more sets sets′
-joining-end j le = record { join = λ k b. j .joined k (omega arith) }
+pub joining-end : {mask more left : ℕ} {sets sets′ : List ℕ} → left ≡ 0 → Joining mask more sets sets′ left → Joined mask more sets sets′
+joining-end {mask} {more} {sets = sets} {sets′} z j = record { join = λ i u. at i u (true-or-false (member mask i)) }
+  where
+    at : (i u : ℕ) → (member mask i ≡ true) ⊎ (member mask i ≡ false) → member (getD sets′ i 0) u ≡ ((member mask i && member more u) || member (getD sets i 0) u)
+    at i u (inl t) = j .joined i t (no-members z i) u ∙ sym (ap (λ b. (b && member more u) || member (getD sets i 0) u) t)
+    at i u (inr f) = ap (λ (y : ℕ). member y u) (j .others i f) ∙ sym (ap (λ b. (b && member more u) || member (getD sets i 0) u) f)
 
 -- ---- a list emptied from its start
 
@@ -100,61 +154,25 @@ clearing-next {n} {l₀} {l} {i} w lt le = record { inside = omega arith; size =
 -- ---- the cut of two transitions
 
 module _ {first second ranks : List ℕ} {r j k : ℕ} {rel x : List ℕ} (g : Compared first second ranks r j k rel x) where
-  abbrev m : Transition
-  m = transition-at first j
-
-  abbrev n : Transition
-  n = transition-at second k
-
-  module _ (width : ℕ) (mt nt : List ℕ) (ed : width ≡ states-of (table-of second)) (em : mt ≡ targets m) (en : nt ≡ targets n) where
-    from-states : (i : ℕ) → i < length mt → getD mt i 0 < states-of (table-of first)
-    from-states = target-state first j (g .ranked .first-loaded) (g .from-first) mt em
-
-    to-states : (i : ℕ) → i < length nt → getD nt i 0 < states-of (table-of second)
-    to-states = target-state second k (g .ranked .second-loaded) (g .from-second) nt en
-
-    -- what the rows ask
-    pub rows-asked : (length nt ≤ 64) × (length mt ≤ length rel) × ((i : ℕ) → i < length mt → Indexed ranks width (getD mt i 0) nt)
-    rows-asked = (
-      omega (arith, few-places second k (g .ranked .second-loaded) (g .from-second), targets-count second k (g .ranked .second-loaded) (g .from-second) nt en),
-      omega (arith, few-places first j (g .ranked .first-loaded) (g .from-first), targets-count first j (g .ranked .first-loaded) (g .from-first) mt em, g .lent .rows),
-      λ i lt. subst (λ (d : ℕ). Indexed ranks d (getD mt i 0) nt) (sym ed) (indexed (table-of first) (table-of second) ranks (g .ranked .ranked) (g .ranked .enough) (getD mt i 0) nt (from-states i lt) to-states),
-    )
-
-    module _ (rel′ : List ℕ) (w : Rows ranks width r mt nt rel rel′) where
-      rows-are : (i l : ℕ) → i < length (m .entries) → l < length (n .entries) → member (getD rel′ i 0) l ≡ between (round (table-of first) (table-of second) (pred r)) m n i l
-      rows-are i l a b =
-          let e : r ≡ suc (pred r) = let p = g .later in omega arith in
-          rows-round (table-of first) (table-of second) ranks (g .ranked .ranked) mt nt rel rel′ from-states to-states (pred r)
-          (subst₂ (λ (d q : ℕ). Rows ranks d q mt nt rel rel′) ed e w) i l
-          (omega (arith, targets-count first j (g .ranked .first-loaded) (g .from-first) mt em)) (omega (arith, targets-count second k (g .ranked .second-loaded) (g .from-second) nt en))
-          ∙ ap₂ (λ (u v : ℕ). related (round (table-of first) (table-of second) (pred r)) u v) (ap (λ (l : List ℕ). getD l i 0) em) (ap (λ (l′ : List ℕ). getD l′ l 0) en)
-
-      module _ (ws vs : List ℕ) (ew : ws ≡ weights m) (ev : vs ≡ weights n) where
-        -- what the flow kernel asks
-        pub flow-asked : (x′ : List ℕ) → length x′ ≡ length x → Given ws vs rel′ x′
-        flow-asked x′ ex =
-            record {
-              few-rows = omega (arith, few-places first j (g .ranked .first-loaded) (g .from-first), weights-count first j (g .ranked .first-loaded) (g .from-first) ws ew);
-              few-columns = omega (arith, few-places second k (g .ranked .second-loaded) (g .from-second), weights-count second k (g .ranked .second-loaded) (g .from-second) vs ev);
-              masks = omega (arith, few-places first j (g .ranked .first-loaded) (g .from-first), weights-count first j (g .ranked .first-loaded) (g .from-first) ws ew, g .lent .rows, w .size);
-              cells = omega (arith, ex, g .lent .amounts);
-              total-ws = omega (arith, ap total ew, limited-at first (g .ranked .first-loaded) j (g .from-first) .total-small);
-              total-vs = omega (arith, ap total ev, limited-at second (g .ranked .second-loaded) k (g .from-second) .total-small);
-            }
-
-        -- what its answer says
-        pub cut-found : {x₀ x₁ : List ℕ} {mask : ℕ} → Answered ws vs rel′ x₀ x₁ mask → Cut (round (table-of first) (table-of second) (pred r)) m n rel′ mask
-        cut-found {x₀} {x₁} {mask} answer =
-            let a : Answered (weights m) (weights n) rel′ x₀ x₁ mask = subst₂ (λ (p q : List ℕ). Answered p q rel′ x₀ x₁ mask) ew ev answer in
-            let R = between (round (table-of first) (table-of second) (pred r)) m n in
-            let same : (i l : ℕ) → i < length (weights m) → l < length (weights n) → R i l ≡ relates rel′ i l =
-            λ i l b c. sym (rows-are i l (omega (arith, weights-length m)) (omega (arith, weights-length n))) in
-            record {
-              fit = fits-agree R (relates rel′) (weights m) (weights n) same ∙ a .fit;
-              smallest = λ i b. let c : i < length (weights m) = omega (arith, weights-length m) in cut-agree R (relates rel′) (weights m) (weights n) same i c ∙ a .smallest i c;
-              related = rows-are;
-            }
+  -- what the answer says, with the rows that it was asked for
+  pub cut-found : {rel′ ws vs : List ℕ} {mask : ℕ}
+      → Rows ranks (states-of (table-of second)) r (targets (transition-at first j)) (targets (transition-at second k)) rel rel′
+      → ws ≡ weights (transition-at first j) → vs ≡ weights (transition-at second k) → CutOf ws vs rel′ mask
+      → Cut (round (table-of first) (table-of second) (pred r)) (transition-at first j) (transition-at second k) rel′ mask
+  cut-found {rel′} {mask = mask} w ew ev answer =
+      let m = transition-at first j in
+      let n = transition-at second k in
+      let R = between (round (table-of first) (table-of second) (pred r)) m n in
+      let a : CutOf (weights m) (weights n) rel′ mask = subst₂ (λ (p q : List ℕ). CutOf p q rel′ mask) ew ev answer in
+      let rows = related-round j k (g .ranked) (g .from-first) (g .from-second) r (g .later) w in
+      let same : (i l : ℕ) → i < length (weights m) → l < length (weights n) → R i l ≡ relates rel′ i l =
+      λ i l b c. sym (rows i l (omega (arith, weights-length m)) (omega (arith, weights-length n))) in
+      record {
+        fit = fits-agree R (relates rel′) (weights m) (weights n) same ∙ a .fit;
+        smallest = λ i b. let c : i < length (weights m) = omega (arith, weights-length m) in cut-agree R (relates rel′) (weights m) (weights n) same i c ∙ a .smallest i c;
+        no-others = λ i b. a .no-others i (omega (arith, weights-length m));
+        related = rows;
+      }
 
 -- ---- whether one transition fits another
 
@@ -185,14 +203,18 @@ module _ (R : Relation) (m n : Transition) where
   pub none-added : (m .code ≡ n .code → ⊥) → (sets : List ℕ) → Added R m n sets sets
   none-added d sets = record { join = λ i _ u. sym (ap (λ b. b || member (getD sets i 0) u) (apart-other d i u)) }
 
-  module _ {rel : List ℕ} {mask p : ℕ} (near more : ℕ) (code : m .code ≡ n .code) (c : Cut R m n rel mask) (ep : p ≡ length (m .entries))
-      (touch : (l : ℕ) → member near l ≡ touched p (relates rel) (member mask) l)
+  -- the mask names targets of m
+  pub cut-names : {rel : List ℕ} {mask : ℕ} → Cut R m n rel mask → (p : ℕ) → length (m .entries) ≤ p → Names mask p
+  cut-names c p le i t = ⊎-elim (λ l. omega arith) (λ l. absurd (neither t (c .no-others i l))) (below-or-not i (length (m .entries)))
+
+  module _ {rel : List ℕ} {mask : ℕ} (near more : ℕ) (code : m .code ≡ n .code) (c : Cut R m n rel mask) (rows : length (m .entries) ≤ length rel)
+      (touch : (l : ℕ) → member near l ≡ touched (length rel) (relates rel) (member mask) l)
       (loose : (u : ℕ) → member more u ≡ any (length (n .entries)) (λ l. eqb (target-at n l) u && not (member near l))) where
     near-is : (l : ℕ) → l < length (n .entries) → touched (length (weights m)) (between R m n) (cut-of R m n) l ≡ member near l
     near-is l b =
-        ap (λ (q : ℕ). touched q (between R m n) (cut-of R m n) l) (weights-length m ∙ sym ep)
-        ∙ any-ext p (λ i. cut-of R m n i && between R m n i l) (λ i. member mask i && relates rel i l)
-        (λ i a. ap₂ _&&_ (c .smallest i (omega (arith, ep))) (sym (c .related i l (omega (arith, ep)) b)))
+        any-wider (length (weights m)) (length rel) (λ i. cut-of R m n i && between R m n i l) (λ i. member mask i && relates rel i l) (omega (arith, weights-length m))
+        (λ i a. ap₂ _&&_ (c .smallest i (omega (arith, weights-length m))) (sym (c .related i l (omega (arith, weights-length m)) b)))
+        (λ i a. ap (λ v. v && relates rel i l) (c .no-others i (omega (arith, weights-length m))))
         ∙ sym (touch l)
 
     more-is : (u : ℕ) → any (length (weights n)) (λ l. eqb (target-at n l) u && not (touched (length (weights m)) (between R m n) (cut-of R m n) l)) ≡ member more u
@@ -201,11 +223,11 @@ module _ (R : Relation) (m n : Transition) where
         ∙ any-ext (length (n .entries)) _ _ (λ l b. ap (λ v. eqb (target-at n l) u && not v) (near-is l b))
         ∙ sym (loose u)
 
-    pub some-added : {sets sets′ : List ℕ} → Joined p mask more sets sets′ → Added R m n sets sets′
+    pub some-added : {sets sets′ : List ℕ} → Joined mask more sets sets′ → Added R m n sets sets′
     some-added {sets} {sets′} w =
         record {
           join = λ i b u.
-              w .join i (omega (arith, ep)) u
+              w .join i u
               ∙ ap (λ v. v || member (getD sets i 0) u) (ap₂ _&&_ (sym (c .smallest i b)) (sym (more-is u)) ∙ sym (apart-same code i u));
         }
 

@@ -5,6 +5,7 @@ use mathlib.Core.List.{List}
 use Prim.Native.Nat.{ℕ, _<_, _≤_}
 use native.Mathlib.Omega.{arith}
 use lib.ListN.{length, getD}
+use Rattle.simulation.specs.Fit.{Positive}
 use Rattle.simulation.specs.Table.{weights, targets, states-of}
 use Rattle.table.specs.Form.{Loaded, table-of, transitions-of, transition-at}
 use Rattle.table.proofs.FormLaws.{limited-at, limits, distribution-at, targets-length, weights-length}
@@ -25,6 +26,9 @@ module _ (f : List ℕ) (j : ℕ) (l : Loaded f) (h : j < transitions-of f) wher
 
   pub weights-count : (ws : List ℕ) → ws ≡ weights (transition-at f j) → length ws ≡ length (transition-at f j .entries)
   weights-count ws e = omega (arith, ap length e, weights-length (transition-at f j))
+
+  pub weights-positive : (ws : List ℕ) → ws ≡ weights (transition-at f j) → Positive ws
+  weights-positive ws e i lt = omega (arith, ap (λ (l : List ℕ). getD l i 0) e, distribution-at f l j h .positive i (omega (arith, weights-count ws e)))
 
   -- a place
   module _ (i : ℕ) (lt : i < length (transition-at f j .entries)) where

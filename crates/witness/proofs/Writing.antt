@@ -355,7 +355,7 @@ module _ {first second ranks : List ℕ} {s t : ℕ} {rel x stack buf : List ℕ
             subst (λ (v : ℕ). Lost first second s v × (rank (table-of first) (table-of second) s v ≤ r)) (sym (eqb→eq u t (subst (λ (X : ℕ → Bool). T (X u)) em h)))
             (g .lost, omega (arith, er));
         lent = g .lent;
-        words = omega (arith, need-small (node-of first second r s mask), root-length, g .few, g .words);
+        words = omega (arith, need-small (node-of first second r s mask), root-length, g .words);
         room = omega (arith, root-length, g .room);
       }
 

@@ -1,7 +1,7 @@
 -- The transition chosen for a pair that is not kept, and the sets of its targets, as the code finds them.
 -- Assumes nothing.
 use mathlib.Core.Path.{_≡_}
-use mathlib.Core.Bool.{_&&_, _||_}
+use mathlib.Core.Bool.{true, false, _&&_, _||_}
 use mathlib.Core.List.{List}
 use Prim.Native.Nat.{ℕ, _+_, _*_, _≤_, _<_}
 use lib.Dec.{eqb}
@@ -46,15 +46,20 @@ pub record Matched (first second ranks : List ℕ) (r j t : ℕ) (rel x : List �
 pub record Cut (R : Relation) (m n : Transition) (rel : List ℕ) (mask : ℕ) : Type 0 where
   pub fit : fits? (between R m n) (weights m) (weights n) ≡ eqb mask 0
   pub smallest : (i : ℕ) → i < length (m .entries) → cut-of R m n i ≡ member mask i
+  pub no-others : (i : ℕ) → length (m .entries) ≤ i → member mask i ≡ false
   pub related : (i k : ℕ) → i < length (m .entries) → k < length (n .entries) → member (getD rel i 0) k ≡ between R m n i k
 
 -- what n adds to the set of each target of m
 pub record Added (R : Relation) (m n : Transition) (sets sets′ : List ℕ) : Type 0 where
   pub join : (i : ℕ) → i < length (m .entries) → (u : ℕ) → member (getD sets′ i 0) u ≡ (apart-by R m i n u || member (getD sets i 0) u)
 
--- a set joined to each of the first n that a mask names
-pub record Joined (n mask more : ℕ) (sets sets′ : List ℕ) : Type 0 where
-  pub join : (i : ℕ) → i < n → (u : ℕ) → member (getD sets′ i 0) u ≡ ((member mask i && member more u) || member (getD sets i 0) u)
+-- a mask names places below n
+abbrev pub Names : ℕ → ℕ → Type 0
+Names mask n = (i : ℕ) → member mask i ≡ true → i < n
+
+-- a set joined to each of those that a mask names
+pub record Joined (mask more : ℕ) (sets sets′ : List ℕ) : Type 0 where
+  pub join : (i u : ℕ) → member (getD sets′ i 0) u ≡ ((member mask i && member more u) || member (getD sets i 0) u)
 
 -- a pair that is not kept
 pub record Lost (first second : List ℕ) (s t : ℕ) : Type 0 where

@@ -2,7 +2,7 @@
 -- Assumes nothing.
 use mathlib.Core.Path.{_≡_}
 use mathlib.Core.List.{List, [], _∷_}
-use Prim.Native.Nat.{ℕ, _+_, _-_, _/_, _%_, _≤_, max}
+use Prim.Native.Nat.{ℕ, _+_, _-_, _*_, _/_, _%_, _≤_, max}
 use lib.Dec.{T}
 use lib.ListN.{length}
 use Rattle.simulation.specs.Table.{Transition}
@@ -74,11 +74,10 @@ pub record StepGiven (first second ranks : List ℕ) (fuel s t : ℕ) (rel x sta
   pub words : need (step-of first second fuel s t) ≤ length stack
   pub room : length (transition-bytes (step-of first second fuel s t)) ≤ length buf
 
--- what the writing of a pair's tree rests on
+-- what the writing of a pair's tree rests on; every set on the stack has four bytes of the tree
 pub record TreeGiven (first second ranks : List ℕ) (s t : ℕ) (rel x stack buf : List ℕ) : Type 0 where
   pub ranked : Ranked first second ranks
   pub lost : Lost first second s t
   pub lent : Lent rel x
-  pub words : 16384 ≤ length stack
-  pub few : tree-length (table-of first) (table-of second) s t ≤ 65535
+  pub words : tree-length (table-of first) (table-of second) s t ≤ 4 * length stack + 4
   pub room : tree-length (table-of first) (table-of second) s t ≤ length buf

@@ -1,5 +1,5 @@
 // The transition of a pair that is not kept, which fits no like-coded transition of the other state, and the sets of its targets.
-use between;
+use crate::relate;
 use relation::set;
 use table::form;
 use transport;
@@ -16,7 +16,7 @@ ghost use Rattle.simulation.specs.Tree.{chosen};
 ghost use Rattle.table.specs.Form.{Loaded, transitions-of, transition-at, table-of};
 ghost use Rattle.relation.specs.Mask.{member};
 ghost use Rattle.transport.specs.Answer.{relates};
-ghost use Rattle.witness.specs.Choice.{Ranked, Lent, Compared, Matched, Cut, Added, Joined, Lost, Choice, Sets};
+ghost use Rattle.witness.specs.Choice.{Ranked, Lent, Compared, Matched, Cut, Names, Added, Joined, Lost, Choice, Sets};
 
 // The rank of the pair (s, t).
 pub fn rank_at(second: &[u16], ranks: &[u16], s: usize, t: usize) -> u16
@@ -26,36 +26,17 @@ pub fn rank_at(second: &[u16], ranks: &[u16], s: usize, t: usize) -> u16
     ranks[s * form::states(second) + t]
 }
 
-// The set, if i is a member of the mask; else the empty one.
-fn where_member(mask: u64, i: usize, set: u64) -> u64
-    requires { ⌜ i < 64 ⌝ }
-    ensures { λ r. ⌜ ((u : ℕ) → member r u ≡ (member mask i && member set u)) ⌝ }
-{
-    if set::test(mask, i) {
-        return set;
-    }
-    0
-}
-
-// The set of t alone, if i is no member of the mask; else the empty one.
-fn single_unless(mask: u64, i: usize, t: usize) -> u64
-    requires { ⌜ (i < 64) × (t < 64) ⌝ }
-    ensures { λ r. ⌜ ((u : ℕ) → member r u ≡ (eqb t u && not (member mask i))) ⌝ }
-{
-    if set::test(mask, i) {
-        return 0;
-    }
-    set::single(t)
-}
-
-// What some row that the mask names is related to, of the first n rows.
-fn touch(rel: &[u64], n: usize, mask: u64) -> u64
-    requires { ⌜ (n ≤ 64) × (n ≤ length (now rel)) ⌝ }
-    ensures { λ r. ⌜ ((k : ℕ) → member r k ≡ touched n (relates (now (rel .entry))) (member mask) k) ⌝ }
+// What some row that the mask names is related to.
+fn touch(rel: &[u64], mask: u64) -> u64
+    requires { ⌜ Names mask (length (now rel)) ⌝ }
+    ensures { λ r. ⌜ ((k : ℕ) → member r k ≡ touched (length (now (rel .entry))) (relates (now (rel .entry))) (member mask) k) ⌝ }
 {
     let mut near: u64 = 0;
-    for i in 0..n {
-        near = set::union(where_member(mask, i, rel[i]), near);
+    let mut left = mask;
+    while left != 0 {
+        let i = set::lowest(left);
+        near = set::union(rel[i], near);
+        left = set::without_lowest(left);
     }
     near
 }
@@ -68,21 +49,27 @@ fn loose(second: &[u16], k: usize, mask: u64) -> u64
 {
     let targets = form::targets(second, k);
     let mut states: u64 = 0;
-    for j in 0..targets.len() {
+    let mut left = set::difference(set::below(targets.len()), mask);
+    while left != 0 {
+        let j = set::lowest(left);
         let t = targets[j] as usize;
-        states = set::union(single_unless(mask, j, t), states);
+        states = set::insert(states, t);
+        left = set::without_lowest(left);
     }
     states
 }
 
-// Joins a set to each of the first n sets that the mask names.
-fn spread(sets: &mut [u64], n: usize, mask: u64, more: u64)
-    requires { ⌜ (n ≤ 64) × (n ≤ length (now sets)) ⌝ }
-    ensures { λ _. ⌜ Joined n mask more (now (sets .entry)) (now (sets .exit)) ⌝ }
+// Joins a set to each of those that the mask names.
+fn spread(sets: &mut [u64], mask: u64, more: u64)
+    requires { ⌜ Names mask (length (now sets)) ⌝ }
+    ensures { λ _. ⌜ Joined mask more (now (sets .entry)) (now (sets .exit)) ⌝ }
 {
-    for i in 0..n {
-        let set = set::union(where_member(mask, i, more), sets[i]);
+    let mut left = mask;
+    while left != 0 {
+        let i = set::lowest(left);
+        let set = set::union(more, sets[i]);
         sets[i] = set;
+        left = set::without_lowest(left);
     }
 }
 
@@ -101,13 +88,10 @@ fn cut(
     ensures { λ mask. ⌜ Cut (round (table-of (now (first .entry))) (table-of (now (second .entry))) (pred r))
         (transition-at (now (first .entry)) j) (transition-at (now (second .entry)) k) (now (rel .exit)) mask ⌝ }
 {
-    let width = form::states(second);
-    let mt = form::targets(first, j);
-    let nt = form::targets(second, k);
-    between::rows(ranks, width, r, mt, nt, rel);
+    relate::rows(first, second, ranks, r, j, k, rel);
     let ws = form::weights(first, j);
     let vs = form::weights(second, k);
-    transport::transport(ws, vs, rel, x)
+    transport::quick::cut(ws, vs, rel, x)
 }
 
 // Whether the transition j has the code of the transition k and fits it, in the round before round r.
@@ -197,10 +181,9 @@ fn part_sets(
         (transition-at (now (first .entry)) j) (transition-at (now (second .entry)) k) (now (sets .entry)) (now (sets .exit)) ⌝ }
 {
     let mask = cut(first, second, ranks, r, j, k, rel, x);
-    let n = form::targets(first, j).len();
-    let near = touch(rel, n, mask);
+    let near = touch(rel, mask);
     let more = loose(second, k, near);
-    spread(sets, n, mask, more);
+    spread(sets, mask, more);
 }
 
 // The same for any k: one with another code adds nothing.

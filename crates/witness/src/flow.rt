@@ -1,6 +1,7 @@
 // The flows of a kept pair: each transition of s with the transition of t that it is shared out over, and the amounts.
 use crate::records;
 use crate::records::Record;
+use crate::relate;
 use table::form;
 ghost use mathlib.Core.Path.{_≡_};
 ghost use Prim.Native.Nat.{_+_, _*_, _<_, _≤_};
@@ -90,10 +91,7 @@ fn fits(first: &[u16], second: &[u16], ranks: &[u16], i: usize, j: usize, x: &mu
         return false;
     }
     let mut rel = no_rows();
-    let width = form::states(second);
-    let mt = form::targets(first, i);
-    let nt = form::targets(second, j);
-    between::rows(ranks, width, KEPT, mt, nt, &mut rel);
+    relate::rows(first, second, ranks, KEPT, i, j, &mut rel);
     transport::transport(form::weights(first, i), form::weights(second, j), &rel, x) == 0
 }
 

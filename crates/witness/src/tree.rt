@@ -136,10 +136,7 @@ pub fn write_transition(
     at
 }
 
-// The words that the sets of a tree of at most 65,535 bytes take, at most.
-pub const WORDS: usize = 16_384;
-
-// The tree of the pair (s, t), which is not kept. Returns its length.
+// The tree of the pair (s, t), which is not kept. The stack has a word for every four bytes of it. Returns its length.
 pub fn tree(
     first: &[u16],
     second: &[u16],

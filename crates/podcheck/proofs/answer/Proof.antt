@@ -1,8 +1,9 @@
 -- `podcheck::answer` meets its contract. Assumes nothing.
-use native.Mathlib.Nat.{mul-le-mul-right}
+use mathlib.Core.Path.{refl}
+use Prim.Native.Nat.{zero-le}
 use native.Mathlib.Omega.{arith}
 use Rattle.report.proofs.Writing.{over-counts}
-use Rattle.podcheck.proofs.Printing.{printed}
+use Rattle.podcheck.proofs.Printing.{without-room, with-text}
 use borrow.Author.Needs.{needs}
 use Rattle.podcheck.proofs.answer.Statement.{statement}
 use Rattle.podcheck.proofs.answer.Tie as tie
@@ -13,60 +14,55 @@ first-table-requires c κs = search needs
 second-table-requires : tie.Need-second-table-requires
 second-table-requires c κs = search needs
 
+array-borrow-prefix-flow : tie.Need-array-borrow-prefix-flow
+array-borrow-prefix-flow c = search needs
+
 slice-aggregate-check : tie.Need-slice-aggregate-check
 slice-aggregate-check c = search needs
-
-slice-aggregate-check-2 : tie.Need-slice-aggregate-check-2
-slice-aggregate-check-2 c = search needs
-
-slice-aggregate-check-3 : tie.Need-slice-aggregate-check-3
-slice-aggregate-check-3 c = search needs
 
 check-requires : tie.Need-check-requires
 check-requires c κs = search needs
 
-states-of-requires : tie.Need-states-of-requires
-states-of-requires c κs = search needs
-
-states-of-requires-2 : tie.Need-states-of-requires-2
-states-of-requires-2 c κs = search needs
-
-slice-aggregate-print : tie.Need-slice-aggregate-print
-slice-aggregate-print c = search needs
-
-slice-aggregate-print-2 : tie.Need-slice-aggregate-print-2
-slice-aggregate-print-2 c = search needs
-
-print-requires : tie.Need-print-requires
-print-requires c κs =
-    let second = c .before .before .before in
-    let first = second .before in
-    let p = first .states-of in
-    let q = second .states-of2 in
-    let lent = first .before .before .before .before in
-    let k = lent .before .before .before .before .before .before .before .before in (
-      p .ensures .1,
-      q .ensures .1,
-      omega (arith, p .ensures .1, q .ensures .1, mul-le-mul-right (q .result) (p .ensures .1), lent .check .kept .1 .1 .1 .1 .0),
-      omega (arith, lent .check .kept .1 .1 .1 .1 .1 .1 .0),
-      k .pre,
-    )
-
 same-length : tie.Need-same-length
 same-length c = search needs
 
+same-length-2 : tie.Need-same-length-2
+same-length-2 c = search needs
+
 returns : tie.Need-returns
 returns c =
+    let check = c .before .before .before .before .before .before .before in
+    let second = check .before .before .before .before in
+    let first = second .before in
+    let k = first .before .before .before .before .before in (
+      without-room (k .args .input .now) (first .first-table .ensures) (second .second-table .ensures) (check .check .ensures) (c .if1 .taken),
+      (zero-le, refl),
+    )
+
+print-requires : tie.Need-print-requires
+print-requires c κs =
+    let check = c .before .before .before .before .before .before .before .before .before .before in
+    let p = check .before .before .before .before .before .before .before .before .before .before .pre in
+    let kept = check .check .kept .1 .1 .1 .1 in
+    (p .0 .first-few, p .0 .second-few, omega (arith, p .1, kept .0), omega (arith, p .2, kept .1 .1 .0))
+
+same-length-3 : tie.Need-same-length-3
+same-length-3 c = search needs
+
+same-length-4 : tie.Need-same-length-4
+same-length-4 c = search needs
+
+same-length-5 : tie.Need-same-length-5
+same-length-5 c = search needs
+
+returns-2 : tie.Need-returns-2
+returns-2 c =
     let out = c .before .before in
-    let q = out .before .before .before .before in
-    let p = q .before in
-    let check = p .before .before .before .before in
-    let tree = check .before in
-    let flow = tree .before in
-    let ranks = flow .before in
-    let second = ranks .before in
-    let first = second .before in (
-      printed (first .first-table .ensures) (second .second-table .ensures) (slice-aggregate-check ranks) (slice-aggregate-check-2 flow) (slice-aggregate-check-3 tree) (check .check .ensures) (p .states-of .ensures .0) (q .states-of2 .ensures .0) (out .print .ensures),
+    let check = c .before .before .before .before .before .before .before .before .before .before .before .before .before in
+    let second = check .before .before .before .before in
+    let first = second .before in
+    let k = first .before .before .before .before .before in (
+      with-text (k .args .input .now) (first .first-table .ensures) (second .second-table .ensures) (check .check .ensures) (k .pre .0) (k .pre .1) (c .before .before .before .before .before .before .if1 .left) (out .print .ensures),
       over-counts (out .print .ensures),
     )
 
@@ -76,14 +72,14 @@ answer-spec =
     (tie.spec
     first-table-requires
     second-table-requires
+    array-borrow-prefix-flow
     slice-aggregate-check
-    slice-aggregate-check-2
-    slice-aggregate-check-3
     check-requires
-    states-of-requires
-    states-of-requires-2
-    slice-aggregate-print
-    slice-aggregate-print-2
-    print-requires
     same-length
-    returns)
+    same-length-2
+    returns
+    print-requires
+    same-length-3
+    same-length-4
+    same-length-5
+    returns-2)

@@ -7,9 +7,6 @@ use borrow.Author.Needs.{needs}
 use Rattle.pod.proofs.compare.show.Statement.{statement}
 use Rattle.pod.proofs.compare.show.Tie as tie
 
-no-amounts-requires : tie.Need-no-amounts-requires
-no-amounts-requires c κs = search needs
-
 slice-aggregate-rank : tie.Need-slice-aggregate-rank
 slice-aggregate-rank c = search needs
 
@@ -20,14 +17,14 @@ states-requires : tie.Need-states-requires
 states-requires c κs = search needs
 
 mul-place : tie.Need-mul-place
-mul-place c = let d = c .before .before .before .before .before .before .before .before .before .before .before .before .before in let p = d .pre in omega (arith, place-small _ _ (p .0) (p .1) refl (c .states .ensures) (d .args .s) (d .args .t) (p .2) (omega (arith, c .states .ensures, p .3)))
+mul-place c = let d = c .before .before .before .before .before .before .before .before .before .before .before .before in let p = d .pre in omega (arith, place-small _ _ (p .0) (p .1) refl (c .states .ensures) (d .args .s) (d .args .t) (p .2) (omega (arith, c .states .ensures, p .3)))
 
 add-place : tie.Need-add-place
-add-place c = let d = c .before .before .before .before .before .before .before .before .before .before .before .before .before in let p = d .pre in omega (arith, place-small _ _ (p .0) (p .1) refl (c .states .ensures) (d .args .s) (d .args .t) (p .2) (omega (arith, c .states .ensures, p .3)))
+add-place c = let d = c .before .before .before .before .before .before .before .before .before .before .before .before in let p = d .pre in omega (arith, place-small _ _ (p .0) (p .1) refl (c .states .ensures) (d .args .s) (d .args .t) (p .2) (omega (arith, c .states .ensures, p .3)))
 
 found-requires : tie.Need-found-requires
 found-requires c κs =
-    let p = c .before .before .before .before .before .before .before .before .before .before .before .before .before .before .pre in
+    let p = c .before .before .before .before .before .before .before .before .before .before .before .before .before .pre in
     let r = c .before .before .before .before .before .rank .ensures in
     let w = c .before .states .ensures in
     let h = place-after _ _ (p .0) (p .1) _ _ (p .2) (p .3) (p .4) r w in
@@ -35,14 +32,14 @@ found-requires c κs =
 
 mul-if1 : tie.Need-mul-if1
 mul-if1 c =
-    let p = c .before .before .before .before .before .before .before .before .before .before .before .before .before .before .before .pre in
+    let p = c .before .before .before .before .before .before .before .before .before .before .before .before .before .before .pre in
     let r = c .before .before .before .before .before .before .rank .ensures in
     let w = c .before .before .states .ensures in
-    omega (arith, place-small _ _ (p .0) (p .1) refl w (c .before .before .before .before .before .before .before .before .before .before .before .before .before .before .before .args .s) (c .before .before .before .before .before .before .before .before .before .before .before .before .before .before .before .args .t) (p .2) (omega (arith, w, p .3)))
+    omega (arith, place-small _ _ (p .0) (p .1) refl w (c .before .before .before .before .before .before .before .before .before .before .before .before .before .before .args .s) (c .before .before .before .before .before .before .before .before .before .before .before .before .before .before .args .t) (p .2) (omega (arith, w, p .3)))
 
 slice-read-if1 : tie.Need-slice-read-if1
 slice-read-if1 c =
-    let p = c .before .before .before .before .before .before .before .before .before .before .before .before .before .before .before .before .pre in
+    let p = c .before .before .before .before .before .before .before .before .before .before .before .before .before .before .before .pre in
     let r = c .before .before .before .before .before .before .before .rank .ensures in
     let w = c .before .before .before .states .ensures in
     place-after _ _ (p .0) (p .1) _ _ (p .2) (p .3) (p .4) r w
@@ -52,11 +49,11 @@ slice-aggregate-show-flow c = search needs
 
 show-flow-requires : tie.Need-show-flow-requires
 show-flow-requires c κs =
-    let p = c .before .before .before .before .before .before .before .before .before .before .before .before .before .before .before .before .before .before .before .before .pre in
+    let p = c .before .before .before .before .before .before .before .before .before .before .before .before .before .before .before .before .before .before .before .pre in
     let r = c .before .before .before .before .before .before .before .before .before .before .before .rank .ensures in
     let w = c .before .before .before .before .before .before .before .states .ensures in
     record {
-      ready = record { ranked = ranked-after _ _ (p .0) (p .1) _ _ (p .2) (p .3) (p .4) r; cells = omega (arith, c .before .before .before .before .before .before .before .before .before .before .before .before .before .before .no-amounts .ok, c .before .before .before .before .before .before .before .before .before .before .before .rank .kept .1 .1 .1 .0) };
+      ready = record { ranked = ranked-after _ _ (p .0) (p .1) _ _ (p .2) (p .3) (p .4) r; cells = omega (arith, slice-aggregate-rank (c .before .before .before .before .before .before .before .before .before .before .before .before), c .before .before .before .before .before .before .before .before .before .before .before .rank .kept .1 .1 .1 .0) };
       first = p .2;
       second = p .3;
       kept = sym (rank-after _ _ (p .0) (p .1) _ _ (p .2) (p .3) (p .4) r w) ∙ c .before .before .before .if1 .taken;
@@ -70,7 +67,7 @@ same-length-2 c = search needs
 
 returns : tie.Need-returns
 returns c =
-    let p = c .before .before .before .before .before .before .before .before .before .before .before .before .before .before .before .before .before .before .before .before .before .before .before .before .pre in
+    let p = c .before .before .before .before .before .before .before .before .before .before .before .before .before .before .before .before .before .before .before .before .before .before .before .pre in
     let r = c .before .before .before .before .before .before .before .before .before .before .before .before .before .before .before .rank .ensures in
     let w = c .before .before .before .before .before .before .before .before .before .before .before .states .ensures in
     flow-after _ _ (p .0) (p .1) _ _ (p .2) (p .3) (p .4) r w (c .before .before .before .before .before .before .before .before .before .found .ensures) (c .before .before .before .before .before .before .before .if1 .taken) (c .before .before .before .show-flow .ensures)
@@ -80,13 +77,13 @@ slice-aggregate-show-tree c = search needs
 
 show-tree-requires : tie.Need-show-tree-requires
 show-tree-requires c κs =
-    let p = c .before .before .before .before .before .before .before .before .before .before .before .before .before .before .before .before .before .before .before .before .pre in
+    let p = c .before .before .before .before .before .before .before .before .before .before .before .before .before .before .before .before .before .before .before .pre in
     let r = c .before .before .before .before .before .before .before .before .before .before .before .rank .ensures in
     let w = c .before .before .before .before .before .before .before .states .ensures in
     let n = rank-after _ _ (p .0) (p .1) _ _ (p .2) (p .3) (p .4) r w in (
       ranked-after _ _ (p .0) (p .1) _ _ (p .2) (p .3) (p .4) r,
       record { left = p .2; right = p .3; fell = omega (arith, n, c .before .before .before .if1 .left) },
-      omega (arith, c .before .before .before .before .before .before .before .before .before .before .before .before .before .before .no-amounts .ok, c .before .before .before .before .before .before .before .before .before .before .before .rank .kept .1 .1 .1 .0),
+      omega (arith, slice-aggregate-rank (c .before .before .before .before .before .before .before .before .before .before .before .before), c .before .before .before .before .before .before .before .before .before .before .before .rank .kept .1 .1 .1 .0),
     )
 
 same-length-3 : tie.Need-same-length-3
@@ -97,7 +94,7 @@ same-length-4 c = search needs
 
 returns-2 : tie.Need-returns-2
 returns-2 c =
-    let p = c .before .before .before .before .before .before .before .before .before .before .before .before .before .before .before .before .before .before .before .before .before .before .before .before .pre in
+    let p = c .before .before .before .before .before .before .before .before .before .before .before .before .before .before .before .before .before .before .before .before .before .before .before .pre in
     let r = c .before .before .before .before .before .before .before .before .before .before .before .before .before .before .before .rank .ensures in
     let w = c .before .before .before .before .before .before .before .before .before .before .before .states .ensures in
     tree-after _ _ (p .0) (p .1) _ _ (p .2) (p .3) (p .4) r w (c .before .before .before .before .before .before .before .before .before .found .ensures) (c .before .before .before .before .before .before .before .if1 .left) (c .before .before .before .show-tree .ensures)
@@ -106,7 +103,6 @@ pub show-spec : {M : Type 1} → statement M
 show-spec =
     tie.close
     (tie.spec
-    no-amounts-requires
     slice-aggregate-rank
     rank-requires
     states-requires

@@ -1,24 +1,24 @@
 -- `pod::compare::tree_length` meets its contract.
 -- Assumes nothing.
 use native.Mathlib.Omega.{arith}
-use Rattle.ranking.proofs.Turning.{few-pairs}
+use Rattle.table.proofs.FormLaws.{few-pairs}
 use borrow.Author.Needs.{needs}
 use Rattle.pod.proofs.compare.tree_length.Statement.{statement}
 use Rattle.pod.proofs.compare.tree_length.Tie as tie
 
-no-lengths-requires : tie.Need-no-lengths-requires
-no-lengths-requires c κs = search needs
-
 slice-aggregate-tree-length : tie.Need-slice-aggregate-tree-length
 slice-aggregate-tree-length c = search needs
 
+slice-aggregate-tree-length-2 : tie.Need-slice-aggregate-tree-length-2
+slice-aggregate-tree-length-2 c = search needs
+
 tree-length-requires : tie.Need-tree-length-requires
 tree-length-requires c κs =
-    let p = c .before .before .before .before .before .before .before .before .before .before .before .pre in (
+    let p = c .before .before .before .before .before .before .before .before .before .pre in (
       record {
         ranked = p .0;
-        room = omega (arith, c .before .before .before .before .no-lengths .ok, few-pairs _ _ (p .0 .first-loaded) (p .0 .second-loaded));
-        words = p .3;
+        room = omega (arith, slice-aggregate-tree-length (c .before .before .before), few-pairs _ _ (p .0 .first-loaded) (p .0 .second-loaded));
+        words = omega (arith, slice-aggregate-tree-length-2 (c .before .before));
         lent = p .2;
       },
       p .1,
@@ -30,9 +30,6 @@ same-length c = search needs
 same-length-2 : tie.Need-same-length-2
 same-length-2 c = search needs
 
-same-length-3 : tie.Need-same-length-3
-same-length-3 c = search needs
-
 returns : tie.Need-returns
 returns c = search needs
 
@@ -40,10 +37,9 @@ pub tree-length-spec : {M : Type 1} → statement M
 tree-length-spec =
     tie.close
     (tie.spec
-    no-lengths-requires
     slice-aggregate-tree-length
+    slice-aggregate-tree-length-2
     tree-length-requires
     same-length
     same-length-2
-    same-length-3
     returns)

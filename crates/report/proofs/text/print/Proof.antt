@@ -39,7 +39,7 @@ report-requires : tie.Need-report-requires
 report-requires c κs =
     let part = c .before .before in
     let k = part .before .before .before .before .before in
-    (k .pre .0, k .pre .1, all-pairs k, omega (arith, k .pre .3, ap length (part .front .ensures), length-take (k .args .written) (k .args .tree .now)), k .pre .4)
+    (k .pre .0, k .pre .1, all-pairs k, omega (arith, k .pre .3, ap length (part .front .ensures), length-take (k .args .written) (k .args .tree .now)))
 
 same-length-2 : tie.Need-same-length-2
 same-length-2 c = search needs

@@ -14,7 +14,7 @@ room known =
     let k = known .before in
     let a = k .args in
     let p = k .pre in
-    report-room (a .p) (a .q) (a .ranks .now) (a .long) (a .tree .now) (a .buf .now) (p .0) (p .1) (p .2) (λ i. known .shared-slice-known .given i .fits) (p .3) (p .4)
+    report-room (a .p) (a .q) (a .ranks .now) (a .long) (a .tree .now) (a .buf .now) (p .0) (p .1) (p .2) (λ i. known .shared-slice-known .given i .fits) (p .3)
 
 put-report-requires : tie.Need-put-report-requires
 put-report-requires c κs =

@@ -1,109 +1,101 @@
--- `choice::loose` meets its contract. Assumes nothing.
+-- `choice::loose` meets its contract: the targets passed are united. Assumes nothing.
+use mathlib.Core.Path.{ap, _∙_}
 use mathlib.Core.List.{List}
-use mathlib.Core.Bool.{not, _&&_, _||_}
-use mathlib.Core.Path.{_≡_, ap, ap₂, sym, _∙_}
-use Prim.Native.Nat.{ℕ, _-_, _≤_, zero-le}
+use mathlib.Core.Bool.{not, _&&_}
+use Prim.Native.Nat.{ℕ}
 use native.Mathlib.Omega.{arith}
-use lib.ListN.{length, getD}
 use lib.Dec.{eqb}
+use lib.ListN.{length, getD}
 use borrow.Author.Needs.{needs}
-use Rattle.simulation.specs.Table.{targets}
 use Rattle.simulation.specs.Sum.{any}
 use Rattle.table.specs.Form.{transition-at}
-use Rattle.relation.proofs.Mask.{member-none}
 use Rattle.relation.specs.Mask.{member}
-use Rattle.witness.proofs.Choosing.{any-none, any-more}
+use Rattle.witness.specs.Choice.{Names}
+use Rattle.witness.proofs.Choosing.{Uniting, uniting-start, uniting-next, uniting-end, outside-names, outside-any}
 use Rattle.witness.proofs.Places.{few-places, targets-count, target-small}
 use Rattle.witness.proofs.choice.loose.Statement.{statement}
 use Rattle.witness.proofs.choice.loose.Tie as tie
 
 abbrev Inv-loop : tie.InvT-loop
-Inv-loop second k mask targets states₀ j₀ j-end states j =
-    (j ≤ j-end) × ((u : ℕ) → member states u ≡ any j (λ i. eqb (getD targets i 0) u && not (member mask i)))
+Inv-loop second k mask targets states₀ left₀ states left = Names left₀ (length targets) × Uniting (λ j u. eqb u (getD targets j 0)) left₀ left states
 
 abbrev μ-loop : tie.MeasureT-loop
-μ-loop second k mask targets states₀ j₀ j-end states j =
-    j-end - j
+μ-loop second k mask targets states₀ left₀ states left = left
 
 targets-requires : tie.Need-targets-requires Inv-loop μ-loop
 targets-requires c κs = search needs
 
+below-requires : tie.Need-below-requires Inv-loop μ-loop
+below-requires c κs =
+    let entry = c .before .before in
+    let a = entry .args in
+    omega (arith, few-places (a .second .now) (a .k) (entry .pre .0) (entry .pre .1), targets-count (a .second .now) (a .k) (entry .pre .0) (entry .pre .1) _ (c .targets .ensures))
+
+difference-requires : tie.Need-difference-requires Inv-loop μ-loop
+difference-requires c κs = search needs
+
 loop-holds : tie.Need-loop-holds Inv-loop μ-loop
-loop-holds c =
-    (zero-le, λ u. member-none u ∙ sym (any-none (λ i. eqb (getD (c .targets .result .now) i 0) u && not (member (c .before .before .args .mask) i))))
+loop-holds c = (outside-names _ _ _ _ (c .before .below .ensures) (c .difference .ensures), uniting-start)
+
+lowest-requires : tie.Need-lowest-requires Inv-loop μ-loop
+lowest-requires c κs = omega arith
 
 mul-t : tie.Need-mul-t Inv-loop μ-loop
-mul-t c =
-    let entry = c .before .before .before .before in
-    let e = c .before .before .targets .ensures in
-    record {
-      fits = omega (arith, c .loop-test .taken, few-places (entry .args .second .now) (entry .args .k) (entry .pre .0) (entry .pre .1), targets-count (entry .args .second .now) (entry .args .k) (entry .pre .0) (entry .pre .1) _ e);
-    }
+mul-t c = omega (arith, c .lowest .ensures .0)
 
 shared-slice-read-t : tie.Need-shared-slice-read-t Inv-loop μ-loop
 shared-slice-read-t c =
-    c .before .loop-test .taken
+    let at-lowest = c .before in
+    let v = at-lowest .before .before .loop .inv in
+    v .0 _ (v .1 .part _ (at-lowest .lowest .ensures .1 .here))
 
 cast-t : tie.Need-cast-t Inv-loop μ-loop
 cast-t c =
-    let at-targets = c .before .before .before in
+    let at-lowest = c .before in
+    let at-loop = at-lowest .before .before in
+    let v = at-loop .loop .inv in
+    let at-targets = at-loop .before .before .before in
     let entry = at-targets .before .before in
-    record { fits = omega (arith, target-small (entry .args .second .now) (entry .args .k) (entry .pre .0) (entry .pre .1) _ (at-targets .targets .ensures) _ (c .before .loop-test .taken)) }
-
-single-unless-requires : tie.Need-single-unless-requires Inv-loop μ-loop
-single-unless-requires c κs =
-    let at-targets = c .before .before .before in
-    let entry = at-targets .before .before in
-    let e = at-targets .targets .ensures in (
-      omega (arith, c .before .loop-test .taken, few-places (entry .args .second .now) (entry .args .k) (entry .pre .0) (entry .pre .1), targets-count (entry .args .second .now) (entry .args .k) (entry .pre .0) (entry .pre .1) _ e),
-      target-small (entry .args .second .now) (entry .args .k) (entry .pre .0) (entry .pre .1) _ e _ (c .before .loop-test .taken),
-    )
-
-union-requires : tie.Need-union-requires Inv-loop μ-loop
-union-requires c κs = search needs
-
-add-j : tie.Need-add-j Inv-loop μ-loop
-add-j c =
-    let at-loop-test = c .before .before .before in
-    let at-targets = at-loop-test .before .before in
-    let entry = at-targets .before .before in
-    let e = at-targets .targets .ensures in
     record {
-      fits = omega (arith, at-loop-test .loop-test .taken, few-places (entry .args .second .now) (entry .args .k) (entry .pre .0) (entry .pre .1), targets-count (entry .args .second .now) (entry .args .k) (entry .pre .0) (entry .pre .1) _ e);
+      fits = omega (arith, target-small (entry .args .second .now) (entry .args .k) (entry .pre .0) (entry .pre .1) _ (at-targets .targets .ensures) _ (v .0 _ (v .1 .part _ (at-lowest .lowest .ensures .1 .here))));
     }
 
+insert-requires : tie.Need-insert-requires Inv-loop μ-loop
+insert-requires c κs =
+    let at-lowest = c .before in
+    let at-loop = at-lowest .before .before in
+    let v = at-loop .loop .inv in
+    let at-targets = at-loop .before .before .before in
+    let entry = at-targets .before .before in
+    target-small (entry .args .second .now) (entry .args .k) (entry .pre .0) (entry .pre .1) _ (at-targets .targets .ensures) _ (v .0 _ (v .1 .part _ (at-lowest .lowest .ensures .1 .here)))
+
+without-lowest-requires : tie.Need-without-lowest-requires Inv-loop μ-loop
+without-lowest-requires c κs = omega arith
+
 loop-less : tie.Need-loop-less Inv-loop μ-loop
-loop-less c =
-    let at-loop-test = c .before .before .before in
-    omega (arith, at-loop-test .loop-test .taken)
+loop-less c = c .without-lowest .ensures .1
 
 loop-again : tie.Need-loop-again Inv-loop μ-loop
 loop-again c =
-    let at-loop-test = c .before .before .before in
-    let at-loop = at-loop-test .before in
-    let at-targets = at-loop .before in
-    let entry = at-targets .before .before in
-    let l = at-loop .loop in
-    let ts = at-targets .targets .result .now in
-    let mask = entry .args .mask in (
-      omega (arith, at-loop-test .loop-test .taken),
-      λ u.
-          ap (λ X. X u) (c .union .ensures)
-          ∙ ap₂ _||_ (c .before .single-unless .ensures u) (l .inv .1 u)
-          ∙ sym (any-more (l .j) (λ i. eqb (getD ts i 0) u && not (member mask i))),
-    )
+    let at-lowest = c .before .before .before in
+    let low = at-lowest .lowest .ensures .1 in
+    let v = at-lowest .before .before .loop .inv in
+    (v .0, uniting-next (v .1) low (c .without-lowest .ensures .0 _ low) (c .before .insert .ensures))
 
 returns : tie.Need-returns Inv-loop μ-loop
 returns c =
-    let entry = c .before .before .before .before in
-    let l = c .before .loop in
-    let found = c .before .before .targets in
-    let mask = entry .args .mask in
-    let n = transition-at (entry .args .second .now) (entry .args .k) in
-    λ u. l .inv .1 u
-    ∙ ap (λ (p : ℕ). any p (λ i. eqb (getD (found .result .now) i 0) u && not (member mask i)))
-    (let e : l .j ≡ length (n .entries) = omega (arith, l .inv .0, c .loop-test .left, targets-count (entry .args .second .now) (entry .args .k) (entry .pre .0) (entry .pre .1) _ (found .ensures)) in e)
-    ∙ ap (λ (ts : List ℕ). any (length (n .entries)) (λ i. eqb (getD ts i 0) u && not (member mask i))) (found .ensures)
+    let at-difference = c .before .before in
+    let found = at-difference .before .before .targets in
+    let entry = at-difference .before .before .before .before in
+    let a = entry .args in
+    let v = c .before .loop .inv in
+    let n = transition-at (a .second .now) (a .k) in
+    λ u.
+    uniting-end (length (found .result .now)) (c .loop-test .left) (v .0) (v .1) u
+    ∙ outside-any _ _ _ _ (at-difference .before .below .ensures) (at-difference .difference .ensures) (found .result .now) u
+    ∙ ap (λ (p : ℕ). any p (λ i. eqb (getD (found .result .now) i 0) u && not (member (a .mask) i)))
+    (targets-count (a .second .now) (a .k) (entry .pre .0) (entry .pre .1) _ (found .ensures))
+    ∙ ap (λ (ts : List ℕ). any (length (n .entries)) (λ i. eqb (getD ts i 0) u && not (member (a .mask) i))) (found .ensures)
 
 pub loose-spec : {M : Type 1} → statement M
 loose-spec =
@@ -112,13 +104,15 @@ loose-spec =
     Inv-loop
     μ-loop
     targets-requires
+    below-requires
+    difference-requires
     loop-holds
+    lowest-requires
     mul-t
     shared-slice-read-t
     cast-t
-    single-unless-requires
-    union-requires
-    add-j
+    insert-requires
+    without-lowest-requires
     loop-less
     loop-again
     returns)

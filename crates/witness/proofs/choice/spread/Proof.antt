@@ -1,5 +1,4 @@
--- `choice::spread` meets its contract. Assumes nothing.
-use Prim.Native.Nat.{_-_}
+-- `choice::spread` meets its contract: the sets of the members passed are joined. Assumes nothing.
 use native.Mathlib.Omega.{arith}
 use borrow.Author.Needs.{needs}
 use Rattle.witness.proofs.Choosing.{Joining, joining-start, joining-next, joining-end}
@@ -7,74 +6,60 @@ use Rattle.witness.proofs.choice.spread.Statement.{statement}
 use Rattle.witness.proofs.choice.spread.Tie as tie
 
 abbrev Inv-loop : tie.InvT-loop
-Inv-loop sets₀ n mask more i₀ sets i =
-    Joining n mask more sets₀ sets i
+Inv-loop sets₀ mask more left₀ sets left = Joining mask more sets₀ sets left
 
 abbrev μ-loop : tie.MeasureT-loop
-μ-loop sets₀ n mask more i₀ sets i =
-    n - i
+μ-loop sets₀ mask more left₀ sets left = left
 
 loop-holds : tie.Need-loop-holds Inv-loop μ-loop
-loop-holds c =
-    let a = c .before .args in joining-start (a .n) (a .mask) (a .more) (a .sets .now)
+loop-holds c = joining-start _ _ _
 
-where-member-requires : tie.Need-where-member-requires Inv-loop μ-loop
-where-member-requires c κs =
-    let entry = c .before .before .before in
-    omega (arith, entry .pre .0, c .loop-test .taken)
+lowest-requires : tie.Need-lowest-requires Inv-loop μ-loop
+lowest-requires c κs = omega arith
 
 mul-union : tie.Need-mul-union Inv-loop μ-loop
-mul-union c =
-    let entry = c .before .before .before .before in
-    record { fits = omega (arith, entry .pre .0, c .before .loop-test .taken) }
+mul-union c = omega (arith, c .lowest .ensures .0)
 
 slice-read-union : tie.Need-slice-read-union Inv-loop μ-loop
 slice-read-union c =
-    let at-loop = c .before .before .before in
+    let at-lowest = c .before in
+    let at-loop = at-lowest .before .before in
     let entry = at-loop .before .before in
-    let l = at-loop .loop .inv in omega (arith, c .before .before .loop-test .taken, entry .pre .1, l .size)
+    let v = at-loop .loop .inv in
+    omega (arith, entry .pre _ (v .part _ (at-lowest .lowest .ensures .1 .here)), v .size)
 
 union-requires : tie.Need-union-requires Inv-loop μ-loop
 union-requires c κs = search needs
 
 mul-sets : tie.Need-mul-sets Inv-loop μ-loop
-mul-sets c =
-    let at-loop-test = c .before .before .before in
-    let entry = at-loop-test .before .before .before in
-    record { fits = omega (arith, entry .pre .0, at-loop-test .loop-test .taken) }
+mul-sets c = omega (arith, c .before .before .lowest .ensures .0)
 
 slice-write-sets : tie.Need-slice-write-sets Inv-loop μ-loop
 slice-write-sets c =
-    let at-loop-test = c .before .before .before in
-    let at-loop = at-loop-test .before in
+    let at-lowest = c .before .before in
+    let at-loop = at-lowest .before .before in
     let entry = at-loop .before .before in
-    omega (arith, at-loop-test .loop-test .taken, entry .pre .1, at-loop .loop .inv .size)
+    let v = at-loop .loop .inv in
+    omega (arith, entry .pre _ (v .part _ (at-lowest .lowest .ensures .1 .here)), v .size)
 
-add-i : tie.Need-add-i Inv-loop μ-loop
-add-i c =
-    let at-loop-test = c .before .before .before in
-    let entry = at-loop-test .before .before .before in
-    record { fits = omega (arith, entry .pre .0, at-loop-test .loop-test .taken) }
+without-lowest-requires : tie.Need-without-lowest-requires Inv-loop μ-loop
+without-lowest-requires c κs = omega arith
 
 loop-less : tie.Need-loop-less Inv-loop μ-loop
-loop-less c =
-    let at-loop-test = c .before .before .before in
-    omega (arith, at-loop-test .loop-test .taken)
+loop-less c = c .without-lowest .ensures .1
 
 loop-again : tie.Need-loop-again Inv-loop μ-loop
 loop-again c =
-    let at-loop-test = c .before .before .before in
-    let at-loop = at-loop-test .before in
-    let entry = at-loop .before .before in
-    joining-next _ _ (at-loop .loop .inv) (at-loop-test .loop-test .taken) (entry .pre .1) (c .before .before .where-member .ensures) (c .union .ensures)
+    let at-lowest = c .before .before .before in
+    let at-loop = at-lowest .before .before in
+    let low = at-lowest .lowest .ensures .1 in
+    joining-next _ (at-loop .loop .inv) (at-loop .before .before .pre) low (c .without-lowest .ensures .0 _ low) (c .before .union .ensures)
 
 same-length : tie.Need-same-length Inv-loop μ-loop
-same-length c =
-    c .before .loop .inv .size
+same-length c = c .before .loop .inv .size
 
 returns : tie.Need-returns Inv-loop μ-loop
-returns c =
-    joining-end (c .before .loop .inv) (c .loop-test .left)
+returns c = joining-end (c .loop-test .left) (c .before .loop .inv)
 
 pub spread-spec : {M : Type 1} → statement M
 spread-spec =
@@ -83,13 +68,13 @@ spread-spec =
     Inv-loop
     μ-loop
     loop-holds
-    where-member-requires
+    lowest-requires
     mul-union
     slice-read-union
     union-requires
     mul-sets
     slice-write-sets
-    add-i
+    without-lowest-requires
     loop-less
     loop-again
     same-length

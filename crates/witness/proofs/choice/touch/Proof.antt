@@ -1,78 +1,53 @@
--- `choice::touch` meets its contract. Assumes nothing.
-use mathlib.Core.Bool.{_&&_, _||_}
-use mathlib.Core.Path.{_≡_, ap, ap₂, sym, _∙_}
-use Prim.Native.Nat.{ℕ, _-_, _≤_, zero-le}
+-- `choice::touch` meets its contract: the rows passed are united. Assumes nothing.
 use native.Mathlib.Omega.{arith}
+use lib.ListN.{length}
 use borrow.Author.Needs.{needs}
-use Rattle.simulation.specs.Fit.{touched}
-use Rattle.relation.proofs.Mask.{member-none}
-use Rattle.relation.specs.Mask.{member}
 use Rattle.transport.specs.Answer.{relates}
-use Rattle.witness.proofs.Choosing.{any-none, any-more}
+use Rattle.witness.proofs.Choosing.{Uniting, uniting-start, uniting-next, uniting-end}
 use Rattle.witness.proofs.choice.touch.Statement.{statement}
 use Rattle.witness.proofs.choice.touch.Tie as tie
 
 abbrev Inv-loop : tie.InvT-loop
-Inv-loop rel n mask near₀ i₀ near i =
-    (i ≤ n) × ((k : ℕ) → member near k ≡ touched i (relates rel) (member mask) k)
+Inv-loop rel mask near₀ left₀ near left = Uniting (relates rel) mask left near
 
 abbrev μ-loop : tie.MeasureT-loop
-μ-loop rel n mask near₀ i₀ near i =
-    n - i
+μ-loop rel mask near₀ left₀ near left = left
 
 loop-holds : tie.Need-loop-holds Inv-loop μ-loop
-loop-holds c =
-    let a = c .before .args in (zero-le, λ k. member-none k ∙ sym (any-none (λ i. member (a .mask) i && relates (a .rel .now) i k)))
+loop-holds c = uniting-start
 
-mul-where-member : tie.Need-mul-where-member Inv-loop μ-loop
-mul-where-member c =
-    let entry = c .before .before .before in
-    record { fits = omega (arith, entry .pre .0, c .loop-test .taken) }
+lowest-requires : tie.Need-lowest-requires Inv-loop μ-loop
+lowest-requires c κs = omega arith
 
-shared-slice-read-where-member : tie.Need-shared-slice-read-where-member Inv-loop μ-loop
-shared-slice-read-where-member c =
-    let entry = c .before .before .before .before in
-    omega (arith, entry .pre .1, c .before .loop-test .taken)
+mul-union : tie.Need-mul-union Inv-loop μ-loop
+mul-union c = omega (arith, c .lowest .ensures .0)
 
-where-member-requires : tie.Need-where-member-requires Inv-loop μ-loop
-where-member-requires c κs =
-    let entry = c .before .before .before .before in
-    omega (arith, entry .pre .0, c .before .loop-test .taken)
+shared-slice-read-union : tie.Need-shared-slice-read-union Inv-loop μ-loop
+shared-slice-read-union c =
+    let at-lowest = c .before in
+    let at-loop = at-lowest .before .before in
+    let entry = at-loop .before .before in
+    entry .pre _ (at-loop .loop .inv .part _ (at-lowest .lowest .ensures .1 .here))
 
 union-requires : tie.Need-union-requires Inv-loop μ-loop
 union-requires c κs = search needs
 
-add-i : tie.Need-add-i Inv-loop μ-loop
-add-i c =
-    let at-loop-test = c .before .before .before in
-    let entry = at-loop-test .before .before .before in
-    record { fits = omega (arith, entry .pre .0, at-loop-test .loop-test .taken) }
+without-lowest-requires : tie.Need-without-lowest-requires Inv-loop μ-loop
+without-lowest-requires c κs = omega arith
 
 loop-less : tie.Need-loop-less Inv-loop μ-loop
-loop-less c =
-    let at-loop-test = c .before .before .before in
-    omega (arith, at-loop-test .loop-test .taken)
+loop-less c = c .without-lowest .ensures .1
 
 loop-again : tie.Need-loop-again Inv-loop μ-loop
 loop-again c =
-    let at-loop-test = c .before .before .before in
-    let at-loop = at-loop-test .before in
-    let entry = at-loop .before .before in
-    let l = at-loop .loop in
-    let a = entry .args in (
-      omega (arith, at-loop-test .loop-test .taken),
-      λ k.
-          ap (λ X. X k) (c .union .ensures)
-          ∙ ap₂ _||_ (c .before .where-member .ensures k) (l .inv .1 k)
-          ∙ sym (any-more (l .i) (λ i. member (a .mask) i && relates (a .rel .now) i k)),
-    )
+    let at-lowest = c .before .before .before in
+    let low = at-lowest .lowest .ensures .1 in
+    uniting-next (at-lowest .before .before .loop .inv) low (c .without-lowest .ensures .0 _ low) (c .before .union .ensures)
 
 returns : tie.Need-returns Inv-loop μ-loop
 returns c =
     let entry = c .before .before .before in
-    let l = c .before .loop in
-    let a = entry .args in
-    λ k. l .inv .1 k ∙ ap (λ (n : ℕ). touched n (relates (a .rel .now)) (member (a .mask)) k) (let e : l .i ≡ a .n = omega (arith, l .inv .0, c .loop-test .left) in e)
+    uniting-end (length (entry .args .rel .now)) (c .loop-test .left) (entry .pre) (c .before .loop .inv)
 
 pub touch-spec : {M : Type 1} → statement M
 touch-spec =
@@ -81,11 +56,11 @@ touch-spec =
     Inv-loop
     μ-loop
     loop-holds
-    mul-where-member
-    shared-slice-read-where-member
-    where-member-requires
+    lowest-requires
+    mul-union
+    shared-slice-read-union
     union-requires
-    add-i
+    without-lowest-requires
     loop-less
     loop-again
     returns)

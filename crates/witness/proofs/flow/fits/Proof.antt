@@ -1,9 +1,10 @@
--- `witness::flow::fits` meets its contract. Assumes nothing.
+-- `flow::fits` meets its contract. Assumes nothing.
 use mathlib.Core.Path.{_∙_, sym}
 use native.Mathlib.Omega.{arith}
 use borrow.Author.Needs.{needs}
 use Rattle.table.specs.Form.{table-of, transition-at}
-use Rattle.witness.proofs.FlowFits.{codes-differ, rows-asked, kernel-asked, kernel-answer}
+use Rattle.witness.proofs.FlowFits.{codes-differ, kernel-answer}
+use Rattle.witness.proofs.Relating.{kernel-asked}
 use Rattle.witness.proofs.flow.fits.Statement.{statement}
 use Rattle.witness.proofs.flow.fits.Tie as tie
 
@@ -22,24 +23,11 @@ returns c =
 no-rows-requires : tie.Need-no-rows-requires
 no-rows-requires c κs = search needs
 
-states-requires : tie.Need-states-requires
-states-requires c κs = search needs
-
-targets-requires : tie.Need-targets-requires
-targets-requires c κs = search needs
-
-targets-requires-2 : tie.Need-targets-requires-2
-targets-requires-2 c κs = search needs
-
 slice-aggregate-rows : tie.Need-slice-aggregate-rows
 slice-aggregate-rows c = search needs
 
 rows-requires : tie.Need-rows-requires
-rows-requires c κs =
-    let k = c .before .before .before .before .before .before .before .before .before .before .before .before in
-    let d = c .before .before .before in
-    let none = d .before .no-rows in
-    rows-asked (k .pre) (none .result) (c .before .before .targets .ensures) (c .before .targets2 .ensures) (d .states .ensures) (omega (arith, none .ok))
+rows-requires c κs = search needs
 
 weights-requires : tie.Need-weights-requires
 weights-requires c κs = search needs
@@ -52,24 +40,26 @@ slice-aggregate-transport c = search needs
 
 transport-requires : tie.Need-transport-requires
 transport-requires c κs =
-    let k = c .before .before .before .before .before .before .before .before .before .before .before .before .before .before .before .before .before .before in
-    let d = c .before .before .before .before .before in
-    kernel-asked (k .pre) _ (c .before .before .before .weights .ensures) (c .before .before .weights2 .ensures)
-    (d .rows .ensures .size ∙ omega (arith, d .before .before .before .before .before .no-rows .ok))
+    let at-weights2 = c .before .before in
+    let at-rows = at-weights2 .before .before .before in
+    let at-none = at-rows .before .before in
+    let g = at-none .before .before .before .before .before .before .before .before .pre in
+    kernel-asked _ _ (g .ready .ranked) (g .first) (g .second) (at-weights2 .before .weights .ensures) (at-weights2 .weights2 .ensures) _ _
+    (omega (arith, at-rows .rows .ensures .size, at-none .no-rows .ok)) (g .ready .cells)
 
 same-length : tie.Need-same-length
 same-length c = search needs
 
 returns-2 : tie.Need-returns-2
 returns-2 c =
-    let k = c .before .before .before .before .before .before .before .before .before .before .before .before .before .before .before .before .before .before .before .before .before in
-    let w = c .before .before .before .before .before in
-    let r = w .before .before .before in
-    let d = r .before .before .before in
-    let e = d .before .before .before in
-    kernel-answer (k .pre) (d .targets .ensures) (r .before .before .targets2 .ensures) (d .before .states .ensures) (r .rows .ensures)
-    (w .before .weights .ensures) (w .weights2 .ensures) (sym (e .before .before .code .ensures) ∙ e .if1 .left ∙ e .before .code2 .ensures)
-    (c .before .before .transport .ensures)
+    let at-transport = c .before .before in
+    let at-weights2 = at-transport .before .before .before in
+    let at-rows = at-weights2 .before .before .before in
+    let at-if1 = at-rows .before .before .before in
+    let at-code2 = at-if1 .before in
+    let entry = at-code2 .before .before .before .before .before .before in
+    kernel-answer (entry .pre) (at-rows .rows .ensures) (at-weights2 .before .weights .ensures) (at-weights2 .weights2 .ensures)
+    (sym (at-code2 .before .code .ensures) ∙ at-if1 .if1 .left ∙ at-code2 .code2 .ensures) (at-transport .transport .ensures)
 
 pub fits-spec : {M : Type 1} → statement M
 fits-spec =
@@ -79,9 +69,6 @@ fits-spec =
     code-requires-2
     returns
     no-rows-requires
-    states-requires
-    targets-requires
-    targets-requires-2
     slice-aggregate-rows
     rows-requires
     weights-requires

@@ -1,72 +1,139 @@
 -- `length::tree_length` meets its contract. Assumes nothing.
-use mathlib.Core.Path.{ap, _∙_}
-use Prim.Native.Nat.{ℕ, _+_, _*_}
 use native.Mathlib.Omega.{arith}
-use lib.ListN.{getD}
+use mathlib.Core.Path.{ap, ap₂, _∙_}
+use Prim.Native.Nat.{_*_, min}
+use lib.ListN.{length-set}
 use borrow.Author.Needs.{needs}
-use Rattle.table.proofs.FormLaws.{limits}
-use Rattle.witness.proofs.Measuring.{pair-below, tree-measured}
+use Rattle.table.proofs.FormLaws.{limits, few-pairs}
 use Rattle.witness.proofs.Choices.{pair-place}
+use Rattle.witness.proofs.Descent.{Cleared, count-place, start-total, start-passing, start-given}
 use Rattle.witness.proofs.length.tree_length.Statement.{statement}
 use Rattle.witness.proofs.length.tree_length.Tie as tie
 
-rank-at-requires : tie.Need-rank-at-requires
-rank-at-requires c κs =
-    let entry = c .before .before .before .before .before .before .before in
-    let g = entry .pre .0 .ranked in
-    let p = entry .pre .1 in (
-      g .second-loaded,
-      omega (arith, p .left, limits (entry .args .first .now) (g .first-loaded) .states-few),
-      omega (arith, p .right, limits (entry .args .second .now) (g .second-loaded) .states-few),
-      pair-place g (p .left) (p .right),
-    )
-
-measure-requires : tie.Need-measure-requires
-measure-requires c κs = search needs
+-- all is empty before the root is listed
+cleared : (c : tie.After-no-pairs) → Cleared (c .before .before .before .before .before .before .before .before .before .before .before .before .before .before .args .first .now) (c .before .before .before .before .before .before .before .before .before .before .before .before .before .before .args .second .now) (c .before .before .before .before .before .before .before .before .before .before .before .before .before .before .args .counts .now) (c .before .before .before .clear-counts .last .0) (c .no-pairs .result)
+cleared c =
+    let at-clear = c .before .before .before in
+    let e = ap₂ _*_ (at-clear .before .states2 .ensures) (at-clear .before .before .before .states .ensures) in
+    record {
+      same = c .before .before .counts .given;
+      zero = λ i h. at-clear .clear-counts .ensures i (omega (arith, e));
+      enough = omega (arith, c .no-pairs .ensures .0);
+      none = c .no-pairs .ensures .1;
+    }
 
 states-requires : tie.Need-states-requires
 states-requires c κs = search needs
 
-mul-result : tie.Need-mul-result
-mul-result c =
-    let entry = c .before .before .before .before .before .before .before .before .before .before .before .before .before .before .before .before .before .before .before .before .before .before in
-    record { fits = omega (arith, pair-below (entry .pre .0 .ranked) _ (c .states .ensures) (entry .pre .1 .left) (entry .pre .1 .right) .1) }
+states-requires-2 : tie.Need-states-requires-2
+states-requires-2 c κs = search needs
 
-add-result : tie.Need-add-result
-add-result c =
-    let entry = c .before .before .before .before .before .before .before .before .before .before .before .before .before .before .before .before .before .before .before .before .before .before in
-    record { fits = omega (arith, pair-below (entry .pre .0 .ranked) _ (c .states .ensures) (entry .pre .1 .left) (entry .pre .1 .right) .1) }
+mul-clear-counts : tie.Need-mul-clear-counts
+mul-clear-counts c =
+    let entry = c .before .before .before .before .before .before .before .before .before .before in
+    let g = entry .pre .0 in
+    record { fits = omega (arith, few-pairs (entry .args .first .now) (entry .args .second .now) (g .ranked .first-loaded) (g .ranked .second-loaded), ap₂ _*_ (c .states2 .ensures) (c .before .before .states .ensures)) }
 
-mul-result-2 : tie.Need-mul-result-2
-mul-result-2 c =
-    let entry = c .before .before .before .before .before .before .before .before .before .before .before .before .before .before .before .before .before .before .before .before .before .before in
-    record { fits = omega (arith, pair-below (entry .pre .0 .ranked) _ (c .states .ensures) (entry .pre .1 .left) (entry .pre .1 .right) .1) }
+clear-counts-requires : tie.Need-clear-counts-requires
+clear-counts-requires c κs =
+    let entry = c .before .before .before .before .before .before .before .before .before .before in
+    let g = entry .pre .0 in
+    let e = ap₂ _*_ (c .states2 .ensures) (c .before .before .states .ensures) in
+    (omega (arith, few-pairs (entry .args .first .now) (entry .args .second .now) (g .ranked .first-loaded) (g .ranked .second-loaded), e), omega (arith, g .room, e))
 
-slice-read-result : tie.Need-slice-read-result
-slice-read-result c =
-    let at-lens = c .before .before .before .before .before .before .before .before .before in
-    let entry = at-lens .before .before .before .before .before .before .before .before .before .before .before .before .before .before in
-    omega (arith, pair-below (entry .pre .0 .ranked) _ (c .before .states .ensures) (entry .pre .1 .left) (entry .pre .1 .right) .0, entry .pre .0 .room, at-lens .lens .given)
-
-add-result-2 : tie.Need-add-result-2
-add-result-2 c =
-    let at-measure = c .before .before .before .before .before .before .before .before .before .before in
-    let at-rank-at = at-measure .before .before .before .before .before in
-    let entry = at-rank-at .before .before .before .before .before .before .before .before in
-    let a = entry .args in
+mul-counts : tie.Need-mul-counts
+mul-counts c =
+    let entry = c .before .before .before .before .before .before .before .before .before .before .before .before .before in
+    let g = entry .pre .0 in
     let p = entry .pre .1 in
-    let lens = at-measure .measure .last .1 .1 .1 .1 .0 in
-    let e = at-rank-at .rank-at .ensures ∙ entry .pre .0 .ranked .ranked (a .s) (a .t) (p .left) (p .right) in
-    record {
-      fits = omega (
-        arith,
-        tree-measured (a .first .now) (a .second .now) lens _ (a .s) (a .t) (at-measure .measure .ensures) (p .left) (p .right) e,
-        ap (λ (n : ℕ). getD lens (a .s * n + a .t) 0) (c .before .states .ensures),
-      );
-    }
+    let at-states = c .before .before .before .before .before in
+    record { fits = omega (arith, count-place g p (at-states .states .ensures) .1) }
+
+add-counts : tie.Need-add-counts
+add-counts c =
+    let entry = c .before .before .before .before .before .before .before .before .before .before .before .before .before in
+    let g = entry .pre .0 in
+    let p = entry .pre .1 in
+    let at-states = c .before .before .before .before .before in
+    record { fits = omega (arith, count-place g p (at-states .states .ensures) .1) }
+
+mul-counts-2 : tie.Need-mul-counts-2
+mul-counts-2 c =
+    let entry = c .before .before .before .before .before .before .before .before .before .before .before .before .before in
+    let g = entry .pre .0 in
+    let p = entry .pre .1 in
+    let at-states = c .before .before .before .before .before in
+    record { fits = omega (arith, count-place g p (at-states .states .ensures) .1) }
+
+slice-write-counts : tie.Need-slice-write-counts
+slice-write-counts c =
+    let entry = c .before .before .before .before .before .before .before .before .before .before .before .before .before in
+    let g = entry .pre .0 in
+    let p = entry .pre .1 in
+    let at-states = c .before .before .before .before .before in
+    omega (arith, count-place g p (at-states .states .ensures) .0, c .before .counts .given)
+
+no-pairs-requires : tie.Need-no-pairs-requires
+no-pairs-requires c κs = search needs
+
+single-requires : tie.Need-single-requires
+single-requires c κs =
+    let entry = c .before .before .before .before .before .before .before .before .before .before .before .before .before .before in
+    let g = entry .pre .0 in
+    let p = entry .pre .1 in
+    omega (arith, p .right, limits (entry .args .second .now) (g .ranked .second-loaded) .states-few)
+
+mul-todo : tie.Need-mul-todo
+mul-todo c =
+    let entry = c .before .before .before .before .before .before .before .before .before .before .before .before .before .before .before in
+    let g = entry .pre .0 in
+    let p = entry .pre .1 in
+    record { fits = omega (arith, p .left, limits (entry .args .first .now) (g .ranked .first-loaded) .states-few) }
+
+array-write-todo : tie.Need-array-write-todo
+array-write-todo c =
+    let entry = c .before .before .before .before .before .before .before .before .before .before .before .before .before .before .before in
+    let g = entry .pre .0 in
+    let p = entry .pre .1 in
+    omega (arith, p .left, limits (entry .args .first .now) (g .ranked .first-loaded) .states-few)
+
+rank-at-requires : tie.Need-rank-at-requires
+rank-at-requires c κs =
+    let entry = c .before .before .before .before .before .before .before .before .before .before .before .before .before .before .before in
+    let g = entry .pre .0 in
+    let p = entry .pre .1 in (
+      g .ranked .second-loaded,
+      omega (arith, p .left, limits (entry .args .first .now) (g .ranked .first-loaded) .states-few),
+      omega (arith, p .right, limits (entry .args .second .now) (g .ranked .second-loaded) .states-few),
+      pair-place (g .ranked) (p .left) (p .right),
+    )
+
+single-requires-2 : tie.Need-single-requires-2
+single-requires-2 c κs =
+    let entry = c .before .before .before .before .before .before .before .before .before .before .before .before .before .before .before .before in
+    let g = entry .pre .0 in
+    let p = entry .pre .1 in
+    omega (arith, p .left, limits (entry .args .first .now) (g .ranked .first-loaded) .states-few)
+
+slice-aggregate-pass-ranks : tie.Need-slice-aggregate-pass-ranks
+slice-aggregate-pass-ranks c = search needs
+
+pass-ranks-requires : tie.Need-pass-ranks-requires
+pass-ranks-requires c κs =
+    let at-rank-at = c .before .before .before .before .before .before in
+    let at-no-pairs = c .before .before .before .before .before .before .before .before in
+    let at-states = c .before .before .before .before .before .before .before .before .before .before .before .before .before .before in
+    let entry = c .before .before .before .before .before .before .before .before .before .before .before .before .before .before .before .before .before .before .before .before .before .before in
+    let g = entry .pre .0 in
+    let p = entry .pre .1 in
+    let a = entry .args in
+    let z = cleared at-no-pairs in
+    let e = at-rank-at .rank-at .ensures ∙ g .ranked .ranked (a .s) (a .t) (p .left) (p .right) in
+    (start-given g p (at-states .states .ensures) z _, start-passing g p (at-states .states .ensures) z _ _ (c .before .before .before .before .before .before .before .single .ensures) (c .before .before .before .before .before .single2 .ensures) e, omega arith)
 
 same-length : tie.Need-same-length
-same-length c = search needs
+same-length c =
+    c .before .before .before .before .before .before .before .before .counts2 .given ∙ (simp length-set (c .before .before .before .before .before .before .before .before .before .before .before .before .before .before .before .before .before .before .before .before .counts .given))
 
 same-length-2 : tie.Need-same-length-2
 same-length-2 c = search needs
@@ -79,28 +146,33 @@ same-length-4 c = search needs
 
 returns : tie.Need-returns
 returns c =
-    let at-measure = c .before .before .before .before .before .before .before .before .before .before in
-    let at-rank-at = at-measure .before .before .before .before .before in
-    let entry = at-rank-at .before .before .before .before .before .before .before .before in
-    let a = entry .args in
+    let at-no-pairs = c .before .before .before .before .before .before .before .before .before .before .before .before .before .before .before .before .before .before in
+    let at-states = c .before .before .before .before .before .before .before .before .before .before .before .before .before .before .before .before .before .before .before .before .before .before .before .before in
+    let entry = c .before .before .before .before .before .before .before .before .before .before .before .before .before .before .before .before .before .before .before .before .before .before .before .before .before .before .before .before .before .before .before .before in
+    let g = entry .pre .0 in
     let p = entry .pre .1 in
-    let lens = at-measure .measure .last .1 .1 .1 .1 .0 in
-    let e = at-rank-at .rank-at .ensures ∙ entry .pre .0 .ranked .ranked (a .s) (a .t) (p .left) (p .right) in
-    ap (λ (n : ℕ). 1 + getD lens (a .s * n + a .t) 0) (c .before .states .ensures)
-    ∙ tree-measured (a .first .now) (a .second .now) lens _ (a .s) (a .t) (at-measure .measure .ensures) (p .left) (p .right) e
+    c .before .before .before .before .before .before .before .before .before .pass-ranks .ensures ∙ ap (min 65536) (start-total g p (at-states .states .ensures) (cleared at-no-pairs))
 
 pub tree-length-spec : {M : Type 1} → statement M
 tree-length-spec =
     tie.close
     (tie.spec
-    rank-at-requires
-    measure-requires
     states-requires
-    mul-result
-    add-result
-    mul-result-2
-    slice-read-result
-    add-result-2
+    states-requires-2
+    mul-clear-counts
+    clear-counts-requires
+    mul-counts
+    add-counts
+    mul-counts-2
+    slice-write-counts
+    no-pairs-requires
+    single-requires
+    mul-todo
+    array-write-todo
+    rank-at-requires
+    single-requires-2
+    slice-aggregate-pass-ranks
+    pass-ranks-requires
     same-length
     same-length-2
     same-length-3

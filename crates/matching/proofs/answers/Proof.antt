@@ -1,0 +1,178 @@
+-- `matching::answers` meets its contract. The loop's invariant: none of the transitions passed fits, and what was tried before stands.
+-- Assumes nothing.
+use mathlib.Core.Path.{_≡_, refl, sym, ap, _∙_, subst}
+use Prim.Native.Nat.{ℕ, _+_, _-_, _*_, _≤_}
+use native.Mathlib.Omega.{arith}
+use borrow.Author.Needs.{needs}
+use lib.ListN.{length, length-set}
+use Rattle.table.specs.Form.{start-of}
+use Rattle.table.proofs.FormLaws.{limits, start-bound}
+use Rattle.matching.specs.Held.{relation-of}
+use Rattle.matching.specs.Known.{Tried}
+use Rattle.matching.proofs.Steps.{one-passes, none-passes}
+use Rattle.matching.proofs.Trying.{lent-again, place-room, start-few, Passing, passing-start, passing-next, tried-next}
+use Rattle.matching.proofs.answers.Statement.{statement}
+use Rattle.matching.proofs.answers.Tie as tie
+
+abbrev Inv-loop : tie.InvT-loop
+Inv-loop first j second t masks rows tried₀ x₀ place start end l₀ tried x l =
+    (start-of second t ≤ l) × (tried ≡ tried₀) × (length x ≡ length x₀) × Passing first second (relation-of first second rows) j t l
+
+abbrev μ-loop : tie.MeasureT-loop
+μ-loop first j second t masks rows tried₀ x₀ place start end l₀ tried x l = end - l
+
+mul-place : tie.Need-mul-place Inv-loop μ-loop
+mul-place c =
+    let d = c .before .before .before .before .before .before in
+    omega (arith, d .pre .2, limits (d .args .first .now) (d .pre .0 .first) .transitions-few)
+
+add-place : tie.Need-add-place Inv-loop μ-loop
+add-place c =
+    let d = c .before .before .before .before .before .before in
+    omega (arith, d .pre .2, limits (d .args .first .now) (d .pre .0 .first) .transitions-few, d .pre .3, limits (d .args .second .now) (d .pre .0 .second) .states-few)
+
+first-requires : tie.Need-first-requires Inv-loop μ-loop
+first-requires c κs = let d = c .before .before .before .before .before .before in (d .pre .0 .second, omega (arith, d .pre .3))
+
+add-first : tie.Need-add-first Inv-loop μ-loop
+add-first c =
+    let d = c .before .before .before .before .before .before .before in
+    omega (arith, d .pre .3, limits (d .args .second .now) (d .pre .0 .second) .states-few)
+
+first-requires-2 : tie.Need-first-requires-2 Inv-loop μ-loop
+first-requires-2 c κs = let d = c .before .before .before .before .before .before .before in (d .pre .0 .second, omega (arith, d .pre .3))
+
+slice-read-index : tie.Need-slice-read-index Inv-loop μ-loop
+slice-read-index c = let d = c .before .before .before .before .before .before .before .before .before in place-room (d .pre .0 .first) (d .pre .0 .second) (d .pre .1) (d .args .j) (d .args .t) (d .pre .2) (d .pre .3)
+
+index-requires : tie.Need-index-requires Inv-loop μ-loop
+index-requires c κs = search needs
+
+add-l : tie.Need-add-l Inv-loop μ-loop
+add-l c =
+    let d = c .before .before .before .before .before .before .before .before .before .before in
+    omega (
+      arith,
+      c .index .ensures,
+      c .before .slice-known3 .given (d .args .j * 64 + d .args .t),
+      c .before .before .before .first .ensures,
+      start-few (d .args .second .now) (d .pre .0 .second) (d .args .t) (omega (arith, d .pre .3)),
+    )
+
+loop-holds : tie.Need-loop-holds Inv-loop μ-loop
+loop-holds c =
+    let d = c .before .before .before .before .before .before .before .before .before .before in
+    let e = c .before .before .before .first .ensures in
+    (omega arith, refl, refl, passing-start _ _ _ _ _ (d .pre .1) (d .pre .2) (d .pre .3) (omega (arith, c .index .ensures)))
+
+fits-step-requires : tie.Need-fits-step-requires Inv-loop μ-loop
+fits-step-requires c κs =
+    let l = c .before .before in
+    let d = l .before .before .before .before .before .before .before .before .before .before .before in (
+      lent-again (d .pre .0) (l .loop .inv .2),
+      d .pre .2,
+      omega (arith, c .before .loop-test .taken, l .before .before .before .first2 .ensures, start-bound (d .args .second .now) (d .pre .0 .second) (d .args .t + 1) (omega (arith, d .pre .3))),
+    )
+
+sub-tried : tie.Need-sub-tried Inv-loop μ-loop
+sub-tried c = let l = c .before .before .before .before .before .before in omega (arith, l .loop .inv .0, l .before .before .before .before .first .ensures)
+
+cast-tried : tie.Need-cast-tried Inv-loop μ-loop
+cast-tried c =
+    let l = c .before .before .before .before .before .before in
+    let d = l .before .before .before .before .before .before .before .before .before .before .before in
+    omega (
+      arith,
+      c .before .before .before .before .before .loop-test .taken,
+      l .before .before .before .first2 .ensures,
+      start-few (d .args .second .now) (d .pre .0 .second) (d .args .t + 1) (omega (arith, d .pre .3)),
+    )
+
+slice-write-tried : tie.Need-slice-write-tried Inv-loop μ-loop
+slice-write-tried c =
+    let l = c .before .before .before .before .before .before in
+    omega (arith, ap length (l .loop .inv .1), slice-read-index (l .before .before))
+
+same-length : tie.Need-same-length Inv-loop μ-loop
+same-length c = let l = c .before .before .before .before .before .before in length-set (l .loop .tried) _ _ ∙ ap length (l .loop .inv .1)
+
+same-length-2 : tie.Need-same-length-2 Inv-loop μ-loop
+same-length-2 c = omega (arith, c .before .before .x .given, c .before .before .before .before .before .before .loop .inv .2)
+
+returns : tie.Need-returns Inv-loop μ-loop
+returns c =
+    let l = c .before .before .before .before .before .before in
+    let d = l .before .before .before .before .before .before .before .before .before .before .before in
+    let f = d .args .first .now in
+    let g = d .args .second .now in
+    let s = l .before .before .before .before .first .ensures in
+    let n : ℕ = l .loop .l - l .before .before .before .before .first .result in
+    let e : start-of g (d .args .t) + n ≡ l .loop .l = omega (arith, l .loop .inv .0) in
+    record {
+      answer =
+          one-passes g (d .pre .0 .second) (d .args .t) (d .pre .3) _ (l .loop .l) (l .loop .inv .0) (omega (arith, c .before .before .before .before .before .loop-test .taken, l .before .before .before .first2 .ensures))
+          (c .before .before .before .fits-step .ensures) (c .if1 .taken);
+      known =
+          tried-next f g _ (d .args .j) (d .args .t) (l .loop .tried) n (limits g (d .pre .0 .second) .states-few) (d .pre .3) (slice-write-tried c)
+          (subst (Tried f g _) (sym (l .loop .inv .1)) (d .pre .1)) (subst (Passing f g _ (d .args .j) (d .args .t)) (sym e) (l .loop .inv .3));
+    }
+
+add-l-2 : tie.Need-add-l-2 Inv-loop μ-loop
+add-l-2 c = omega (arith, c .before .before .before .before .before .loop-test .taken)
+
+loop-less : tie.Need-loop-less Inv-loop μ-loop
+loop-less c = omega (arith, c .before .before .before .before .before .loop-test .taken)
+
+loop-again : tie.Need-loop-again Inv-loop μ-loop
+loop-again c =
+    let l = c .before .before .before .before .before .before in (
+      omega (arith, l .loop .inv .0),
+      l .loop .inv .1,
+      omega (arith, c .before .before .x .given, l .loop .inv .2),
+      passing-next _ _ _ _ _ (l .loop .inv .3) (c .before .before .before .fits-step .ensures) (c .if1 .left),
+    )
+
+same-length-3 : tie.Need-same-length-3 Inv-loop μ-loop
+same-length-3 c = ap length (c .before .loop .inv .1)
+
+same-length-4 : tie.Need-same-length-4 Inv-loop μ-loop
+same-length-4 c = c .before .loop .inv .2
+
+returns-2 : tie.Need-returns-2 Inv-loop μ-loop
+returns-2 c =
+    let l = c .before in
+    let d = l .before .before .before .before .before .before .before .before .before .before .before in
+    let e = l .before .before .before .first2 .ensures in
+    record {
+      answer = none-passes (d .args .second .now) (d .pre .0 .second) (d .args .t) (d .pre .3) _ (λ k v w. l .loop .inv .3 k v (omega (arith, c .loop-test .left)) w);
+      known = subst (Tried (d .args .first .now) (d .args .second .now) _) (sym (l .loop .inv .1)) (d .pre .1);
+    }
+
+pub answers-spec : {M : Type 1} → statement M
+answers-spec =
+    tie.close
+    (tie.spec
+    Inv-loop
+    μ-loop
+    mul-place
+    add-place
+    first-requires
+    add-first
+    first-requires-2
+    slice-read-index
+    index-requires
+    add-l
+    loop-holds
+    fits-step-requires
+    sub-tried
+    cast-tried
+    slice-write-tried
+    same-length
+    same-length-2
+    returns
+    add-l-2
+    loop-less
+    loop-again
+    same-length-3
+    same-length-4
+    returns-2)

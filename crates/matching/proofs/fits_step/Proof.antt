@@ -1,0 +1,97 @@
+-- `matching::fits_step` meets its contract: the codes are compared, then the sets of targets decide, or else a flow.
+-- Assumes nothing.
+use mathlib.Core.Path.{_≡_, sym, _∙_, subst}
+use native.Mathlib.Omega.{arith}
+use lib.ListN.{length}
+use Rattle.simulation.specs.Round.{fits-step}
+use Rattle.table.specs.Form.{transition-at}
+use Rattle.table.proofs.FormLaws.{limits}
+use Rattle.matching.specs.Held.{Places, relation-of}
+use Rattle.matching.proofs.Sets.{set-at}
+use Rattle.matching.proofs.Fitting.{places-of, other-code, same-code, Tells, by-sets}
+use borrow.Author.Needs.{needs}
+use Rattle.matching.proofs.fits_step.Statement.{statement}
+use Rattle.matching.proofs.fits_step.Tie as tie
+
+-- the transitions have the same code
+same : (i : tie.Else1) → let a = i .before .before .before .before .before .before .before .before .args in transition-at (a .first .now) (a .j) .code ≡ transition-at (a .second .now) (a .l) .code
+same i = sym (i .before .before .code .ensures) ∙ i .if1 .left ∙ i .before .code2 .ensures
+
+-- what the scan settles
+told : (n : tie.After-scan) → let a = n .before .before .before .before .before .before .before .before .before .before .before .args in
+    Tells (fits-step (relation-of (a .first .now) (a .second .now) (a .rows .now)) (transition-at (a .first .now) (a .j)) (transition-at (a .second .now) (a .l))) (n .scan .result)
+told n =
+    let i = n .before .before .before in
+    let d = i .before .before .before .before .before .before .before .before in
+    by-sets (d .args .first .now) (d .args .second .now) (d .args .rows .now) (d .pre .0 .first) (d .pre .0 .second) (d .args .j) (d .args .l) (d .pre .1) (d .pre .2)
+    (n .before .before .targets .ensures) (set-at (d .pre .0 .masks) (d .args .l) (d .pre .2)) (n .scan .result) (same i) (n .scan .ensures)
+
+code-requires : tie.Need-code-requires
+code-requires c κs = search needs
+
+code-requires-2 : tie.Need-code-requires-2
+code-requires-2 c κs = search needs
+
+returns : tie.Need-returns
+returns c = other-code _ _ _ (λ e. c .if1 .taken (c .before .before .code .ensures ∙ e ∙ sym (c .before .code2 .ensures)))
+
+targets-requires : tie.Need-targets-requires
+targets-requires c κs = search needs
+
+mul-scan : tie.Need-mul-scan
+mul-scan c = search needs
+
+shared-slice-read-scan : tie.Need-shared-slice-read-scan
+shared-slice-read-scan c =
+    let d = c .before .before .before .before .before .before .before .before .before .before in
+    omega (arith, d .pre .2, d .pre .0 .masks .room, limits (d .args .second .now) (d .pre .0 .second) .transitions-few)
+
+scan-requires : tie.Need-scan-requires
+scan-requires c κs =
+    let d = c .before .before .before .before .before .before .before .before .before .before in
+    subst (Places (length (d .args .rows .now))) (sym (c .before .targets .ensures))
+    (places-of (length (d .args .rows .now)) (d .args .first .now) (d .pre .0 .first) (d .args .j) (d .pre .1) (d .pre .0 .rows-room))
+
+enum-told : tie.Need-enum-told
+enum-told c = search needs
+
+enum-told-2 : tie.Need-enum-told-2
+enum-told-2 c = search needs
+
+enum-told-3 : tie.Need-enum-told-3
+enum-told-3 c = search needs
+
+flow-requires : tie.Need-flow-requires
+flow-requires c κs = search needs
+
+returns-2 : tie.Need-returns-2
+returns-2 c = subst (Tells _) (c .enum-told .given .1) (told (c .before .before))
+
+returns-3 : tie.Need-returns-3
+returns-3 c = subst (Tells _) (c .enum-told2 .given .1) (told (c .before .before))
+
+same-length : tie.Need-same-length
+same-length c = search needs
+
+returns-4 : tie.Need-returns-4
+returns-4 c = same-code _ _ _ (same (c .before .before .before .before .before .before .before .before .before)) (c .before .before .flow .ensures)
+
+pub fits-step-spec : {M : Type 1} → statement M
+fits-step-spec =
+    tie.close
+    (tie.spec
+    code-requires
+    code-requires-2
+    returns
+    targets-requires
+    mul-scan
+    shared-slice-read-scan
+    scan-requires
+    enum-told
+    enum-told-2
+    enum-told-3
+    flow-requires
+    returns-2
+    returns-3
+    same-length
+    returns-4)

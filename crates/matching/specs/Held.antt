@@ -1,0 +1,54 @@
+-- Relations held as rows of masks, and the matching of transitions in them.
+-- Assumes nothing.
+use mathlib.Core.Path.{_≡_}
+use mathlib.Core.Bool.{Bool}
+use mathlib.Core.List.{List}
+use Prim.Native.Nat.{ℕ, _+_, _≤_, _<_}
+use lib.ListN.{length, getD}
+use Rattle.relation.specs.Mask.{Test, member}
+use Rattle.table.specs.Form.{transition-at, table-of}
+use Rattle.simulation.specs.Sum.{all-of, any-of}
+use Rattle.simulation.specs.Fit.{fits?}
+use Rattle.simulation.specs.Table.{Transition, Table, weights, states-of, steps}
+use Rattle.simulation.specs.Round.{Relation, between, relation, fits-step}
+
+-- the rows have the pair (s, t)
+abbrev pub holds : List ℕ → ℕ → ℕ → Bool
+holds rows s t = member (getD rows s 0) t
+
+-- the relation that the rows hold between the states of two tables
+abbrev pub held : Table → Table → List ℕ → Relation
+held M N rows = relation (states-of M) (states-of N) (holds rows)
+
+-- the same for two forms
+abbrev pub relation-of : List ℕ → List ℕ → List ℕ → Relation
+relation-of f g rows = held (table-of f) (table-of g) rows
+
+-- m fits n in R, whatever their codes
+abbrev pub fitting : Relation → Transition → Transition → Bool
+fitting R m n = fits? (between R m n) (weights m) (weights n)
+
+-- each transition of s fits some transition of t with the same code, in R
+abbrev pub matched : Table → Table → Relation → ℕ → ℕ → Bool
+matched M N R s t = all-of (λ m. any-of (fits-step R m) (steps N t)) (steps M s)
+
+-- transition j of the first form fits some transition of the state t, in R
+abbrev pub answered : Relation → List ℕ → ℕ → List ℕ → ℕ → Bool
+answered R f j g t = any-of (fits-step R (transition-at f j)) (steps (table-of g) t)
+
+-- places of targets: few, and each a state below n
+pub record Places (n : ℕ) (ts : List ℕ) : Type 0 where
+  pub few : length ts ≤ 64
+  pub below : (j : ℕ) → j < length ts → getD ts j 0 < n
+
+-- they ascend strictly
+abbrev pub Ascending : List ℕ → Type 0
+Ascending ts = (i : ℕ) → i + 1 < length ts → getD ts i 0 < getD ts (i + 1) 0
+
+-- a row by positions: the places of a list whose states the row has
+abbrev pub row-at : ℕ → List ℕ → Test
+row-at row ts j = member row (getD ts j 0)
+
+-- rel has the first n rows of a relation by positions: bit j of place i relates the i-th of ms to the j-th of ns
+pub record Gathered (rows ms ns : List ℕ) (n : ℕ) (rel : List ℕ) : Type 0 where
+  pub related-at : (i j : ℕ) → i < n → j < length ns → holds rel i j ≡ holds rows (getD ms i 0) (getD ns j 0)

@@ -1,0 +1,5 @@
+-- The definitions, in reading order.
+-- Assumes nothing.
+pub mod Held
+pub mod Known
+pub mod Quick

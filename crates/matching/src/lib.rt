@@ -1,0 +1,237 @@
+// Whether each transition of one state fits some transition of another that has the same code, in a relation held as rows.
+use relation::set;
+use table::form;
+ghost use mathlib.Core.Path.{_≡_};
+ghost use Prim.Native.Nat.{_<_, _≤_};
+ghost use lib.ListN.{length};
+ghost use Rattle.relation.specs.Mask.{member, part};
+ghost use Rattle.simulation.specs.Table.{states-of};
+ghost use Rattle.simulation.specs.Round.{fits-step};
+ghost use Rattle.table.specs.Form.{Loaded, transitions-of, transition-at, table-of};
+ghost use Rattle.matching.specs.Held.{row-at, Places, Ascending, Gathered, relation-of, fitting, answered, matched};
+ghost use Rattle.matching.specs.Quick.{Covers, Scanned};
+ghost use Rattle.matching.specs.Known.{SetOf, TargetSets, Lent, Tried, Matching};
+
+fn wide(t: u16) -> usize
+    ensures { λ r. ⌜ r ≡ t ⌝ }
+{
+    t as usize
+}
+
+fn index(b: u8) -> usize
+    ensures { λ r. ⌜ r ≡ b ⌝ }
+{
+    b as usize
+}
+
+// The set of the targets.
+fn set_of(to: &[u16]) -> u64
+    requires { ⌜ Places 64 (now to) ⌝ }
+    ensures { λ r. ⌜ SetOf (now (to .entry)) (length (now (to .entry))) r ⌝ }
+{
+    let mut r = 0u64;
+    let mut i = 0;
+    while i < to.len() {
+        r = set::insert(r, wide(to[i]));
+        i += 1;
+    }
+    r
+}
+
+// The set of the targets of each transition.
+pub fn target_sets(f: &[u16], masks: &mut [u64])
+    requires { ⌜ Loaded (now f) × (128 ≤ length (now masks)) ⌝ }
+    ensures { λ r. ⌜ TargetSets (now (f .entry)) (now (masks .exit)) ⌝ }
+{
+    let n = form::first(f, form::states(f));
+    let mut l = 0;
+    while l < n {
+        masks[l] = set_of(form::targets(f, l));
+        l += 1;
+    }
+}
+
+// A row by positions, place by place: place j is a member if the state there is one of the row.
+fn sparse_row(row: u64, to: &[u16]) -> u64
+    requires { ⌜ Places 64 (now to) ⌝ }
+    ensures { λ r. ⌜ member r ≡ part (length (now (to .entry))) (row-at row (now (to .entry))) ⌝ }
+{
+    let mut r = 0u64;
+    let mut j = 0;
+    while j < to.len() {
+        if set::test(row, wide(to[j])) {
+            r = set::insert(r, j);
+        }
+        j += 1;
+    }
+    r
+}
+
+// A row by positions. Targets that ascend to their number less one are all states in order, and positions are then states.
+fn gather_row(row: u64, to: &[u16]) -> u64
+    requires { ⌜ Places 64 (now to) × Ascending (now to) ⌝ }
+    ensures { λ r. ⌜ member r ≡ part (length (now (to .entry))) (row-at row (now (to .entry))) ⌝ }
+{
+    let n = to.len();
+    if n == 0 {
+        return 0;
+    }
+    if wide(to[n - 1]) + 1 == n {
+        return set::intersection(row, set::below(n));
+    }
+    sparse_row(row, to)
+}
+
+// The rows between the targets of two transitions, by positions.
+fn gather(from: &[u16], to: &[u16], rows: &[u64], rel: &mut [u64])
+    requires { ⌜ Places (length (now rows)) (now from) × Places 64 (now to) × Ascending (now to) × (length (now from) ≤ length (now rel)) ⌝ }
+    ensures { λ r. ⌜ Gathered (now (rows .entry)) (now (from .entry)) (now (to .entry)) (length (now (from .entry))) (now (rel .exit)) ⌝ }
+{
+    let mut i = 0;
+    while i < from.len() {
+        rel[i] = gather_row(rows[wide(from[i])], to);
+        i += 1;
+    }
+}
+
+fn no_rows() -> [u64; 64]
+    ensures { λ r. ⌜ length r ≡ 64 ⌝ }
+{
+    [0u64; 64]
+}
+
+// Transition j of the first table fits transition l of the second, whatever their codes: a flow over the gathered rows decides.
+fn flow(first: &[u16], j: usize, second: &[u16], l: usize, rows: &[u64], x: &mut [u32]) -> bool
+    requires { ⌜ Loaded (now first) × Loaded (now second) × (64 ≤ length (now rows)) × (4096 ≤ length (now x)) × (j < transitions-of (now first)) × (l < transitions-of (now second)) ⌝ }
+    ensures { λ r. ⌜ r ≡ fitting (relation-of (now (first .entry)) (now (second .entry)) (now (rows .entry))) (transition-at (now (first .entry)) j) (transition-at (now (second .entry)) l) ⌝ }
+{
+    let mut rel = no_rows();
+    gather(
+        form::targets(first, j),
+        form::targets(second, l),
+        rows,
+        &mut rel,
+    );
+    transport::transport(form::weights(first, j), form::weights(second, l), &rel, x) == 0
+}
+
+// What sets of targets tell of a fit, before any flow.
+enum Settled {
+    Fits,
+    Misfits,
+    Open,
+}
+
+// `some` is what one of the targets of m is related to, `every` what all of them are, and `to` has the targets of n.
+fn settle(some: u64, every: u64, to: u64) -> Settled
+    ensures { λ r. ⌜ Covers some every to r ⌝ }
+{
+    if set::difference(to, some) != 0 {
+        return Settled::Misfits;
+    }
+    if set::difference(to, every) == 0 {
+        return Settled::Fits;
+    }
+    Settled::Open
+}
+
+// A target related to none, or to which none is related, is a misfit; targets that are all related fit.
+fn scan(from: &[u16], rows: &[u64], to: u64) -> Settled
+    requires { ⌜ Places (length (now rows)) (now from) ⌝ }
+    ensures { λ r. ⌜ Scanned (now (rows .entry)) (now (from .entry)) to r ⌝ }
+{
+    let mut some = 0u64;
+    let mut every = to;
+    let mut i = 0;
+    while i < from.len() {
+        let near = set::intersection(rows[wide(from[i])], to);
+        if near == 0 {
+            return Settled::Misfits;
+        }
+        some = set::union(some, near);
+        every = set::intersection(every, near);
+        i += 1;
+    }
+    settle(some, every, to)
+}
+
+// Transition j of the first table fits transition l of the second, and they have the same code.
+fn fits_step(
+    first: &[u16],
+    j: usize,
+    second: &[u16],
+    l: usize,
+    masks: &[u64],
+    rows: &[u64],
+    x: &mut [u32],
+) -> bool
+    requires { ⌜ Lent (now first) (now second) (now masks) (now rows) (now x) × (j < transitions-of (now first)) × (l < transitions-of (now second)) ⌝ }
+    ensures { λ r. ⌜ r ≡ fits-step (relation-of (now (first .entry)) (now (second .entry)) (now (rows .entry))) (transition-at (now (first .entry)) j) (transition-at (now (second .entry)) l) ⌝ }
+{
+    if form::code(first, j) != form::code(second, l) {
+        return false;
+    }
+    let settled = scan(form::targets(first, j), rows, masks[l]);
+    match settled {
+        Settled::Fits => true,
+        Settled::Misfits => false,
+        Settled::Open => flow(first, j, second, l, rows, x),
+    }
+}
+
+// Transition j of the first table fits some transition of the state t with the same code. Those known not to be fitted are passed over.
+fn answers(
+    first: &[u16],
+    j: usize,
+    second: &[u16],
+    t: usize,
+    masks: &[u64],
+    rows: &[u64],
+    tried: &mut [u8],
+    x: &mut [u32],
+) -> bool
+    requires { ⌜ Lent (now first) (now second) (now masks) (now rows) (now x) × Tried (now first) (now second) (relation-of (now first) (now second) (now rows)) (now tried)
+        × (j < transitions-of (now first)) × (t < states-of (table-of (now second))) ⌝ }
+    ensures { λ r. ⌜ Matching (now (first .entry)) (now (second .entry)) (relation-of (now (first .entry)) (now (second .entry)) (now (rows .entry)))
+        (answered (relation-of (now (first .entry)) (now (second .entry)) (now (rows .entry))) (now (first .entry)) j (now (second .entry)) t) (now (tried .exit)) r ⌝ }
+{
+    let place = j * 64 + t;
+    let start = form::first(second, t);
+    let end = form::first(second, t + 1);
+    let mut l = start + index(tried[place]);
+    while l < end {
+        if fits_step(first, j, second, l, masks, rows, x) {
+            tried[place] = (l - start) as u8;
+            return true;
+        }
+        l += 1;
+    }
+    false
+}
+
+// Each transition of the state s fits some transition of the state t with the same code.
+pub fn matches(
+    first: &[u16],
+    s: usize,
+    second: &[u16],
+    t: usize,
+    masks: &[u64],
+    rows: &[u64],
+    tried: &mut [u8],
+    x: &mut [u32],
+) -> bool
+    requires { ⌜ Lent (now first) (now second) (now masks) (now rows) (now x) × Tried (now first) (now second) (relation-of (now first) (now second) (now rows)) (now tried)
+        × (s < states-of (table-of (now first))) × (t < states-of (table-of (now second))) ⌝ }
+    ensures { λ r. ⌜ Matching (now (first .entry)) (now (second .entry)) (relation-of (now (first .entry)) (now (second .entry)) (now (rows .entry)))
+        (matched (table-of (now (first .entry))) (table-of (now (second .entry))) (relation-of (now (first .entry)) (now (second .entry)) (now (rows .entry))) s t) (now (tried .exit)) r ⌝ }
+{
+    let end = form::first(first, s + 1);
+    let mut j = form::first(first, s);
+    while j < end {
+        if !answers(first, j, second, t, masks, rows, tried, x) {
+            return false;
+        }
+        j += 1;
+    }
+    true
+}
