@@ -64,14 +64,6 @@ module _ {A : Type 0} where
 
   -- the rest of the buffer is lent to a function that puts bs at its start
   module _ {total b now : List A} {at : ℕ} (bs rest : List A) (w : Written total b (bs ++ rest) now at) where
-    -- the part has room for it
-    pub lent-room : length bs ≤ length (part at now)
-    lent-room = rw (part-all at now, length-drop) (omega (arith, w .within, w .room, w .kept, length-append bs rest))
-
-    -- the place after it fits wherever the buffer's length does
-    pub lent-fits : (r N : ℕ) → r ≡ length bs → length b < N → at + r < N
-    lent-fits r N e lt = omega (arith, w .within, w .room, length-append bs rest)
-
     module _ {ys : List A} (put : ys ≡ over bs (part at now)) where
       new-is : back at now ys ≡ take at now ++ (bs ++ drop (length bs) (drop at now))
       new-is = back-all at now ys ∙ ap (λ l. take at now ++ l) (put ∙ ap (over bs) (part-all at now))
@@ -109,12 +101,6 @@ module _ {A : Type 0} where
       -- with the returned length r, and what is left said anew
       pub lend : (r : ℕ) (rest′ : List A) → r ≡ length bs → rest′ ≡ rest → Written total b rest′ (back at now ys) (at + r)
       lend r rest′ er e = subst₂ (λ (n : ℕ) (l : List A). Written total b l (back at now ys) (at + n)) (sym er) (sym e) lent
-
-  -- the same of the whole buffer
-  pub put-first : {total b now : List A} (bs rest : List A) → Written total b (bs ++ rest) b 0 → now ≡ over bs b → Written total b rest now (length bs)
-  put-first {total} {b} {now} bs rest w e =
-      subst₂ (λ (l : List A) (n : ℕ). Written total b rest l n) (back-all 0 b now) (zero-add (length bs))
-      (lent bs rest w (e ∙ ap (over bs) (sym (part-all 0 b))))
 
   pub rebase : {total b rest now : List A} {at : ℕ} → Written total b rest now at → Written total now rest now at
   rebase w = record { kept = refl; room = omega (arith, w .room, w .kept); within = w .within; done = w .done; same = refl }

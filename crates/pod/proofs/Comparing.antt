@@ -28,7 +28,8 @@ use Rattle.witness.specs.Choice.{Ranked}
 use Rattle.witness.specs.FlowSteps.{Flowed}
 use Rattle.witness.proofs.FlowPlace.{right-amounts}
 use Rattle.buffer.specs.Buffer.{over}
-use Rattle.pod.specs.Check.{Buffers, Result, refusal, longest, tree-bytes, success, lent, left, outcome, checked, RightFor, Checked}
+use Rattle.measure.specs.Count.{longest}
+use Rattle.pod.specs.Check.{Buffers, Result, refusal, tree-bytes, success, lent, left, outcome, checked, RightFor, Checked}
 use Rattle.pod.specs.Steps.{with-written, found-answer, Compared, FlowShown, TreeShown}
 use Rattle.pod.specs.Demands.{Ready, Condition, outside, short-ranks, short-flow, short-tree, long-tree, flow-fits, tree-fits, result-of}
 use Rattle.pod.specs.declared.Answer.{Answer}

@@ -11,7 +11,8 @@ use Rattle.simulation.specs.Table.{Table, states-of}
 use Rattle.simulation.specs.Sum.{sum, any}
 use Rattle.table.specs.Bytes.{refuse_unless_, _then_, first, section, byte, size-from, actions, code, end, target-right, weight-right, code-refusal, actions-refusal, states-refusal, transition-refusal, transitions-refusal, entry-refusal, run-refusal, entries-refusal, refusal, refused, accepted, number, decode}
 use Rattle.table.proofs.DecodeLaws.{number-is}
-use Rattle.pod.specs.Check.{Buffers, Result, longest, Checked, state-count, states-in}
+use Rattle.measure.specs.Count.{longest}
+use Rattle.pod.specs.Check.{Buffers, Result, Checked, state-count, states-in}
 use Rattle.pod.specs.Demands.{Condition, outside, short-ranks, short-flow, short-tree, long-tree, flow-fits, tree-fits, Call, first-refused, second-refused, both-accepted}
 use Rattle.pod.proofs.Demands.{demand-1}
 

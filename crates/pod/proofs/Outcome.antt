@@ -15,7 +15,8 @@ use Rattle.simulation.specs.Round.{pairs, rank}
 use Rattle.simulation.specs.Demands.{Kept}
 use Rattle.simulation.proofs.Finite.Tests.{is-true, is-false, or-cases, or-left, or-right, same-eqb}
 use Rattle.witness.specs.Flow.{flow-room, flow-bytes}
-use Rattle.pod.specs.Check.{Buffers, Result, refusal, longest, tree-bytes, success, ranked, with-flow, with-tree, kept-outcome, fallen-outcome, outcome}
+use Rattle.measure.specs.Count.{longest}
+use Rattle.pod.specs.Check.{Buffers, Result, refusal, tree-bytes, success, ranked, with-flow, with-tree, kept-outcome, fallen-outcome, outcome}
 use Rattle.pod.specs.Demands.{Inside, Ready, Condition, outside, short-ranks, short-flow, short-tree, long-tree, flow-fits, tree-fits, result-of}
 
 module _ (M N : Table) (s t : ℕ) (b : Buffers) (x : ℕ → Amounts) where

@@ -12,6 +12,7 @@ use Rattle.simulation.specs.Round.{pairs, rank, rank-list, maximum, zeros}
 use Rattle.simulation.specs.Tree.{tree, node-bytes}
 use Rattle.simulation.specs.Demands.{Kept}
 use Rattle.table.specs.Bytes.{Decoded, refused, accepted, decode}
+use Rattle.measure.specs.Count.{longest}
 use Rattle.buffer.specs.Buffer.{over}
 use Rattle.witness.specs.Flow.{Right, flow-bytes, flow-room}
 use Rattle.pod.specs.declared.Answer.{Answer}
@@ -28,10 +29,6 @@ pub record Result : Type 0 where
 
 abbrev pub refusal : (number table needed : ℕ) → Answer
 refusal n k l = record { number = n; table = k; needed = l; rounds = 0; kept = 0; verdict = 0; rank = 0; written = 0 }
-
--- the most bytes that a tree may have
-abbrev pub longest : ℕ
-longest = 65535
 
 module _ (M N : Table) where
   abbrev pub tree-bytes : (s t : ℕ) → List ℕ

@@ -13,7 +13,8 @@ use Rattle.simulation.specs.Demands.{Kept, Keeping, Told}
 use Rattle.table.specs.Bytes.{refused, accepted, decode}
 use Rattle.witness.specs.Flow.{Right, flow-bytes, flow-room}
 use Rattle.buffer.specs.Buffer.{over}
-use Rattle.pod.specs.Check.{Buffers, Result, refusal, longest, tree-bytes, success, ranked, with-flow, with-tree}
+use Rattle.measure.specs.Count.{longest}
+use Rattle.pod.specs.Check.{Buffers, Result, refusal, tree-bytes, success, ranked, with-flow, with-tree}
 use Rattle.pod.specs.declared.Answer.{Answer}
 
 module _ (M N : Table) (s t : ℕ) (b : Buffers) where

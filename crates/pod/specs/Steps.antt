@@ -11,10 +11,12 @@ use Rattle.simulation.specs.Table.{Table, states-of}
 use Rattle.simulation.specs.Length.{tree-length}
 use Rattle.simulation.specs.Demands.{Kept}
 use Rattle.table.specs.Form.{table-of}
-use Rattle.witness.specs.Choice.{Ranked, Lost, Lent}
+use Rattle.tree.specs.Parts.{Given}
+use Rattle.measure.specs.Lengths.{Measured}
 use Rattle.witness.specs.Flow.{Right, flow-bytes, flow-room}
 use Rattle.buffer.specs.Buffer.{over}
-use Rattle.pod.specs.Check.{Buffers, Result, refusal, longest, tree-bytes, outcome}
+use Rattle.measure.specs.Count.{longest}
+use Rattle.pod.specs.Check.{Buffers, Result, refusal, tree-bytes, outcome}
 use Rattle.pod.specs.declared.Answer.{Answer}
 
 abbrev pub with-written : ℕ → Answer → Answer
@@ -33,12 +35,11 @@ pub record FlowShown (M N : Table) (s t : ℕ) (a r : Answer) (flow flow′ : Li
   pub refused : length flow < flow-room M N s → (r ≡ refusal 21 0 (flow-room M N s)) × (flow′ ≡ flow)
   pub written : flow-room M N s ≤ length flow → (r ≡ with-written (length (flow-bytes M N s t amounts)) a) × (flow′ ≡ over (flow-bytes M N s t amounts) flow)
 
--- what the writing of a pair's tree rests on, which has at most `most` bytes
-pub record TreeReady (first second ranks : List ℕ) (s t : ℕ) (rel x : List ℕ) (most : ℕ) (tree : List ℕ) : Type 0 where
-  pub ranked : Ranked first second ranks
-  pub lost : Lost first second s t
-  pub lent : Lent rel x
-  pub few : tree-length (table-of first) (table-of second) s t ≤ most
+-- what the writing of a pair's tree rests on
+pub record TreeReady (first second ranks choices lengths : List ℕ) (s t : ℕ) (rel x tree : List ℕ) : Type 0 where
+  pub given : Given first second ranks choices lengths rel x
+  pub measured : Measured first second choices lengths s t
+  pub short : tree-length (table-of first) (table-of second) s t ≤ longest
   pub room : tree-length (table-of first) (table-of second) s t ≤ length tree
 
 -- a pair that is not kept: the tree is written if it is short enough and there is room for it

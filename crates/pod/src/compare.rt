@@ -2,27 +2,27 @@
 // What the arrays lent as room hold is free. Each is made in the function that lends it, since returning it would copy it, and of ones,
 // which the compiler writes in words, where zeros become a call of memset.
 use crate::Answer;
+use measure::count::LONGEST;
+use measure::lengths;
 use ranking;
 use table::form;
+use tree::write;
 use witness;
 ghost use mathlib.Core.Path.{_≡_};
 ghost use mathlib.Core.Bool.{cond};
-ghost use Prim.Native.Nat.{ℕ, _*_, _≤_, _<_, min};
+ghost use Prim.Native.Nat.{_*_, _≤_, _<_};
 ghost use lib.Dec.{eqb};
 ghost use lib.ListN.{length};
 ghost use Rattle.simulation.specs.Table.{states-of};
 ghost use Rattle.simulation.specs.Round.{pairs};
-ghost use Rattle.simulation.specs.Length.{tree-length};
 ghost use Rattle.table.specs.Form.{table-of, Loaded};
 ghost use Rattle.buffer.specs.Buffer.{over};
 ghost use Rattle.witness.specs.Flow.{flow-room};
 ghost use Rattle.witness.specs.Choice.{Ranked, Lost, Lent};
 ghost use Rattle.witness.specs.FlowSteps.{Chosen};
+ghost use Rattle.measure.specs.Lengths.{TreeMeasured};
 ghost use Rattle.pod.specs.Check.{tree-bytes, lent, left};
 ghost use Rattle.pod.specs.Steps.{with-written, found-answer, Compared, FlowShown, TreeReady, TreeShown};
-
-// The most bytes that a tree may have.
-const LONGEST: u32 = 65_535;
 
 // The answer with the count of bytes written.
 fn with_written(a: Answer, written: u32) -> Answer
@@ -71,80 +71,69 @@ fn show_flow(
     with_written(a, written as u32)
 }
 
-// How many bytes the tree of the pair takes, 65,536 for any number above 65,535. The lengths of all pairs live here only, so that the writer has the stack.
+// How many bytes the tree of the pair takes, LONGEST + 1 for any number above LONGEST, with the transitions and the lengths of the pairs that it meets. Their order lives here only.
 fn tree_length(
     first: &[u16],
     second: &[u16],
     ranks: &[u16],
     s: usize,
     t: usize,
+    choices: &mut [u8],
+    lengths: &mut [u32],
     rel: &mut [u64],
     x: &mut [u32],
 ) -> u32
-    requires { ⌜ Ranked (now first) (now second) (now ranks) × Lost (now first) (now second) s t × Lent (now rel) (now x) ⌝ }
-    ensures { λ r. ⌜ r ≡ min 65536 (tree-length (table-of (now (first .entry))) (table-of (now (second .entry))) s t) ⌝ }
+    requires { ⌜ Ranked (now first) (now second) (now ranks) × Lost (now first) (now second) s t × Lent (now rel) (now x)
+        × (4096 ≤ length (now choices)) × (4096 ≤ length (now lengths)) ⌝ }
+    ensures { λ r. ⌜ TreeMeasured (now (first .entry)) (now (second .entry)) (now (choices .exit)) (now (lengths .exit)) s t r ⌝ }
 {
-    let mut counts = [1u32; 4096];
+    let mut order = [1u16; 4096];
     let mut sets = [1u64; 64];
-    witness::length::tree_length(first, second, ranks, s, t, &mut counts, &mut sets, rel, x)
+    lengths::tree_length(
+        first,
+        second,
+        ranks,
+        s,
+        t,
+        &mut order,
+        choices,
+        lengths,
+        &mut sets,
+        rel,
+        x,
+    )
 }
 
-// The tree of the pair, of fewer than 1,024 bytes.
-fn write_short(
-    first: &[u16],
-    second: &[u16],
-    ranks: &[u16],
-    s: usize,
-    t: usize,
-    rel: &mut [u64],
-    x: &mut [u32],
-    tree: &mut [u8],
-)
-    requires { ⌜ TreeReady (now first) (now second) (now ranks) s t (now rel) (now x) 1023 (now tree) ⌝ }
-    ensures { λ _. ⌜ now (tree .exit) ≡ over (tree-bytes (table-of (now (first .entry))) (table-of (now (second .entry))) s t) (now (tree .entry)) ⌝ }
-{
-    let mut stack = [1u64; 256];
-    witness::tree::tree(first, second, ranks, s, t, rel, x, &mut stack, tree);
-}
-
-// The tree of the pair, of at most 65,535 bytes.
-fn write_long(
-    first: &[u16],
-    second: &[u16],
-    ranks: &[u16],
-    s: usize,
-    t: usize,
-    rel: &mut [u64],
-    x: &mut [u32],
-    tree: &mut [u8],
-)
-    requires { ⌜ TreeReady (now first) (now second) (now ranks) s t (now rel) (now x) 65535 (now tree) ⌝ }
-    ensures { λ _. ⌜ now (tree .exit) ≡ over (tree-bytes (table-of (now (first .entry))) (table-of (now (second .entry))) s t) (now (tree .entry)) ⌝ }
-{
-    let mut stack = [1u64; 16384];
-    witness::tree::tree(first, second, ranks, s, t, rel, x, &mut stack, tree);
-}
-
-// The tree of the pair, of `len` bytes. A short one pays for a short stack only.
+// The tree of the pair, of at most LONGEST bytes.
 fn write_tree(
     first: &[u16],
     second: &[u16],
     ranks: &[u16],
+    choices: &[u8],
+    lengths: &[u32],
     s: usize,
     t: usize,
-    len: u32,
     rel: &mut [u64],
     x: &mut [u32],
     tree: &mut [u8],
 )
-    requires { ⌜ (len ≤ 65535) × TreeReady (now first) (now second) (now ranks) s t (now rel) (now x) len (now tree) ⌝ }
+    requires { ⌜ TreeReady (now first) (now second) (now ranks) (now choices) (now lengths) s t (now rel) (now x) (now tree) ⌝ }
     ensures { λ _. ⌜ now (tree .exit) ≡ over (tree-bytes (table-of (now (first .entry))) (table-of (now (second .entry))) s t) (now (tree .entry)) ⌝ }
 {
-    if len < 1024 {
-        write_short(first, second, ranks, s, t, rel, x, tree);
-        return;
-    }
-    write_long(first, second, ranks, s, t, rel, x, tree);
+    let mut stack = [1u64; 640];
+    write::tree(
+        first,
+        second,
+        ranks,
+        choices,
+        lengths,
+        s,
+        t,
+        rel,
+        x,
+        &mut stack,
+        tree,
+    );
 }
 
 // Shows a pair that is not kept: its tree, if it is short enough and there is room for it.
@@ -162,14 +151,37 @@ fn show_tree(
     ensures { λ r. ⌜ TreeShown (table-of (now (first .entry))) (table-of (now (second .entry))) s t a r (now (tree .entry)) (now (tree .exit)) ⌝ }
 {
     let mut rel = [1u64; 64];
-    let len = tree_length(first, second, ranks, s, t, &mut rel, x);
+    let mut choices = [1u8; 4096];
+    let mut lengths = [1u32; 4096];
+    let len = tree_length(
+        first,
+        second,
+        ranks,
+        s,
+        t,
+        &mut choices,
+        &mut lengths,
+        &mut rel,
+        x,
+    );
     if LONGEST < len {
         return Answer::refused(23, 0, 0);
     }
     if tree.len() < len as usize {
         return Answer::refused(22, 0, len);
     }
-    write_tree(first, second, ranks, s, t, len, &mut rel, x, tree);
+    write_tree(
+        first,
+        second,
+        ranks,
+        &choices,
+        &lengths,
+        s,
+        t,
+        &mut rel,
+        x,
+        tree,
+    );
     with_written(a, len)
 }
 

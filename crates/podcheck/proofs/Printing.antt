@@ -8,7 +8,8 @@ use native.Mathlib.Decide.{ℕ-discrete}
 use native.Mathlib.Omega.{arith}
 use lib.ListN.{length}
 use Rattle.pod.specs.declared.Answer.{Answer}
-use Rattle.pod.specs.Check.{lent, left, longest, Checked, states-in}
+use Rattle.measure.specs.Count.{longest}
+use Rattle.pod.specs.Check.{lent, left, Checked, states-in}
 use Rattle.pod.specs.Demands.{Call}
 use Rattle.pod.proofs.Enough.{call-of, of-both, ranks-enough, tree-enough}
 use Rattle.report.specs.Input.{first-of-input, second-of-input}

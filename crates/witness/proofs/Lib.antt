@@ -3,15 +3,8 @@
 pub mod Pieces
 pub mod Places
 pub mod Relating
-pub mod Need
-pub mod Nodes
 pub mod Choices
 pub mod Choosing
-pub mod Writing
-pub mod Owed
-pub mod Counting
-pub mod Passing
-pub mod Descent
 pub mod Again
 pub mod RecordBytes
 pub mod FlowBytes

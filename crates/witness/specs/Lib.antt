@@ -1,8 +1,6 @@
 -- What the contracts of this crate cite.
 -- Assumes nothing.
 pub mod Choice
-pub mod Writing
-pub mod Lengths
 pub mod Flow
 pub mod Records
 pub mod FlowSteps

@@ -1,8 +1,7 @@
--- `pod::compare::tree_length` meets its contract.
--- Assumes nothing.
+-- `compare::tree_length` meets its contract. Assumes nothing.
 use native.Mathlib.Omega.{arith}
-use Rattle.table.proofs.FormLaws.{few-pairs}
 use borrow.Author.Needs.{needs}
+use Rattle.table.proofs.FormLaws.{few-pairs}
 use Rattle.pod.proofs.compare.tree_length.Statement.{statement}
 use Rattle.pod.proofs.compare.tree_length.Tie as tie
 
@@ -14,13 +13,18 @@ slice-aggregate-tree-length-2 c = search needs
 
 tree-length-requires : tie.Need-tree-length-requires
 tree-length-requires c κs =
-    let p = c .before .before .before .before .before .before .before .before .before .pre in (
+    let at-sets = c .before .before in
+    let at-order = at-sets .before .before .before in
+    let entry = at-order .before .before .before .before .before .before .before .before in
+    let p = entry .pre in (
       record {
         ranked = p .0;
-        room = omega (arith, slice-aggregate-tree-length (c .before .before .before), few-pairs _ _ (p .0 .first-loaded) (p .0 .second-loaded));
-        words = omega (arith, slice-aggregate-tree-length-2 (c .before .before));
+        room = omega (arith, p .4, few-pairs _ _ (p .0 .first-loaded) (p .0 .second-loaded));
+        words = omega (arith, slice-aggregate-tree-length-2 (at-sets));
         lent = p .2;
       },
+      omega (arith, slice-aggregate-tree-length (at-order), few-pairs _ _ (p .0 .first-loaded) (p .0 .second-loaded)),
+      omega (arith, p .3, few-pairs _ _ (p .0 .first-loaded) (p .0 .second-loaded)),
       p .1,
     )
 
@@ -29,6 +33,12 @@ same-length c = search needs
 
 same-length-2 : tie.Need-same-length-2
 same-length-2 c = search needs
+
+same-length-3 : tie.Need-same-length-3
+same-length-3 c = search needs
+
+same-length-4 : tie.Need-same-length-4
+same-length-4 c = search needs
 
 returns : tie.Need-returns
 returns c = search needs
@@ -42,4 +52,6 @@ tree-length-spec =
     tree-length-requires
     same-length
     same-length-2
+    same-length-3
+    same-length-4
     returns)

@@ -1,0 +1,85 @@
+-- The lengths of the pairs that a tree meets, from the pairs with none below them up.
+-- Assumes nothing.
+use mathlib.Core.Path.{_≡_}
+use mathlib.Core.Bool.{Bool}
+use mathlib.Core.List.{List}
+use Prim.Native.Nat.{ℕ, _+_, _*_, _^_, _≤_, _<_, min}
+use lib.Dec.{T}
+use lib.ListN.{length, getD}
+use Rattle.simulation.specs.Sum.{sum, when}
+use Rattle.simulation.specs.Table.{target-at, states-of}
+use Rattle.simulation.specs.Round.{pairs}
+use Rattle.simulation.specs.Tree.{chosen, set-of}
+use Rattle.simulation.specs.Length.{pair-length, tree-length}
+use Rattle.table.specs.Form.{Loaded, table-of}
+use Rattle.relation.specs.Mask.{member}
+use Rattle.witness.specs.Choice.{Ranked, Lost, Choice, Lent}
+use Rattle.measure.specs.Count.{longest}
+use Rattle.measure.specs.Order.{number, row, column}
+
+-- a longer length is given as this number
+abbrev pub most : ℕ
+most = 4294967295
+
+-- the lengths of a state's pairs with the members of a set
+abbrev pub set-length : (width : ℕ) (lengths : List ℕ) (s : ℕ) → (ℕ → Bool) → ℕ
+set-length width lengths s X = sum width (λ t. when (X t) (getD lengths (s * width + t) 0))
+
+-- what adding them up rests on
+pub record SumGiven (second lengths : List ℕ) (s members : ℕ) : Type 0 where
+  pub loaded : Loaded second
+  pub low : s < 64
+  pub inside : (t : ℕ) → T (member members t) → t < states-of (table-of second)
+  pub room : s * states-of (table-of second) + states-of (table-of second) ≤ length lengths
+  pub small : 1 + set-length (states-of (table-of second)) lengths s (member members) < 2 ^ 64
+
+-- the bytes of a transition's children, from the lengths of pairs
+abbrev pub children-length : (width : ℕ) (lengths targets sets : List ℕ) → ℕ → ℕ
+children-length width lengths targets sets n = sum n (λ i. 4 + set-length width lengths (getD targets i 0) (member (getD sets i 0)))
+
+-- what adding them up rests on
+pub record ChildrenGiven (second lengths targets sets : List ℕ) : Type 0 where
+  pub loaded : Loaded second
+  pub few : length targets ≤ 64
+  pub words : length targets ≤ length sets
+  pub low : (i : ℕ) → i < length targets → getD targets i 0 < 64
+  pub inside : (i t : ℕ) → i < length targets → T (member (getD sets i 0) t) → t < states-of (table-of second)
+  pub room : (i : ℕ) → i < length targets → getD targets i 0 * states-of (table-of second) + states-of (table-of second) ≤ length lengths
+
+module _ (first second : List ℕ) where
+  -- the pair (s, t) is not kept, and the lists hold the transitions and the lengths of all pairs that its tree meets: a set of pairs that has with a pair all pairs below it
+  pub record Measured (choices lengths : List ℕ) (s t : ℕ) : Type 0 where
+    pub met : ℕ → ℕ → Bool
+    pub here : T (met s t)
+    pub lost : (u v : ℕ) → T (met u v) → Lost first second u v
+    pub below : (u v i w : ℕ) → T (met u v) → i < length (chosen (table-of first) (table-of second) u v .entries) → T (set-of (table-of first) (table-of second) u v i w)
+        → T (met (target-at (chosen (table-of first) (table-of second) u v) i) w)
+    pub choice : (u v : ℕ) → T (met u v) → Choice first second u v (getD choices (u * states-of (table-of second) + v) 0)
+    pub right : (u v : ℕ) → T (met u v) → getD lengths (u * states-of (table-of second) + v) 0 ≡ pair-length (table-of first) (table-of second) u v
+
+  -- the list holds the length of the pair (s, t)
+  abbrev pub Holds : (lengths : List ℕ) (s t : ℕ) → Type 0
+  Holds lengths s t = getD lengths (number first second s t) 0 ≡ min most (pair-length (table-of first) (table-of second) s t)
+
+  -- what measuring rests on: a length for each pair, a word for each target of a transition
+  pub record MeasureGiven (ranks lengths sets rel x : List ℕ) : Type 0 where
+    pub ranked : Ranked first second ranks
+    pub room : pairs (table-of first) (table-of second) ≤ length lengths
+    pub words : 64 ≤ length sets
+    pub lent : Lent rel x
+
+  -- a pair that is not kept, and the lengths of the pairs below it
+  pub record PairGiven (ranks lengths sets rel x : List ℕ) (s t : ℕ) : Type 0 where
+    pub given : MeasureGiven ranks lengths sets rel x
+    pub lost : Lost first second s t
+    pub below : (i v : ℕ) → i < length (chosen (table-of first) (table-of second) s t .entries) → T (set-of (table-of first) (table-of second) s t i v)
+        → Holds lengths (target-at (chosen (table-of first) (table-of second) s t) i) v
+
+  -- the list holds the lengths of the listed pairs
+  pub record AllHold (order lengths : List ℕ) (n : ℕ) : Type 0 where
+    pub at : (k : ℕ) → k < n → Holds lengths (row first second (getD order k 0)) (column first second (getD order k 0))
+
+  -- the tree's length, and the transitions and lengths of all pairs that it meets, if it is short enough
+  pub record TreeMeasured (choices lengths : List ℕ) (s t len : ℕ) : Type 0 where
+    pub length : len ≡ min (longest + 1) (tree-length (table-of first) (table-of second) s t)
+    pub measured : len ≤ longest → Measured choices lengths s t

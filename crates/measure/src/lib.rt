@@ -1,0 +1,5 @@
+// The pairs that a tree meets, with the transition and the length of each.
+pub mod count;
+pub mod lengths;
+pub mod order;
+pub mod pair;

@@ -1,0 +1,52 @@
+-- `write::put_head` meets its contract. Assumes nothing.
+use mathlib.Core.Path.{ap, ap₂, _∙_}
+use mathlib.Core.List.{[], _∷_}
+use Prim.Native.Nat.{ℕ}
+use native.Mathlib.Omega.{arith}
+use borrow.Author.Needs.{needs}
+use lib.ListN.{length}
+use Rattle.table.specs.Form.{transition-at}
+use Rattle.table.proofs.FormLaws.{limited-at, targets-length}
+use Rattle.buffer.specs.Buffer.{over}
+use Rattle.buffer.proofs.Buffer.{start, store, finish}
+use Rattle.tree.proofs.write.put_head.Statement.{statement}
+use Rattle.tree.proofs.write.put_head.Tie as tie
+
+code-requires : tie.Need-code-requires
+code-requires c κs = search needs
+
+cast-buf : tie.Need-cast-buf
+cast-buf c =
+    let entry = c .before .before .before in
+    record { fits = omega (arith, c .code .ensures, limited-at (entry .args .first .now) (entry .pre .0) (entry .args .j) (entry .pre .1) .code-byte) }
+
+slice-write-buf : tie.Need-slice-write-buf
+slice-write-buf c = search needs
+
+targets-requires : tie.Need-targets-requires
+targets-requires c κs = search needs
+
+cast-buf-2 : tie.Need-cast-buf-2
+cast-buf-2 c =
+    let entry = c .before .before .before .before in
+    let l = limited-at (entry .args .first .now) (entry .pre .0) (entry .args .j) (entry .pre .1) in
+    record { fits = omega (arith, ap length (c .targets .ensures), l .few, l .paired) }
+
+slice-write-buf-2 : tie.Need-slice-write-buf-2
+slice-write-buf-2 c = search needs
+
+same-length : tie.Need-same-length
+same-length c = search needs
+
+returns : tie.Need-returns
+returns c =
+    let entry = c .before .before .before .before in
+    let b = entry .args .buf .now in
+    let m = transition-at (entry .args .first .now) (entry .args .j) in
+    let a = c .before .code .result in
+    let n = length (c .targets .result .now) in
+    finish (store {x = n} (store {x = a} (start (a ∷ n ∷ []) b (entry .pre .2)))) .bytes
+    ∙ ap₂ (λ (a n : ℕ). over (a ∷ n ∷ []) b) (c .before .code .ensures) (ap length (c .targets .ensures) ∙ targets-length m)
+
+pub put-head-spec : {M : Type 1} → statement M
+put-head-spec = tie.close (tie.spec code-requires cast-buf slice-write-buf targets-requires cast-buf-2 slice-write-buf-2 same-length returns)
