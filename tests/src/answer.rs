@@ -88,6 +88,11 @@ impl Pair {
         })
     }
 
+    /// Two tables that keep the rules, of any size: all fits by a flow.
+    pub fn of((first, second): &(Table, Table)) -> Pair {
+        Pair::new(0, &first.bytes(), &second.bytes()).ok().unwrap()
+    }
+
     pub fn rank(&self, s: usize, t: usize) -> u32 {
         self.ranking.ranks[s * self.second.states.len() + t] as u32
     }

@@ -11,5 +11,7 @@ pub mod make;
 pub mod program;
 pub mod random;
 pub mod ranks;
+#[cfg(feature = "table")]
+pub mod stack;
 pub mod table;
 pub mod tree;

@@ -1,11 +1,14 @@
 //! Calls of the library, every lent buffer filled beforehand with a pattern
-//! and standing between guards.
+//! and standing between guards, and none with more stack than promised.
 
 use crate::answer::Answer;
 #[cfg(feature = "check")]
 use crate::answer::{Expected, Lengths, Pair, Shown};
 #[cfg(feature = "check")]
 use crate::flow::judge;
+use crate::stack::{used, PROMISED};
+#[cfg(feature = "check")]
+use crate::tree::{replay, Replay};
 
 extern "C" {
     fn pod_check_table(table: *const u8, len: usize, answer: *mut u32, answer_len: usize);
@@ -70,6 +73,13 @@ impl<T: Copy + PartialEq> Lent<T> {
     }
 }
 
+/// Makes a call, and gives the bytes of stack that it took.
+fn bounded(call: impl FnOnce()) -> usize {
+    let stack = used(call);
+    assert!(stack <= PROMISED, "at least {stack} bytes of stack");
+    stack
+}
+
 fn answer_of(answer: &Lent<u32>) -> Answer {
     let fields = answer.filled(FIELDS).expect("numbers beyond the answer");
     Answer {
@@ -89,7 +99,9 @@ pub fn check_table(table: &[u8], salt: u64) -> Answer {
     let mut answer = Lent::new(FIELDS + (salt % 3) as usize, salt, |p| p as u32);
     let part = answer.part();
     // SAFETY: pointers and lengths are those of live slices.
-    unsafe { pod_check_table(table.as_ptr(), table.len(), part.as_mut_ptr(), part.len()) };
+    bounded(|| unsafe {
+        pod_check_table(table.as_ptr(), table.len(), part.as_mut_ptr(), part.len())
+    });
     answer_of(&answer)
 }
 
@@ -98,7 +110,9 @@ pub fn check_table_short(table: &[u8], length: usize) -> bool {
     let mut answer = Lent::new(length, 7, |p| p as u32);
     let part = answer.part();
     // SAFETY: as above.
-    unsafe { pod_check_table(table.as_ptr(), table.len(), part.as_mut_ptr(), part.len()) };
+    bounded(|| unsafe {
+        pod_check_table(table.as_ptr(), table.len(), part.as_mut_ptr(), part.len())
+    });
     answer.filled(0).is_some()
 }
 
@@ -109,6 +123,8 @@ pub struct Call {
     flow: Lent<u8>,
     tree: Lent<u8>,
     answer: Lent<u32>,
+    /// Bytes of stack taken.
+    stack: usize,
 }
 
 #[cfg(feature = "check")]
@@ -126,12 +142,13 @@ impl Call {
             flow: Lent::new(lengths.flow, salt + 1, |p| p as u8),
             tree: Lent::new(lengths.tree, salt + 2, |p| p as u8),
             answer: Lent::new(answer, salt + 3, |p| p as u32),
+            stack: 0,
         };
         let (ranks, flow, tree) = (call.ranks.part(), call.flow.part(), call.tree.part());
         let answer = call.answer.part();
         // SAFETY: pointers and lengths are those of live slices, no two of
         // which overlap where one of them is written.
-        unsafe {
+        call.stack = bounded(|| unsafe {
             pod_check(
                 tables.0.as_ptr(),
                 tables.0.len(),
@@ -148,7 +165,7 @@ impl Call {
                 answer.as_mut_ptr(),
                 answer.len(),
             )
-        };
+        });
         call
     }
 
@@ -177,6 +194,22 @@ pub struct Judged {
     /// Targets whose weight had to be shared out over several.
     pub split: usize,
     pub tree: Vec<u8>,
+    /// Bytes of stack taken.
+    pub stack: usize,
+}
+
+#[cfg(feature = "check")]
+impl Judged {
+    /// A tree is followed by its first state, not by its second, and its
+    /// depth is the rank.
+    pub fn replayed(&self, pair: &Pair, s: usize, t: usize) -> Replay {
+        let own = replay(&self.tree, &pair.first).unwrap();
+        let other = replay(&self.tree, &pair.second).unwrap();
+        assert_eq!(own.followers >> s & 1, 1);
+        assert_eq!(other.followers >> t & 1, 0);
+        assert_eq!(own.depth as u32, pair.rank(s, t));
+        own
+    }
 }
 
 /// Calls the library for a pair of states and holds everything it leaves
@@ -250,5 +283,6 @@ fn compare(
         answer,
         split,
         tree: tree.to_vec(),
+        stack: call.stack,
     })
 }

@@ -265,6 +265,73 @@ pub fn chain(n: usize) -> (Table, Table) {
     (Table::new(chain(n)), Table::new(chain(n - 1)))
 }
 
+/// The table with more states, which can do nothing, some numbered below all
+/// others and some above: every step by the first code leads to each of them
+/// with weight 1, and with `weight` to its one target of before.
+fn joined(table: Table, (below, above): (usize, usize), weight: u16) -> Table {
+    let end = below + table.states.len();
+    let mut list = vec![Vec::new(); end + above];
+    for (s, mut steps) in table.states.into_iter().enumerate() {
+        for step in &mut steps {
+            step.entries
+                .iter_mut()
+                .for_each(|entry| entry.0 += below as u8);
+            if step.code == code(0) {
+                step.entries[0].1 = weight;
+                let more = (0..below).chain(end..end + above);
+                step.entries.extend(more.map(|state| (state as u8, 1)));
+                step.entries.sort();
+            }
+        }
+        list[below + s] = steps;
+    }
+    Table::new(list)
+}
+
+/// Chains, cycles or counters with the same ranks, whose trees are combs.
+/// Each step has one deep child, after leaves.0 others without transitions
+/// and before leaves.1 more; in its node the one deep transition is after
+/// stuck.0 others and before stuck.1 more. Without leaves there can be no
+/// stuck states: a leaf of the first table takes what leads to them.
+pub fn comb(
+    (first, second): (Table, Table),
+    leaves: (usize, usize),
+    stuck: (usize, usize),
+) -> (Table, Table) {
+    let weight = 300 * (stuck.0 + stuck.1).max(1) as u16;
+    (joined(first, leaves, 300), joined(second, stuck, weight))
+}
+
+/// Layers of `width` states, each with a step to all states of the next,
+/// against a chain that is a layer shorter: all children are deep.
+pub fn fan(layers: usize, width: usize) -> (Table, Table) {
+    let step = |s: usize| {
+        let next = (s / width + 1) * width;
+        Transition {
+            code: code(0),
+            entries: (next..next + width).map(|t| (t as u8, 1)).collect(),
+        }
+    };
+    let mut first: Vec<_> = (0..(layers - 1) * width).map(|s| vec![step(s)]).collect();
+    first.resize(layers * width, Vec::new());
+    (Table::new(first), chain(layers).1)
+}
+
+/// One state that goes on for ever against layers whose states each have
+/// so many like-coded steps: widths[k] is the number of states of layer k.
+/// A step of a tree takes 6 bytes, so that of the start states has 1 + 6 ×
+/// (1 + w1 + w1 w2 + ..) bytes.
+pub fn layered(widths: &[usize]) -> (Table, Table) {
+    let mut second = Vec::new();
+    for (k, &width) in widths.iter().enumerate() {
+        let next = second.len() + width;
+        let count = widths.get(k + 1).copied().unwrap_or(0);
+        let steps: Vec<Transition> = (0..count).map(|j| to(code(0), next + j)).collect();
+        second.extend(vec![steps; width]);
+    }
+    (Table::new(vec![vec![to(code(0), 0)]]), Table::new(second))
+}
+
 /// One state with steps to itself against layers of states: each step has
 /// several like-coded ones to tell apart, so trees grow with every layer.
 pub fn layers(random: &mut Random, layers: usize, width: usize) -> (Table, Table) {

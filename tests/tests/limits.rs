@@ -2,32 +2,11 @@
 //! 65,535; against the second program with a maximum flow of its own.
 
 use pod_tests::answer::{Lengths, Pair};
-use pod_tests::library::{check, Judged};
+use pod_tests::library::check;
 use pod_tests::make::{self, Shape};
 use pod_tests::random::Random;
+use pod_tests::stack::deep;
 use pod_tests::table::{Table, Transition};
-use pod_tests::tree::{replay, LONGEST};
-
-fn pair(first: &Table, second: &Table) -> Pair {
-    Pair::new(0, &first.bytes(), &second.bytes()).ok().unwrap()
-}
-
-/// Runs on a stack for trees of thousands of levels.
-fn deep(work: impl FnOnce() + Send) {
-    std::thread::scope(|scope| {
-        let builder = std::thread::Builder::new().stack_size(64 << 20);
-        let thread = builder.spawn_scoped(scope, work).unwrap();
-        thread.join().unwrap();
-    });
-}
-
-fn replayed(pair: &Pair, s: usize, t: usize, judged: &Judged) {
-    let own = replay(&judged.tree, &pair.first).unwrap();
-    let other = replay(&judged.tree, &pair.second).unwrap();
-    assert_eq!(own.followers >> s & 1, 1);
-    assert_eq!(other.followers >> t & 1, 0);
-    assert_eq!(own.depth as u32, pair.rank(s, t));
-}
 
 /// The lengths from two below to two above.
 fn around(length: usize) -> impl Iterator<Item = usize> {
@@ -66,7 +45,7 @@ fn sample(random: &mut Random, pair: &Pair, count: usize, seen: &mut Seen) {
         seen.split += (rank == 0 && pair.must_split(s, t)) as usize;
         if judged.answer.rank > 0 && judged.tree.len() < 2_000 {
             seen.replayed += 1;
-            replayed(pair, s, t, &judged);
+            judged.replayed(pair, s, t);
         }
     }
 }
@@ -117,8 +96,8 @@ fn near_copies() {
     let mut random = Random::new(31);
     let mut seen = Seen::default();
     for round in 0..300 {
-        let (first, second) = near(&mut random, round);
-        sample(&mut random, &pair(&first, &second), 10, &mut seen);
+        let pair = Pair::of(&near(&mut random, round));
+        sample(&mut random, &pair, 10, &mut seen);
     }
     println!("{seen:?}");
     assert!(seen.kept > 400 && seen.pairs - seen.kept > 400);
@@ -159,36 +138,12 @@ fn long_lines() {
         let table = line(&mut random, 1 + round % 3);
         let edits = random.between(1, 4);
         let other = make::edited(&mut random, &table, edits, 2);
-        let pair = pair(&table, &other);
+        let pair = Pair::of(&(table, other));
         deep(|| sample(&mut random, &pair, 12, &mut seen));
     }
     println!("{seen:?}");
     assert!(seen.ranks.iter().all(|&count| count > 30));
     assert!(seen.too_long > 50 && seen.replayed > 500);
-}
-
-#[test]
-fn four_thousand_rounds() {
-    deep(|| {
-        let (first, second) = make::counter(64);
-        let pair = pair(&first, &second);
-        assert_eq!((pair.rank(0, 0), pair.ranking.kept), (4_096, 0));
-        let full = pair.lengths(0, 0);
-        assert_eq!(full.tree, 24_577);
-        let judged = check(&pair, 0, 0, full, 1);
-        replayed(&pair, 0, 0, &judged);
-        let tree = full.tree - 1;
-        let short = check(&pair, 0, 0, Lengths { tree, ..full }, 2);
-        assert_eq!(short.answer.needed, 24_577);
-
-        let (first, second) = make::cycles(63, 64);
-        let pair = self::pair(&first, &second);
-        assert_eq!((pair.ranking.rounds(), pair.ranking.kept), (4_032, 64));
-        let longest = pair.ranking.ranks.iter().position(|&rank| rank == 4_032);
-        let (s, t) = (longest.unwrap() / 64, longest.unwrap() % 64);
-        let judged = check(&pair, s, t, pair.lengths(s, t), 3);
-        replayed(&pair, s, t, &judged);
-    });
 }
 
 #[test]
@@ -210,7 +165,7 @@ fn longest_flow() {
         let table = Table::new(table.states);
         let mut states = table.states.clone();
         states[0].reverse();
-        let pair = pair(&table, &Table::new(states));
+        let pair = Pair::of(&(table, Table::new(states)));
         let full = pair.lengths(0, 0);
         assert_eq!((full.flow, pair.rank(0, 0)), (196_993, 0));
         for flow in around(full.flow) {
@@ -224,7 +179,7 @@ fn lengths_around_the_need() {
     let mut random = Random::new(34);
     let mut seen = [0; 24];
     for round in 0..40 {
-        let (first, second) = match round % 3 {
+        let tables = match round % 3 {
             0 => near(&mut random, round),
             _ => {
                 let table = line(&mut random, 2);
@@ -232,7 +187,7 @@ fn lengths_around_the_need() {
                 (table, other)
             }
         };
-        let pair = pair(&first, &second);
+        let pair = Pair::of(&tables);
         for k in 0..2 {
             let least = pair.first.states.len().min(pair.second.states.len());
             let s = random.below(least);
@@ -257,67 +212,4 @@ fn lengths_around_the_need() {
     let least = [500, 300, 50, 50, 10];
     let seen = [seen[0], seen[20], seen[21], seen[22], seen[23]];
     assert!(seen.iter().zip(least).all(|(&seen, least)| seen > least));
-}
-
-/// One state that goes on for ever against layers whose states each have
-/// so many like-coded steps: widths[k] is the number of states of layer k.
-fn layered(widths: &[usize]) -> (Table, Table) {
-    let mut second = Vec::new();
-    for (k, &width) in widths.iter().enumerate() {
-        let next = second.len() + width;
-        let count = widths.get(k + 1).copied().unwrap_or(0);
-        let steps: Vec<Transition> = (0..count).map(|j| make::to(9, next + j)).collect();
-        second.extend(vec![steps; width]);
-    }
-    (Table::new(vec![vec![make::to(9, 0)]]), Table::new(second))
-}
-
-#[test]
-fn longest_tree() {
-    // A step of such a tree takes 6 bytes, so the tree of (0, 0) has 1 + 6 ×
-    // (1 + w1 + w1 w2 + ..) bytes.
-    let mut random = Random::new(35);
-    let mut nearest = (0, u64::MAX);
-    for _ in 0..40_000 {
-        let mut widths = vec![1];
-        let mut steps = 0;
-        let mut states = 1;
-        loop {
-            let width = random.between(1, 5);
-            steps += widths[widths.len() - 1] * width;
-            states += width;
-            if steps > 128 || states > 64 || widths.len() > 14 {
-                break;
-            }
-            widths.push(width);
-        }
-        let (mut length, mut product) = (1, 1);
-        for width in &widths {
-            product *= *width as u64;
-            length += 6 * product;
-        }
-        let near = length.abs_diff(LONGEST) < 1_500;
-        let record = length <= LONGEST && length > nearest.0;
-        let record = record || length > LONGEST && length < nearest.1;
-        if !near || !record {
-            continue;
-        }
-        match length <= LONGEST {
-            true => nearest.0 = length,
-            false => nearest.1 = length,
-        }
-        let (first, second) = layered(&widths);
-        let pair = pair(&first, &second);
-        assert_eq!(pair.trees.length(0, 0), length);
-        let judged = check(&pair, 0, 0, pair.lengths(0, 0), length);
-        let number = if length > LONGEST { 23 } else { 0 };
-        assert_eq!(judged.answer.number, number);
-        let lengths = Lengths {
-            tree: 70_000,
-            ..pair.lengths(0, 0)
-        };
-        check(&pair, 0, 0, lengths, length);
-    }
-    println!("nearest to the limit: {nearest:?}");
-    assert!(nearest.0 > 65_000 && nearest.1 < 66_000);
 }

@@ -3,11 +3,10 @@
 
 use pod_tests::answer::{Answer, Lengths, Pair};
 use pod_tests::fit::SUBSETS;
-use pod_tests::library::{check, Call, Judged, FIELDS};
+use pod_tests::library::{check, Call, FIELDS};
 use pod_tests::make::{self, Shape};
 use pod_tests::random::Random;
 use pod_tests::table::{parse, Table, Transition, C, LONE, P};
-use pod_tests::tree::replay;
 
 const ROOMY: Lengths = Lengths {
     ranks: 12,
@@ -203,17 +202,6 @@ impl Seen {
     }
 }
 
-/// A tree is followed by its first state, not by its second, and its depth
-/// is the rank.
-fn replayed(pair: &Pair, s: usize, t: usize, judged: &Judged) -> u8 {
-    let own = replay(&judged.tree, &pair.first).unwrap();
-    let other = replay(&judged.tree, &pair.second).unwrap();
-    assert_eq!(own.followers >> s & 1, 1);
-    assert_eq!(other.followers >> t & 1, 0);
-    assert_eq!(own.depth as u32, pair.rank(s, t));
-    own.widest
-}
-
 #[test]
 fn random_pairs() {
     let mut random = Random::new(21);
@@ -260,7 +248,7 @@ fn one(random: &mut Random, pair: &Pair, s: usize, t: usize, seen: &mut Seen) {
     seen.too_long += (judged.answer.number == 23) as usize;
     if judged.answer.rank > 0 && (judged.tree.len() < 200 || random.once_in(16)) {
         seen.replayed += 1;
-        seen.wide += (replayed(pair, s, t, &judged) > 1) as usize;
+        seen.wide += (judged.replayed(pair, s, t).widest > 1) as usize;
     }
     if random.once_in(4) {
         let full = pair.lengths(s, t);
@@ -299,7 +287,7 @@ fn wide_pairs() {
                 pairs += 1;
                 kept += (judged.answer.number == 0 && judged.answer.rank == 0) as usize;
                 if judged.answer.rank > 0 && judged.tree.len() < 1_000 {
-                    replayed(&pair, s, t, &judged);
+                    judged.replayed(&pair, s, t);
                 }
             }
         }
@@ -342,7 +330,7 @@ fn sixteen_entries() {
             0 => kept += 1,
             _ => {
                 fallen += 1;
-                replayed(&pair, 0, 0, &judged);
+                judged.replayed(&pair, 0, 0);
             }
         }
     }
