@@ -1,6 +1,11 @@
-//! Calls the library on one input of podcheck's, all buffers on the heap, so that the stack is the library's own.
+//! Calls the library on inputs of podcheck's, all buffers on the heap, and prints the bytes of stack that each call takes.
 
-use std::io::Read;
+#![allow(dead_code)]
+
+#[path = "../tests/src/stack.rs"]
+mod stack;
+
+use std::path::Path;
 
 extern "C" {
     fn pod_check(
@@ -26,17 +31,15 @@ fn table(input: &[u8]) -> (&[u8], &[u8]) {
     input[2..].split_at(length)
 }
 
-fn main() {
-    let mut input = Vec::new();
-    std::io::stdin().read_to_end(&mut input).unwrap();
-    let (first, rest) = table(&input);
+fn call(input: &[u8]) -> usize {
+    let (first, rest) = table(input);
     let (second, _) = table(rest);
     let mut ranks = vec![0u16; 4096];
     let mut flow = vec![0u8; 196_993];
     let mut tree = vec![0u8; 65_535];
     let mut answer = vec![0u32; 8];
     // SAFETY: every pointer is good for the length beside it, and the buffers do not overlap.
-    unsafe {
+    stack::used(|| unsafe {
         pod_check(
             first.as_ptr(),
             first.len(),
@@ -53,6 +56,13 @@ fn main() {
             answer.as_mut_ptr(),
             answer.len(),
         );
+    })
+}
+
+fn main() {
+    for name in std::env::args().skip(1) {
+        let path = Path::new(&name);
+        let input = std::fs::read(path).unwrap();
+        println!("{}: {}", path.file_stem().unwrap().display(), call(&input));
     }
-    println!("{answer:?}");
 }
