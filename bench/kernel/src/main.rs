@@ -3,14 +3,24 @@ mod plain;
 
 // A slice passes as a pointer and a length.
 extern "C" {
-    fn transport_flow(m: *const u16, p: usize, n: *const u16, q: usize, rel: *const u64, rows: usize, x: *mut u32, cells: usize) -> u64;
+    fn transport_flow(
+        m: *const u16, p: usize, n: *const u16, q: usize, rel: *const u64, rows: usize,
+        x: *mut u32, cells: usize, cut: *mut u64, cuts: usize, paths: *mut u32, counts: usize,
+    ) -> u32;
 }
 
 #[no_mangle]
 #[inline(never)]
 pub fn bench_kernel(m: &[u16], n: &[u16], rel: &[u64], x: &mut [u32]) -> u64 {
-    // SAFETY: pointers and lengths of slices that outlive the call.
-    unsafe { transport_flow(m.as_ptr(), m.len(), n.as_ptr(), n.len(), rel.as_ptr(), rel.len(), x.as_mut_ptr(), x.len()) }
+    let (mut cut, mut paths) = (0, 0);
+    // SAFETY: pointers and lengths of slices, and of two numbers, that outlive the call.
+    unsafe {
+        transport_flow(
+            m.as_ptr(), m.len(), n.as_ptr(), n.len(), rel.as_ptr(), rel.len(),
+            x.as_mut_ptr(), x.len(), &mut cut, 1, &mut paths, 1,
+        );
+    }
+    cut
 }
 
 #[no_mangle]

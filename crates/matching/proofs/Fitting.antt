@@ -17,8 +17,8 @@ use Rattle.simulation.proofs.Fit.Gain.{total-positive}
 use Rattle.simulation.proofs.Fit.Agree.{Agree, fits-agree}
 use Rattle.simulation.proofs.Fit.Quick.{fits-full, misfit-row, misfit-column}
 use Rattle.relation.specs.Mask.{member}
-use Rattle.table.specs.Form.{Loaded, transitions-of, transition-at, table-of}
-use Rattle.table.proofs.FormLaws.{limits, limited-at, distribution-at, weights-length, targets-length}
+use Rattle.form.specs.Form.{Loaded, transitions-of, transition-at, table-of}
+use Rattle.form.proofs.FormLaws.{limits, limited-at, distribution-at, weights-length, targets-length}
 use Rattle.transport.specs.Answer.{Answered}
 use Rattle.matching.specs.Held.{Ascending, holds, Places, Gathered, relation-of, fitting}
 use Rattle.matching.specs.Known.{SetOf}

@@ -12,7 +12,7 @@ use lib.Dec.{T, T-not, ltb, ltb→lt}
 use lib.ListN.{length, getD, set}
 use lib.Seq.{getD-set-same, getD-set-other}
 use Rattle.simulation.proofs.Finite.Tests.{either, is-false, last-or-below}
-use Rattle.table.proofs.Sound.{ascending-above}
+use Rattle.form.proofs.Sound.{ascending-above}
 use Rattle.relation.specs.Mask.{Test, member, part, both, up-to}
 use Rattle.matching.specs.Held.{holds, row-at, Ascending, Gathered}
 

@@ -14,8 +14,8 @@ use Rattle.simulation.specs.Table.{targets, states-of}
 use Rattle.simulation.proofs.Finite.Tests.{last-or-below}
 use Rattle.relation.specs.Mask.{Test, member, with-member}
 use Rattle.relation.proofs.Mask.{member-none}
-use Rattle.table.specs.Form.{start-of, transitions-of, transition-at, table-of}
-use Rattle.table.proofs.FormLaws.{states-count}
+use Rattle.form.specs.Form.{start-of, transitions-of, transition-at, table-of}
+use Rattle.form.proofs.FormLaws.{states-count}
 use Rattle.matching.specs.Known.{SetOf, TargetSets}
 
 either-true : (a b : Bool) → (a || b) ≡ true → (a ≡ true) ⊎ (b ≡ true)

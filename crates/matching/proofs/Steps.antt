@@ -12,8 +12,8 @@ use Rattle.simulation.specs.Sum.{all-of, any-of}
 use Rattle.simulation.specs.Table.{Transition, states-of, steps, no-transition, transition}
 use Rattle.simulation.proofs.Finite.Tests.{is-true, is-false, last-or-below}
 use Rattle.simulation.proofs.Finite.Lists.{all-of-at, all-of-by, any-of-at, any-of-by}
-use Rattle.table.specs.Form.{Loaded, start-of, transition-at, table-of}
-use Rattle.table.proofs.FormLaws.{counts, transition-of, transition-numbered}
+use Rattle.form.specs.Form.{Loaded, start-of, transition-at, table-of}
+use Rattle.form.proofs.FormLaws.{counts, transition-of, transition-numbered}
 
 -- one number more passes
 pub upto-next : (P : ℕ → Bool) (b : Bool) (a n : ℕ) → ((k : ℕ) → a ≤ k → k < n → P k ≡ b) → {r : Bool} → r ≡ P n → r ≡ b → (k : ℕ) → a ≤ k → k < n + 1 → P k ≡ b

@@ -13,8 +13,8 @@ use Rattle.simulation.specs.Table.{states-of}
 use Rattle.simulation.specs.Round.{Relation, related, fits-step}
 use Rattle.simulation.proofs.Finite.Tests.{last-or-below}
 use Rattle.simulation.proofs.Fit.Quick.{fits-step-less}
-use Rattle.table.specs.Form.{Loaded, start-of, transitions-of, transition-at, table-of}
-use Rattle.table.proofs.FormLaws.{limits, start-bound}
+use Rattle.form.specs.Form.{Loaded, start-of, transitions-of, transition-at, table-of}
+use Rattle.form.proofs.FormLaws.{limits, start-bound}
 use Rattle.matching.specs.Known.{Lent, Tried}
 
 -- lengths are all that is asked of what is lent for work

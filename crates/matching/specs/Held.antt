@@ -6,7 +6,7 @@ use mathlib.Core.List.{List}
 use Prim.Native.Nat.{ℕ, _+_, _≤_, _<_}
 use lib.ListN.{length, getD}
 use Rattle.relation.specs.Mask.{Test, member}
-use Rattle.table.specs.Form.{transition-at, table-of}
+use Rattle.form.specs.Form.{transition-at, table-of}
 use Rattle.simulation.specs.Sum.{all-of, any-of}
 use Rattle.simulation.specs.Fit.{fits?}
 use Rattle.simulation.specs.Table.{Transition, Table, weights, states-of, steps}

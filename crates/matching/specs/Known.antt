@@ -6,7 +6,7 @@ use mathlib.Core.List.{List}
 use Prim.Native.Nat.{ℕ, _+_, _*_, _≤_, _<_}
 use lib.ListN.{length, getD}
 use Rattle.relation.specs.Mask.{member}
-use Rattle.table.specs.Form.{Loaded, start-of, transitions-of, transition-at, table-of}
+use Rattle.form.specs.Form.{Loaded, start-of, transitions-of, transition-at, table-of}
 use Rattle.simulation.specs.Table.{targets, states-of}
 use Rattle.simulation.specs.Round.{Relation, fits-step}
 

@@ -1,13 +1,12 @@
 // Whether each transition of one state fits some transition of another that has the same code, in a relation held as rows.
 use relation::set;
-use table::form;
 ghost use mathlib.Core.Path.{_≡_};
 ghost use Prim.Native.Nat.{_<_, _≤_};
 ghost use lib.ListN.{length};
 ghost use Rattle.relation.specs.Mask.{member, part};
 ghost use Rattle.simulation.specs.Table.{states-of};
 ghost use Rattle.simulation.specs.Round.{fits-step};
-ghost use Rattle.table.specs.Form.{Loaded, transitions-of, transition-at, table-of};
+ghost use Rattle.form.specs.Form.{Loaded, transitions-of, transition-at, table-of};
 ghost use Rattle.matching.specs.Held.{row-at, Places, Ascending, Gathered, relation-of, fitting, answered, matched};
 ghost use Rattle.matching.specs.Quick.{Covers, Scanned};
 ghost use Rattle.matching.specs.Known.{SetOf, TargetSets, Lent, Tried, Matching};

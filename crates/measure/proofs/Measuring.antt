@@ -16,22 +16,20 @@ use Rattle.simulation.specs.Table.{Table, targets, target-at, states-of}
 use Rattle.simulation.specs.Round.{pairs}
 use Rattle.simulation.specs.Tree.{chosen, set-of}
 use Rattle.simulation.specs.Length.{one-length, pair-length, tree-length}
-use Rattle.simulation.proofs.Finite.Sums.{sum-bound, sum-term}
+use Rattle.simulation.proofs.Finite.Sums.{sum-bound, sum-term, sum-none, sum-more, when-most}
 use Rattle.simulation.proofs.Finite.Tests.{and-left, and-right, both, same-eqb, any-some, some-any}
 use Rattle.simulation.proofs.Trees.Length.{pair-length-step}
-use Rattle.table.specs.Form.{Loaded, table-of, transition-at}
-use Rattle.table.proofs.Laws.{sum-none, sum-more}
-use Rattle.table.proofs.FormLaws.{limits, sound, few-pairs}
+use Rattle.form.specs.Form.{Loaded, table-of, transition-at}
+use Rattle.form.proofs.FormLaws.{limits, sound, few-pairs}
 use Rattle.relation.specs.Mask.{Test, member}
-use Rattle.witness.specs.Choice.{Ranked, Lost, Choice, Sets}
-use Rattle.witness.proofs.Choices.{below-lost}
-use Rattle.measure.proofs.Pairs.{from-number, lost-place, lost-low, number-place}
-use Rattle.measure.proofs.Sums.{when-most}
-use Rattle.measure.proofs.Targets.{ChoiceGiven, targets-are, count-is, few-targets, state-low, state-row, set-at, child-lost, length-parts}
-use Rattle.measure.specs.Lengths.{set-length, SumGiven, Measured}
-use Rattle.measure.specs.Count.{longest}
-use Rattle.measure.specs.Order.{Found, Later, Noted, number, row, column, Ordered}
-use Rattle.measure.specs.Lengths.{most, children-length, ChildrenGiven, Holds, MeasureGiven, PairGiven, AllHold, TreeMeasured}
+use Rattle.relate.specs.Ranked.{Ranked}
+use Rattle.choice.specs.Choice.{Lost, Choice, Sets}
+use Rattle.choice.proofs.Choices.{below-lost}
+use Rattle.order.proofs.Pairs.{from-number, lost-place, lost-low, number-place}
+use Rattle.order.proofs.Targets.{ChoiceGiven, targets-are, count-is, few-targets, state-low, state-row, set-at, child-lost, length-parts}
+use Rattle.measure.specs.Lengths.{set-length, SumGiven, Measured, most, children-length, ChildrenGiven, Holds, MeasureGiven, PairGiven, AllHold, TreeMeasured}
+use Rattle.order.specs.Count.{longest}
+use Rattle.order.specs.Order.{Found, Later, Noted, number, row, column, Ordered}
 
 -- ---- the loop over the children
 

@@ -1,10 +1,9 @@
 -- The lengths of a set of pairs, added up.
 -- Assumes nothing.
 use mathlib.Core.Path.{_≡_, refl, sym, ap, _∙_}
-use mathlib.Core.Bool.{Bool, true, false, not, _&&_, and-true, and-false}
+use mathlib.Core.Bool.{not, _&&_, and-true, and-false}
 use mathlib.Core.List.{List}
-use Prim.Native.Nat.{ℕ, _+_, _*_, _≤_, _<_, zero-le}
-use native.Mathlib.Nat.{le-refl}
+use Prim.Native.Nat.{ℕ, _+_, _*_, _≤_, _<_}
 use native.Mathlib.Omega.{arith}
 use lib.Dec.{T}
 use lib.ListN.{getD}
@@ -12,16 +11,11 @@ use borrow.Author.Tests.{eq-eqb, ne-eqb}
 use Rattle.simulation.specs.Sum.{sum, when}
 use Rattle.simulation.specs.Table.{states-of}
 use Rattle.simulation.proofs.Finite.Sums.{sum-ext, sum-zero, sum-change}
-use Rattle.table.specs.Form.{table-of}
+use Rattle.form.specs.Form.{table-of}
 use Rattle.relation.specs.Mask.{Test, member, without-member, Lowest}
 use Rattle.relation.proofs.Mask.{member-none}
-use Rattle.measure.proofs.Pairs.{member-holds, without-in}
+use Rattle.order.proofs.Pairs.{member-holds, without-in}
 use Rattle.measure.specs.Lengths.{set-length, SumGiven}
-
--- a part that counts or not is at most the part
-pub when-most : (b : Bool) (c : ℕ) → when b c ≤ c
-when-most true c = le-refl c
-when-most false c = zero-le
 
 -- a sum over the members of a set: its lowest member, and the others
 pub sum-lowest : (n : ℕ) (f : ℕ → ℕ) (X : Test) (t : ℕ) → t < n → Lowest X t

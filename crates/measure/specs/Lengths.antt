@@ -11,11 +11,12 @@ use Rattle.simulation.specs.Table.{target-at, states-of}
 use Rattle.simulation.specs.Round.{pairs}
 use Rattle.simulation.specs.Tree.{chosen, set-of}
 use Rattle.simulation.specs.Length.{pair-length, tree-length}
-use Rattle.table.specs.Form.{Loaded, table-of}
+use Rattle.form.specs.Form.{Loaded, table-of}
 use Rattle.relation.specs.Mask.{member}
-use Rattle.witness.specs.Choice.{Ranked, Lost, Choice, Lent}
-use Rattle.measure.specs.Count.{longest}
-use Rattle.measure.specs.Order.{number, row, column}
+use Rattle.relate.specs.Ranked.{Ranked, Lent}
+use Rattle.choice.specs.Choice.{Lost, Choice}
+use Rattle.order.specs.Count.{longest}
+use Rattle.order.specs.Order.{number, row, column}
 
 -- a longer length is given as this number
 abbrev pub most : ℕ

@@ -1,5 +1,3 @@
 -- What the contracts of this crate cite.
 -- Assumes nothing.
-pub mod Count
-pub mod Order
 pub mod Lengths

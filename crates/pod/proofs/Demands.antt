@@ -3,28 +3,29 @@
 use mathlib.Core.Path.{_≡_, refl, sym, ap, _∙_, subst}
 use mathlib.Core.Bool.{Bool, true, false, cond}
 use mathlib.Core.List.{List}
-use mathlib.Core.Logic.{_↔_, _⊎_, inl, inr}
-use Prim.Native.Nat.{ℕ, _+_, _*_, _≤_, _<_}
-use native.Mathlib.Nat.{mul-le-mul-right}
+use mathlib.Core.Logic.{_↔_}
+use Prim.Native.Nat.{ℕ, _+_, _*_, _<_}
 use native.Mathlib.Omega.{arith}
 use lib.Dec.{T, eqb, eqb→eq}
 use lib.ListN.{length, getD, List·getD-append}
 use Rattle.simulation.specs.Fit.{Amounts}
 use Rattle.simulation.specs.Table.{Table, states-of}
-use Rattle.simulation.specs.Round.{pairs, rank, rank-list, maximum, zeros}
-use Rattle.simulation.specs.Demands.{Kept, Told, Sound as TheorySound, Demands as TheoryDemands}
+use Rattle.simulation.specs.Round.{rank, rank-list, maximum, zeros}
+use Rattle.simulation.specs.Demands.{Kept, Told, Demands as TheoryDemands}
 use Rattle.simulation.proofs.Simulation.RankList.{rank-list-length, rank-list-at}
 use Rattle.simulation.proofs.Demands as theory
-use Rattle.simulation.proofs.Finite.Tests.{is-true, is-false, same-eqb}
-use Rattle.table.specs.Bytes.{Decoded, refused, accepted, decode, Octets}
-use Rattle.table.proofs.DecodeLaws.{accepted-told}
-use Rattle.table.proofs.ValidLaws.{valid}
-use Rattle.table.proofs.Sound.{valid-sound}
-use Rattle.witness.specs.Flow.{Right, flow-bytes}
+use Rattle.simulation.proofs.Finite.Tests.{is-true, same-eqb}
+use Rattle.layout.specs.Bytes.{Decoded, refused, accepted, decode}
+use Rattle.layout.proofs.Accepted.{accepted-sound}
+use Rattle.flows.specs.Flow.{Right, flow-bytes}
 use Rattle.buffer.specs.Buffer.{over}
-use Rattle.pod.specs.Check.{Buffers, Result, tree-bytes, success, outcome, checked, RightFor, Checked}
-use Rattle.pod.specs.Demands.{Inside, Ready, Condition, outside, short-ranks, short-flow, short-tree, long-tree, flow-fits, tree-fits, result-of, Call, first-refused, second-refused, both-accepted, call-result, Demand1, Demand2, Demand3, rank-at}
-use Rattle.pod.proofs.Outcome.{met, some-condition, number-met}
+use Rattle.compare.specs.Outcome.{Buffers, Result, success, outcome}
+use Rattle.witness.specs.Shown.{tree-bytes}
+use Rattle.pod.specs.Check.{checked, RightFor, Checked}
+use Rattle.compare.specs.Condition.{Condition, short-ranks, short-flow, short-tree, long-tree, result-of, Ready, outside, flow-fits, tree-fits}
+use Rattle.pod.specs.Demands.{Call, first-refused, second-refused, both-accepted, call-result, Demand1, Demand2, Demand3, rank-at}
+use Rattle.compare.proofs.Outcome.{met, some-condition, number-met}
+use Rattle.order.proofs.Pairs.{place-below}
 
 -- ---- demand 1
 
@@ -131,10 +132,6 @@ module _ (M N : Table) (s t : ℕ) (b : Buffers) (x : ℕ → Amounts) where
       yes-only true e _ = eqb→eq (rank M N 0 0) 0 (subst T (sym e) tt)
       yes-only false e f = absurd (omega arith)
 
--- the place of a pair is below the number of pairs
-pub pair-place : (p q u v : ℕ) → u < p → v < q → u * q + v < p * q
-pair-place p q u v a c = omega (arith, mul-le-mul-right q a)
-
 module _ (first second : List ℕ) (s t : ℕ) (b : Buffers) (r : Result) (h : Checked first second s t b r)
     (M N : Table) (e : decode first ≡ accepted M) (f : decode second ≡ accepted N) where
   call-outcome : r ≡ outcome M N s t b (h .amounts)
@@ -152,33 +149,29 @@ module _ (first second : List ℕ) (s t : ℕ) (b : Buffers) (r : Result) (h : C
         let g : r .buffers .ranks ≡ over (rank-list M N) (b .ranks) =
         ap (λ (r : Result). r .buffers .ranks) (call-outcome ∙ met M N s t b (h .amounts) (k .1)) ∙ ranks-filled M N s t b (h .amounts) ready (k .1) in
         ap (λ (l : List ℕ). getD l (u * states-of N + v) 0) g
-        ∙ List·getD-append (rank-list M N) _ 0 (u * states-of N + v) (omega (arith, rank-list-length M N, pair-place (states-of M) (states-of N) u v a c))
+        ∙ List·getD-append (rank-list M N) _ 0 (u * states-of N + v) (omega (arith, rank-list-length M N, place-below u v (states-of M) (states-of N) a c))
         ∙ rank-list-at M N u v a c
 
-    module _ (bytes₁ : Octets first) (bytes₂ : Octets second) where
-      sound-of : (l : List ℕ) (O : Table) → Octets l → decode l ≡ accepted O → TheorySound O
-      sound-of l O o d = let a = accepted-told l O d in subst TheorySound (a .table-is) (valid-sound _ (valid l o (a .passed)))
+    demands : TheoryDemands M N
+    demands = theory.demands M N (accepted-sound first M e) (accepted-sound second N f)
 
-      demands : TheoryDemands M N
-      demands = theory.demands M N (sound-of first M bytes₁ e) (sound-of second N bytes₂ f)
+    accepted-here : r .answer .number ≡ 0 → Accepted M N s t b (h .amounts) r
+    accepted-here = accepted-call M N s t b (h .amounts) r call-outcome
 
-      accepted-here : r .answer .number ≡ 0 → Accepted M N s t b (h .amounts) r
-      accepted-here = accepted-call M N s t b (h .amounts) r call-outcome
+    pub demand-2 : Demand2 M N s t b r
+    demand-2 =
+        record {
+          weighted = demands .weighted;
+          whole = demands .whole;
+          ranks = ranks-left;
+          counted = λ z. let a = accepted-here z .answer in (ap (λ a. a .kept) (a .1) ∙ success-kept M N s t b (h .amounts) (a .0), ap (λ a. a .rounds) (a .1) ∙ success-rounds M N s t b (h .amounts) (a .0));
+          verdict = λ z. let a = accepted-here z .answer in let w = success-verdict M N s t b (h .amounts) (a .0) in (λ v. w .0 (sym (ap (λ a. a .verdict) (a .1)) ∙ v), λ k. ap (λ a. a .verdict) (a .1) ∙ w .1 k);
+          flows = λ z k. let w = accepted-here z .flow k in (h .amounts, call-right (ready .0 .0) (ready .0 .1) k, w .0, w .1);
+        }
 
-      pub demand-2 : Demand2 M N s t b r
-      demand-2 =
-          record {
-            weighted = demands .weighted;
-            whole = demands .whole;
-            ranks = ranks-left;
-            counted = λ z. let a = accepted-here z .answer in (ap (λ a. a .kept) (a .1) ∙ success-kept M N s t b (h .amounts) (a .0), ap (λ a. a .rounds) (a .1) ∙ success-rounds M N s t b (h .amounts) (a .0));
-            verdict = λ z. let a = accepted-here z .answer in let w = success-verdict M N s t b (h .amounts) (a .0) in (λ v. w .0 (sym (ap (λ a. a .verdict) (a .1)) ∙ v), λ k. ap (λ a. a .verdict) (a .1) ∙ w .1 k);
-            flows = λ z k. let w = accepted-here z .flow k in (h .amounts, call-right (ready .0 .0) (ready .0 .1) k, w .0, w .1);
-          }
-
-      pub demand-3 : Demand3 M N s t b r
-      demand-3 =
-          record {
-            told = λ u v a c. subst (λ (n : ℕ). Told M N u v n) (sym (ranks-left u v a c)) (demands .told u v a c);
-            shown = λ z k. let a = accepted-here z in let w = a .tree k in (ap (λ a. a .rank) (a .answer .1) ∙ success-rank M N s t b (h .amounts) (a .answer .0), w .0, w .1);
-          }
+    pub demand-3 : Demand3 M N s t b r
+    demand-3 =
+        record {
+          told = λ u v a c. subst (λ (n : ℕ). Told M N u v n) (sym (ranks-left u v a c)) (demands .told u v a c);
+          shown = λ z k. let a = accepted-here z in let w = a .tree k in (ap (λ a. a .rank) (a .answer .1) ∙ success-rank M N s t b (h .amounts) (a .answer .0), w .0, w .1);
+        }

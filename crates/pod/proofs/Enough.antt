@@ -1,19 +1,25 @@
--- Which refusals cannot be: a table is refused by a number up to 10, and buffers that are long enough rule out 20 and 22.
+-- Which refusals cannot be: a table is refused by a number up to 10, buffers that are long enough rule out 20 and 22, and 21 asks for a limited length.
 -- Assumes nothing.
-use mathlib.Core.Path.{_≡_, refl, ap, ap₂}
+use mathlib.Core.Path.{_≡_, refl, sym, ap, ap₂, subst}
 use mathlib.Core.Bool.{Bool, true, false}
 use mathlib.Core.List.{List}
 use Prim.Native.Nat.{ℕ, zero, suc, _+_, _*_, _≤_, _<_, zero-le}
 use native.Mathlib.Omega.{arith}
 use lib.Dec.{ltb, eqb}
 use lib.ListN.{length}
+use Rattle.simulation.specs.Fit.{Amounts}
 use Rattle.simulation.specs.Table.{Table, states-of}
 use Rattle.simulation.specs.Sum.{sum, any}
-use Rattle.table.specs.Bytes.{refuse_unless_, _then_, first, section, byte, size-from, actions, code, end, target-right, weight-right, code-refusal, actions-refusal, states-refusal, transition-refusal, transitions-refusal, entry-refusal, run-refusal, entries-refusal, refusal, refused, accepted, number, decode}
-use Rattle.table.proofs.DecodeLaws.{number-is}
-use Rattle.measure.specs.Count.{longest}
-use Rattle.pod.specs.Check.{Buffers, Result, Checked, state-count, states-in}
-use Rattle.pod.specs.Demands.{Condition, outside, short-ranks, short-flow, short-tree, long-tree, flow-fits, tree-fits, Call, first-refused, second-refused, both-accepted}
+use Rattle.layout.specs.Bytes.{refuse_unless_, _then_, first, section, byte, size-from, actions, code, end, target-right, weight-right, code-refusal, actions-refusal, states-refusal, transition-refusal, transitions-refusal, entry-refusal, run-refusal, entries-refusal, refusal, refused, number, decode}
+use Rattle.layout.proofs.DecodeLaws.{number-is}
+use Rattle.layout.proofs.Accepted.{accepted-shaped}
+use Rattle.flows.specs.Flow.{most-flow}
+use Rattle.flows.proofs.FlowRoom.{room-most}
+use Rattle.order.specs.Count.{longest}
+use Rattle.compare.specs.Outcome.{Buffers, Result, success}
+use Rattle.pod.specs.Check.{Checked, state-count, states-in}
+use Rattle.pod.specs.Demands.{Call, first-refused, second-refused, both-accepted, call-result}
+use Rattle.compare.specs.Condition.{Condition, outside, short-ranks, short-flow, short-tree, long-tree, flow-fits, tree-fits}
 use Rattle.pod.proofs.Demands.{demand-1}
 
 -- ---- a table's number is at most 10
@@ -125,3 +131,25 @@ module _ {first second : List ℕ} {s t : ℕ} {b : Buffers} where
   tree-enough le (first-refused e) z = omega (arith, refused-most first e)
   tree-enough le (second-refused e f) z = omega (arith, refused-most second f)
   tree-enough le (both-accepted e f c) z = tree-short le c z
+
+-- ---- how long a flow buffer 21 asks for
+
+module _ {first second : List ℕ} {s t : ℕ} {b : Buffers} where
+  needed-most : (x : ℕ → Amounts) {n k : ℕ} (c : Call first second s t b n k) → n ≡ 21 → call-result first second s t b x c .answer .needed ≤ most-flow
+  unfolding success
+  needed-most x (first-refused e) z = zero-le
+  needed-most x (second-refused e f) z = zero-le
+  needed-most x (both-accepted e f (outside h)) z = zero-le
+  needed-most x (both-accepted e f (short-ranks i h)) z = absurd (omega arith)
+  needed-most x (both-accepted {M} {N} e f (short-flow r k h)) z =
+      let v = accepted-shaped first M e in
+      room-most M N (v .few-transitions) (v .few-entries) (accepted-shaped second N f .few-states) s
+  needed-most x (both-accepted e f (flow-fits r k h)) z = zero-le
+  needed-most x (both-accepted e f (long-tree r k h)) z = zero-le
+  needed-most x (both-accepted e f (short-tree r k h g)) z = absurd (omega arith)
+  needed-most x (both-accepted e f (tree-fits r k h g)) z = zero-le
+
+  pub flow-asked : {r : Result} → Checked first second s t b r → r .answer .number ≡ 21 → r .answer .needed ≤ most-flow
+  flow-asked {r} h z =
+      let d = demand-1 first second s t b r h in
+      subst (λ (q : Result). q .answer .needed ≤ most-flow) (sym (d .gives (call-of h))) (needed-most (d .amounts) (call-of h) z)

@@ -1,21 +1,22 @@
 -- 01's starred examples: of each row's call every result that the contract allows is the one that 01 gives.
 -- Assumes nothing.
 use mathlib.Core.Path.{_≡_, refl, ap, _∙_}
-use mathlib.Core.List.{List, [], _∷_, _++_}
-use Prim.Native.Nat.{ℕ, _+_, _<_}
+use mathlib.Core.List.{List, [], _∷_}
+use Prim.Native.Nat.{ℕ, _+_}
 use native.Mathlib.Omega.{arith}
 use native.Mathlib.Decide.{ℕ-discrete}
 use lib.Dec.{T}
-use lib.ListN.{length, replicate}
+use lib.ListN.{length}
 use Rattle.simulation.specs.Sum.{sum}
 use Rattle.simulation.specs.Fit.{Amounts, Shares, total}
 use Rattle.simulation.specs.Round.{between, round, rank}
 use Rattle.simulation.specs.Demands.{Kept}
 use Rattle.simulation.specs.Tree.{node-bytes, tree}
 use Rattle.simulation.specs.Examples as tables
-use Rattle.table.specs.Bytes.{decode}
-use Rattle.witness.specs.Flow.{Right, place, flow-record, flow-row, flow-records, count, flow-of, flow-bytes}
-use Rattle.pod.specs.Check.{Result, left, success, with-flow, outcome, kept-outcome, checked, RightFor, Checked}
+use Rattle.layout.specs.Bytes.{decode}
+use Rattle.flows.specs.Flow.{Right, place, flow-record, flow-row, flow-records, count, flow-of, flow-bytes}
+use Rattle.compare.specs.Outcome.{success, with-flow, outcome, kept-outcome, left}
+use Rattle.pod.specs.Check.{checked, RightFor}
 use Rattle.pod.specs.Examples.{flow-CP, tree-fits, tree-short, itself, flow-fits, flow-short, one-state, no-bytes, cut-short, byte-more, codes-exchanged, second-cut-short, rows, Covered, All, done, _also_}
 
 -- the amounts of C, P: any right ones are 01's

@@ -5,15 +5,16 @@ use mathlib.Core.List.{List}
 use mathlib.Core.Logic.{_≢_}
 use Prim.Native.Nat.{ℕ, zero, suc, _≤_}
 use native.Mathlib.Omega.{arith}
-use Rattle.table.specs.declared.Table.{Table as Layout}
-use Rattle.table.specs.declared.Answer.{Answer}
-use Rattle.table.specs.declared.Answer.the-variants.{Refused, Accepted}
-use Rattle.table.specs.Bytes.{Decoded, refused, accepted, decode, refusal as refused-by}
+use Rattle.table.specs.declared.parts.Layout.{Layout}
+use Rattle.table.specs.declared.parts.Answer.{Answer}
+use Rattle.table.specs.declared.parts.Answer.the-variants.{Refused, Accepted}
+use Rattle.layout.specs.Bytes.{Decoded, refused, accepted, decode, refusal as refused-by}
 use Rattle.table.specs.Stages.{layout-of, answer-of, answer}
 use Rattle.table.proofs.AnswerLaws.{accepted-told}
-use Rattle.table.proofs.Bounds.{accepted as accepted-bounds}
-use Rattle.table.proofs.DecodeLaws.{decode-accepted, decode-refused}
-use Rattle.pod.specs.Check.{refusal, table-answer, state-count}
+use Rattle.layout.proofs.Bounds.{accepted as accepted-bounds}
+use Rattle.layout.proofs.DecodeLaws.{decode-accepted, decode-refused}
+use Rattle.answer.specs.Numbers.{refusal}
+use Rattle.pod.specs.Check.{table-answer, state-count}
 
 module _ (s : List ℕ) where
   pub decodes-refused : (k : ℕ) → k ≡ refused-by s → k ≢ 0 → decode s ≡ refused k

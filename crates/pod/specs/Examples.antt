@@ -4,8 +4,10 @@ use mathlib.Core.Path.{_≡_}
 use mathlib.Core.List.{List, [], _∷_, _++_}
 use Prim.Native.Nat.{ℕ}
 use lib.ListN.{replicate, take}
-use Rattle.pod.specs.Check.{Buffers, Result, refusal, lent, left, Checked}
-use Rattle.pod.specs.declared.Answer.{Answer}
+use Rattle.compare.specs.Outcome.{Buffers, Result, lent, left}
+use Rattle.answer.specs.Numbers.{refusal}
+use Rattle.pod.specs.Check.{Checked}
+use Rattle.answer.specs.declared.answer.Answer.{Answer}
 
 -- P and C differ in the first weight; the codes of P are 0A and 14
 abbrev pub bytes : (code₁ code₂ weight : ℕ) → List ℕ

@@ -2,5 +2,4 @@
 -- Assumes nothing.
 pub mod Check
 pub mod Demands
-pub mod Steps
 pub mod Examples

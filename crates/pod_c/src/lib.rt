@@ -1,38 +1,20 @@
 // The pod check for firmware in C or Rust: the functions of `pod` under plain names, the answer as eight numbers in a lent buffer.
 ghost use mathlib.Core.Path.{_≡_};
-ghost use Prim.Native.Nat.{_≤_};
-ghost use lib.ListN.{length};
-ghost use Rattle.table.specs.Bytes.{decode};
-ghost use Rattle.pod.specs.Check.{table-answer, lent};
-ghost use Rattle.pod_c.specs.Numbers.{with-answer, answer-into, CheckedInto};
-
-// How many numbers an answer has.
-const FIELDS: usize = 8;
-
-// The fields of an answer, in their order, from the start of a buffer that has room for them.
-fn put(a: pod::Answer, answer: &mut [u32])
-    requires { ⌜ 8 ≤ length (now answer) ⌝ }
-    ensures { λ _. ⌜ now (answer .exit) ≡ with-answer a (now (answer .entry)) ⌝ }
-{
-    answer[0] = a.number;
-    answer[1] = a.table;
-    answer[2] = a.needed;
-    answer[3] = a.rounds;
-    answer[4] = a.kept;
-    answer[5] = a.verdict;
-    answer[6] = a.rank;
-    answer[7] = a.written;
-}
+ghost use Rattle.layout.specs.Bytes.{decode};
+ghost use Rattle.pod.specs.Check.{table-answer};
+ghost use Rattle.compare.specs.Outcome.{lent};
+ghost use Rattle.answer.specs.Numbers.{answer-into};
+ghost use Rattle.pod_c.specs.Numbers.{CheckedInto};
 
 // Checks a lone table. An answer buffer of fewer than eight numbers gets nothing.
 #[no_mangle]
 pub extern "C" fn pod_check_table(table: &[u8], answer: &mut [u32])
     ensures { λ _. ⌜ now (answer .exit) ≡ answer-into (table-answer (decode (now (table .entry)))) (now (answer .entry)) ⌝ }
 {
-    if answer.len() < FIELDS {
+    if answer.len() < answer::FIELDS {
         return;
     }
-    put(pod::check_table(table), answer);
+    answer::put(pod::check_table(table), answer);
 }
 
 // Checks the first table against the second and shows the pair (s, t). An answer buffer of fewer than eight numbers gets nothing, and then nothing else is touched.
@@ -50,8 +32,8 @@ pub extern "C" fn pod_check(
     ensures { λ _. ⌜ CheckedInto (now (first .entry)) (now (second .entry)) s t (lent (now (ranks .entry)) (now (flow .entry)) (now (tree .entry)))
         (lent (now (ranks .exit)) (now (flow .exit)) (now (tree .exit))) (now (answer .entry)) (now (answer .exit)) ⌝ }
 {
-    if answer.len() < FIELDS {
+    if answer.len() < answer::FIELDS {
         return;
     }
-    put(pod::check(first, second, s, t, ranks, flow, tree), answer);
+    answer::put(pod::check(first, second, s, t, ranks, flow, tree), answer);
 }

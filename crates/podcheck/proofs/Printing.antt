@@ -7,16 +7,17 @@ use Prim.Native.Nat.{ℕ, _*_, _≤_}
 use native.Mathlib.Decide.{ℕ-discrete}
 use native.Mathlib.Omega.{arith}
 use lib.ListN.{length}
-use Rattle.pod.specs.declared.Answer.{Answer}
-use Rattle.measure.specs.Count.{longest}
-use Rattle.pod.specs.Check.{lent, left, Checked, states-in}
+use Rattle.answer.specs.declared.answer.Answer.{Answer}
+use Rattle.order.specs.Count.{longest}
+use Rattle.compare.specs.Outcome.{lent, left}
+use Rattle.pod.specs.Check.{Checked, states-in}
 use Rattle.pod.specs.Demands.{Call}
 use Rattle.pod.proofs.Enough.{call-of, of-both, ranks-enough, tree-enough}
 use Rattle.report.specs.Input.{first-of-input, second-of-input}
 use Rattle.report.specs.Text.{answer-text}
-use Rattle.report.specs.Writes.{Over}
+use Rattle.buffer.specs.Buffer.{Filled}
 use Rattle.report.proofs.Bounds.{some-text}
-use Rattle.podcheck.specs.Printed.{Counted, Printed, Short, Answered}
+use Rattle.podcheck.specs.Printed.{Counted, Printed, Answered}
 
 module _ (input : List ℕ) {first second ranks₀ flow₀ tree₀ ranks flow tree : List ℕ} {a : Answer}
     (ef : first ≡ first-of-input input) (es : second ≡ second-of-input input)
@@ -34,7 +35,7 @@ module _ (input : List ℕ) {first second ranks₀ flow₀ tree₀ ranks flow tr
 
   -- the text of any other answer
   pub with-text : {written p q : ℕ} {before after : List ℕ} → Counted input p q → p * q ≤ length ranks₀ → a .number ≢ 22
-      → Over (answer-text (a .table) (a .number) (a .written) p q ranks tree) before written after → Answered input tree₀ before written after
+      → Filled (answer-text (a .table) (a .number) (a .written) p q ranks tree) written before after → Answered input tree₀ before written after
   with-text {written} {p} {q} {before} {after} sizes room d over =
       record {
         printed = λ _. record {
@@ -44,7 +45,7 @@ module _ (input : List ℕ) {first second ranks₀ flow₀ tree₀ ranks flow tr
           checked = checked;
           ranks-fit = ranks-enough (omega (arith, ap₂ (λ (m n : ℕ). m * n) (sizes .first-states) (sizes .second-states))) (call-of checked);
           tree-fits = d;
-          text = subst₂ (λ (m n : ℕ). Over (answer-text (a .table) (a .number) (a .written) m n ranks tree) before written after) (sizes .first-states) (sizes .second-states) over;
+          text = subst₂ (λ (m n : ℕ). Filled (answer-text (a .table) (a .number) (a .written) m n ranks tree) written before after) (sizes .first-states) (sizes .second-states) over;
         };
         short = λ z. absurd (omega (arith, over .count, some-text (a .table) (a .number) (a .written) p q ranks tree));
       }

@@ -4,12 +4,13 @@ use mathlib.Core.Path.{_≡_}
 use mathlib.Core.List.{List}
 use mathlib.Core.Logic.{_≢_}
 use Prim.Native.Nat.{ℕ, _≤_}
-use Rattle.pod.specs.declared.Answer.{Answer}
-use Rattle.pod.specs.Check.{Buffers, lent, left, Checked, states-in}
+use Rattle.answer.specs.declared.answer.Answer.{Answer}
+use Rattle.compare.specs.Outcome.{Buffers, lent, left}
+use Rattle.pod.specs.Check.{Checked, states-in}
 use Rattle.pod.specs.Demands.{Call}
 use Rattle.report.specs.Input.{first-of-input, second-of-input}
 use Rattle.report.specs.Text.{answer-text}
-use Rattle.report.specs.Writes.{Over}
+use Rattle.buffer.specs.Buffer.{Filled}
 
 -- the tables in the input have p and q states
 pub record Counted (input : List ℕ) (p q : ℕ) : Type 0 where
@@ -33,7 +34,7 @@ pub record Printed (input before : List ℕ) (written : ℕ) (after : List ℕ) 
   pub checked : Checked (first-of-input input) (second-of-input input) 0 0 buffers₀ (left answer buffers)
   pub ranks-fit : answer .number ≢ 20
   pub tree-fits : answer .number ≢ 22
-  pub text : Over (text-of input answer buffers) before written after
+  pub text : Filled (text-of input answer buffers) written before after
 
 -- the check refuses a tree buffer: the tree is longer
 pub record Short (input tree : List ℕ) : Type 0 where

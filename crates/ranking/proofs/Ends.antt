@@ -18,10 +18,12 @@ use Rattle.relation.specs.declared.Relation.{Relation}
 use Rattle.relation.proofs.Mask.{below-or-not}
 use Rattle.relation.proofs.Rows.{pairs-most}
 use Rattle.matching.specs.Held.{holds}
-use Rattle.ranking.specs.Rows.{Empty, Cleared, After, Open, Refined, Filled}
-use Rattle.ranking.proofs.RoundLaws.{begins}
+use Rattle.links.specs.Links.{Empty}
+use Rattle.rounds.specs.Rounds.{Cleared, Open, After, Refined}
+use Rattle.ranking.specs.Rows.{Filled}
+use Rattle.rounds.proofs.RoundLaws.{begins}
 use Rattle.ranking.proofs.Answer.{ranks-list, kept-are}
-use Rattle.ranking.proofs.Settling.{row-place}
+use Rattle.rounds.proofs.Settling.{row-place}
 
 -- a row of the full relation
 full-row : (r : Relation) → related r ≡ all-below 64 64 → (s t : ℕ) → s < 64 → holds (r .rows) s t ≡ ltb t 64

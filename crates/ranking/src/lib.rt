@@ -1,18 +1,15 @@
 // The ranks of all pairs of states of two tables, round by round.
-mod links;
-mod rounds;
-
 use relation::Relation;
 use relation::set;
-use table::form;
 ghost use mathlib.Core.Path.{_≡_};
 ghost use Prim.Native.Nat.{ℕ, _*_, _<_, _≤_};
 ghost use lib.ListN.{length, getD};
 ghost use Rattle.relation.specs.Mask.{both, up-to};
 ghost use Rattle.simulation.specs.Table.{states-of};
-ghost use Rattle.table.specs.Form.{Loaded, table-of};
+ghost use Rattle.form.specs.Form.{Loaded, table-of};
 ghost use Rattle.matching.specs.Held.{holds};
-ghost use Rattle.ranking.specs.Rows.{Cleared, Ample, Refined, Filled};
+ghost use Rattle.rounds.specs.Rounds.{Cleared, Refined};
+ghost use Rattle.ranking.specs.Rows.{Ample, Filled};
 
 // The first p rows, cut to the numbers below q.
 fn narrow(rows: &mut [u64], p: usize, q: usize)

@@ -2,8 +2,8 @@
 pub mod set;
 
 ghost use mathlib.Core.Path.{_≡_};
-ghost use Prim.Native.Nat.{_<_, _≤_};
-ghost use Rattle.relation.specs.Related.{related, none, «all-below», without, «pairs-of»};
+ghost use Prim.Native.Nat.{_≤_};
+ghost use Rattle.relation.specs.Related.{related, none, «all-below», «pairs-of»};
 
 pub struct Relation {
     pub rows: [u64; 64],
@@ -32,24 +32,6 @@ impl Relation {
         Self {
             rows: [Self::ROW; Self::STATES],
         }
-    }
-
-    pub fn test(self, s: usize, t: usize) -> bool
-        requires { ⌜ (s < 64) × (t < 64) ⌝ }
-        ensures { λ r. ⌜ r ≡ related self s t ⌝ }
-    {
-        let row = self.rows[s];
-        set::test(row, t)
-    }
-
-    pub fn remove(mut self, s: usize, t: usize) -> Self
-        requires { ⌜ (s < 64) × (t < 64) ⌝ }
-        ensures { λ r. ⌜ related r ≡ without s t (related self) ⌝ }
-    {
-        let row = self.rows[s];
-        let left = set::remove(row, t);
-        self.rows[s] = left;
-        self
     }
 
     // How many pairs of the first n rows are left.

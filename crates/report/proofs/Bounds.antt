@@ -9,11 +9,11 @@ use native.Mathlib.Omega.{arith}
 use lib.Dec.{eqb}
 use lib.ListN.{length, take, getD, length-append}
 use Rattle.simulation.specs.Round.{maximum, zeros}
-use Rattle.report.specs.Text.{word-rounds, word-kept, word-verdict, word-yes, word-no, word-row, word-tables, word-refused, word-tree}
-use Rattle.report.specs.Text.{pieces, decimal, hex, space, newline, labelled, pair-line, ranks-text, row-line, rows-text, yes?, summary-line, rounds-line, bytes-text, tree-line, tree-text, refused-text, report-text, answer-text, text-bound, longest-text, short-text}
-use Rattle.report.specs.Writes.{Room}
+use Rattle.report.specs.Text.{word-rounds, word-kept, word-verdict, word-yes, word-no, word-row, word-tables, word-refused, word-tree, space, newline, pair-line, ranks-text, row-line, rows-text, yes?, summary-line, rounds-line, bytes-text, tree-line, tree-text, refused-text, report-text, answer-text, text-bound, longest-text, short-text}
+use Rattle.digits.specs.Writes.{pieces, Room}
+use Rattle.digits.specs.Digits.{decimal, hex, labelled}
 use Rattle.report.proofs.Counting.{zeros-most}
-use Rattle.report.proofs.Digits.{decimal-short}
+use Rattle.digits.proofs.Digits.{decimal-short}
 
 -- each piece is at most k long
 pieces-short : (f : ℕ → List ℕ) (n k : ℕ) → ((i : ℕ) → i < n → length (f i) ≤ k) → length (pieces f n) ≤ n * k

@@ -2,7 +2,4 @@
 -- Assumes nothing.
 pub mod Tables
 pub mod Counting
-pub mod Digits
-pub mod Writing
 pub mod Bounds
-pub mod Answers

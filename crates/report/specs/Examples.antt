@@ -5,7 +5,9 @@ use mathlib.Core.List.{List, [], _∷_, _++_}
 use Prim.Native.Nat.{ℕ}
 use Rattle.simulation.specs.Round.{maximum, zeros}
 use Rattle.report.specs.Input.{first-of-input, second-of-input}
-use Rattle.report.specs.Text.{pieces, digits, decimal, pair-line, ranks-text, row-line, rows-text, summary-line, bytes-text, tree-line, tree-text, report-text, answer-text}
+use Rattle.digits.specs.Writes.{pieces}
+use Rattle.digits.specs.Digits.{digits, decimal}
+use Rattle.report.specs.Text.{pair-line, ranks-text, row-line, rows-text, summary-line, bytes-text, tree-line, tree-text, report-text, answer-text}
 
 unfoldable P : List ℕ
 P = 2 ∷ 10 ∷ 20 ∷ 3 ∷ 1 ∷ 1 ∷ 0 ∷ 2 ∷ 0 ∷ 10 ∷ 2 ∷ 20 ∷ 1 ∷ 3 ∷ 0 ∷ 1 ∷ 3 ∷ 0 ∷ 2 ∷ 1 ∷ 0 ∷ 1 ∷ 1 ∷ 0 ∷ []

@@ -2,5 +2,4 @@
 -- Assumes nothing.
 pub mod Input
 pub mod Text
-pub mod Writes
 pub mod Examples

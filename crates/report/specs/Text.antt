@@ -1,34 +1,13 @@
 -- What the program prints, as a list of bytes.
 -- Assumes nothing.
-use mathlib.Core.Bool.{Bool, true, false, cond}
+use mathlib.Core.Bool.{Bool, cond}
 use mathlib.Core.List.{List, [], _∷_, _++_}
-use Prim.Native.Nat.{ℕ, zero, suc, _+_, _*_, _/_, _%_, max}
-use lib.Dec.{ltb, eqb}
+use Prim.Native.Nat.{ℕ, _+_, _*_, max}
+use lib.Dec.{eqb}
 use lib.ListN.{length, take, getD}
 use Rattle.simulation.specs.Round.{maximum, zeros}
-
--- f 0, …, f (n - 1), one after the other
-unfoldable pub pieces : (ℕ → List ℕ) → ℕ → List ℕ
-pieces f zero = []
-pieces f (suc n) = pieces f n ++ f n
-
--- the digits of n, where they are no more than `most`
-unfoldable pub digits : ℕ → ℕ → List ℕ
-digits zero n = []
-digits (suc most) n = elim (ltb n 10) [ true ↦ (48 + n) ∷ [] | false ↦ digits most (n / 10) ++ ((48 + n % 10) ∷ []) ]
-
--- n in base ten, without leading zeros
-unfoldable pub decimal : ℕ → List ℕ
-unfolding digits
-decimal n = digits (suc n) n
-
--- a digit in base sixteen: 0 to 9, then a to f
-abbrev pub hex-digit : ℕ → ℕ
-hex-digit d = cond (ltb d 10) (48 + d) (87 + d)
-
--- a byte in base sixteen: two digits
-abbrev pub hex : ℕ → List ℕ
-hex b = hex-digit (b / 16) ∷ hex-digit (b % 16) ∷ []
+use Rattle.digits.specs.Writes.{pieces}
+use Rattle.digits.specs.Digits.{hex, labelled}
 
 abbrev pub space : List ℕ
 space = 32 ∷ []
@@ -75,10 +54,6 @@ word-tree = 116 ∷ 114 ∷ 101 ∷ 101 ∷ []
 -- "tree refused 23\n"
 abbrev pub word-tree-refused : List ℕ
 word-tree-refused = 116 ∷ 114 ∷ 101 ∷ 101 ∷ 32 ∷ 114 ∷ 101 ∷ 102 ∷ 117 ∷ 115 ∷ 101 ∷ 100 ∷ 32 ∷ 50 ∷ 51 ∷ 10 ∷ []
-
--- a word, then a number
-abbrev pub labelled : List ℕ → ℕ → List ℕ
-labelled word n = word ++ decimal n
 
 -- a line of a word and two numbers
 unfoldable pub pair-line : List ℕ → ℕ → ℕ → List ℕ

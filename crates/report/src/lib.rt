@@ -1,16 +1,10 @@
 // What the program podcheck does between reading and writing: the tables in its input, and the text that it prints.
 mod count;
 mod input;
-mod put;
 mod text;
 
-pub use count::is_kept;
-pub use count::kept_of;
-pub use count::rounds_of;
 pub use input::first_table;
 pub use input::second_table;
 pub use text::SHORT_TEXT;
 pub use text::TEXT;
 pub use text::print;
-pub use text::refused;
-pub use text::report;

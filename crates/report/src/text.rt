@@ -4,16 +4,18 @@ ghost use mathlib.Core.Bool.{cond};
 ghost use mathlib.Core.List.{_++_};
 ghost use Prim.Native.Nat.{_+_, _*_, _≤_};
 ghost use lib.ListN.{length};
-ghost use Rattle.report.specs.Text.{space, hex, labelled, word-yes, word-no, refused-text, pair-line, ranks-text, row-line, rows-text, summary-line, rounds-line, bytes-text, tree-line, tree-text, report-text, answer-text, text-bound};
-ghost use Rattle.report.specs.Writes.{Over, Room, Writes};
+ghost use Rattle.report.specs.Text.{space, word-yes, word-no, refused-text, pair-line, ranks-text, row-line, rows-text, summary-line, rounds-line, bytes-text, tree-line, tree-text, report-text, answer-text, text-bound};
+ghost use Rattle.digits.specs.Digits.{hex, labelled};
+ghost use Rattle.digits.specs.Writes.{Room, Writes};
+ghost use Rattle.buffer.specs.Buffer.{Filled};
 use crate::count::is_kept;
 use crate::count::kept_of;
 use crate::count::rounds_of;
 use crate::input::front;
-use crate::put::put_byte;
-use crate::put::put_hex;
-use crate::put::put_labelled;
-use crate::put::put_word;
+use digits::put_byte;
+use digits::put_hex;
+use digits::put_labelled;
+use digits::put_word;
 
 // The length of a buffer that holds every text: longest-text of specs/.
 pub const TEXT: usize = 221_683;
@@ -33,7 +35,7 @@ pub fn print(
     buf: &mut [u8],
 ) -> usize
     requires { ⌜ (p ≤ 64) × (q ≤ 64) × (p * q ≤ length (now ranks)) × (text-bound p q (length (now tree)) ≤ length (now buf)) ⌝ }
-    ensures { λ r. ⌜ Over (answer-text table number written p q (now (ranks .entry)) (now (tree .entry))) (now (buf .entry)) r (now (buf .exit)) ⌝ }
+    ensures { λ r. ⌜ Filled (answer-text table number written p q (now (ranks .entry)) (now (tree .entry))) r (now (buf .entry)) (now (buf .exit)) ⌝ }
 {
     if table != 0 {
         return refused(table, number, buf);
@@ -46,7 +48,7 @@ pub fn print(
 // The text for a refused table: its place and the number of the refusal.
 pub fn refused(table: u32, number: u32, buf: &mut [u8]) -> usize
     requires { ⌜ 30 ≤ length (now buf) ⌝ }
-    ensures { λ r. ⌜ Over (refused-text table number) (now (buf .entry)) r (now (buf .exit)) ⌝ }
+    ensures { λ r. ⌜ Filled (refused-text table number) r (now (buf .entry)) (now (buf .exit)) ⌝ }
 {
     put_pair(b"refused ", table as usize, number as usize, buf, 0)
 }
@@ -55,7 +57,7 @@ pub fn refused(table: u32, number: u32, buf: &mut [u8]) -> usize
 // `tree` is its bytes where it is not.
 pub fn report(p: usize, q: usize, ranks: &[u16], long: bool, tree: &[u8], buf: &mut [u8]) -> usize
     requires { ⌜ (p ≤ 64) × (q ≤ 64) × (p * q ≡ length (now ranks)) × (text-bound p q (length (now tree)) ≤ length (now buf)) ⌝ }
-    ensures { λ r. ⌜ Over (report-text p q (now (ranks .entry)) long (now (tree .entry))) (now (buf .entry)) r (now (buf .exit)) ⌝ }
+    ensures { λ r. ⌜ Filled (report-text p q (now (ranks .entry)) long (now (tree .entry))) r (now (buf .entry)) (now (buf .exit)) ⌝ }
 {
     put_report(p, q, ranks, long, tree, buf, 0)
 }

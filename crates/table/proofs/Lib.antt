@@ -1,26 +1,4 @@
--- Laws of the definitions of specs/, in reading order.
+-- Laws of the stages.
 -- Assumes nothing.
-pub mod Lists
-pub mod Laws
-pub mod ReadLaws
 pub mod StageLaws
-pub mod SectionLaws
-pub mod Bounds
-pub mod PlaceLaws
-pub mod LayoutLaws
-pub mod ValidLaws
-pub mod Sound
-pub mod DecodeLaws
 pub mod AnswerLaws
-pub mod Agree
-pub mod Prefix
-pub mod Accepted
-pub mod Numbered
-pub mod Octets
-pub mod Laid
-pub mod RoundTrip
-pub mod Examples
-pub mod FormLists
-pub mod FormLaws
-pub mod FillLaws
-pub mod LoadLaws

@@ -3,42 +3,42 @@
 use mathlib.Core.Path.{_≡_, refl, sym, _∙_, ap}
 use Prim.Native.Nat.{ℕ, zero, suc, pred}
 use native.Mathlib.Omega.{arith}
-use Rattle.table.specs.declared.cursor.Cursor.{Cursor}
-use Rattle.table.specs.declared.Table.{Table}
-use Rattle.table.specs.declared.Stage.{Stage}
-use Rattle.table.specs.declared.Stage.the-variants.{Refused, At}
+use Rattle.items.specs.declared.cursor.Cursor.{Cursor}
+use Rattle.table.specs.declared.parts.Layout.{Layout}
+use Rattle.table.specs.declared.parts.Stage.{Stage}
+use Rattle.table.specs.declared.parts.Stage.the-variants.{Refused, At}
 use Rattle.table.specs.declared.sections.Items.{Items}
 use Rattle.table.specs.declared.sections.Items.the-variants.{Refused as ItemsRefused, At as ItemsAt}
-use Rattle.table.specs.Bytes.{_then_}
+use Rattle.layout.specs.Bytes.{_then_}
 use Rattle.table.specs.Answers.{items-if}
 use Rattle.table.specs.Stages.{stage}
 
-pub stage-refused : (f k : ℕ) (t : Table) (a : ℕ) → f ≡ suc k → Refused (suc k) ≡ stage f t a
+pub stage-refused : (f k : ℕ) (t : Layout) (a : ℕ) → f ≡ suc k → Refused (suc k) ≡ stage f t a
 stage-refused f k t a e = rw e
 
 -- the refusal r that was found is the stage's
-pub stage-fault : (f : ℕ) {r : ℕ} (t : Table) (a : ℕ) → r ≡ f → (r ≡ 0 → ⊥) → Refused r ≡ stage f t a
+pub stage-fault : (f : ℕ) {r : ℕ} (t : Layout) (a : ℕ) → r ≡ f → (r ≡ 0 → ⊥) → Refused r ≡ stage f t a
 stage-fault f {r} t a e ne =
     let q : r ≡ suc (pred r) = omega arith in
     ap Refused q ∙ stage-refused f (pred r) t a (sym e ∙ q)
 
-pub stage-at : (f : ℕ) (t : Table) (a : ℕ) {u : Table} {c : Cursor} → f ≡ 0 → u ≡ t → c .at ≡ a → At u c ≡ stage f t a
+pub stage-at : (f : ℕ) (t : Layout) (a : ℕ) {u : Layout} {c : Cursor} → f ≡ 0 → u ≡ t → c .at ≡ a → At u c ≡ stage f t a
 stage-at f t a e h q = rw (e, ← h, ← q)
 
--- the answer was a table u and a cursor c
-pub record Reached (f : ℕ) (t : Table) (a : ℕ) (u : Table) (c : Cursor) : Type 0 where
+-- the answer was a layout u and a cursor c
+pub record Reached (f : ℕ) (t : Layout) (a : ℕ) (u : Layout) (c : Cursor) : Type 0 where
   pub passed : f ≡ 0
   pub table : u ≡ t
   pub place : c .at ≡ a
 
-pub reached : (f : ℕ) (t : Table) (a : ℕ) {r : Stage} {u : Table} {c : Cursor} → r ≡ stage f t a → r ≡ At u c → Reached f t a u c
+pub reached : (f : ℕ) (t : Layout) (a : ℕ) {r : Stage} {u : Layout} {c : Cursor} → r ≡ stage f t a → r ≡ At u c → Reached f t a u c
 reached zero t a {r} {u} {c} e q =
     let h : c ≡ record { at = a } = cc in
     record { passed = refl; table = cc; place = ap (λ (x : Cursor). x .at) h }
 reached (suc f) t a e q = let z : _≡_ {A = ℕ} 0 1 = cc in absurd (omega arith)
 
 -- a refusal stays, whatever the later sections have
-pub stays : (f : ℕ) (t : Table) (a : ℕ) {r : Stage} {k : ℕ} (g : ℕ) (u : Table) (b : ℕ) → r ≡ stage f t a → r ≡ Refused k → r ≡ stage (f then g) u b
+pub stays : (f : ℕ) (t : Layout) (a : ℕ) {r : Stage} {k : ℕ} (g : ℕ) (u : Layout) (b : ℕ) → r ≡ stage f t a → r ≡ Refused k → r ≡ stage (f then g) u b
 unfolding _then_
 stays zero t a g u b e q = let z : _≡_ {A = ℕ} 0 1 = cc in absurd (omega arith)
 stays (suc f) t a g u b e q = e

@@ -4,47 +4,47 @@ use mathlib.Core.List.{List}
 use Prim.Native.Nat.{ℕ, zero, suc, _+_, _*_}
 use lib.ListN.{length}
 use Rattle.simulation.specs.Sum.{concat}
-use Rattle.simulation.specs.Table.{Table as Decodes, states-of}
-use Rattle.table.specs.Items.{all-transitions, all-entries}
-use Rattle.table.specs.Bytes.{Decoded, refused, accepted, decode, _then_, actions, states-at, states, transitions-at, transitions, entries-at, entries, end, actions-refusal, states-refusal, transitions-refusal, entries-refusal}
-use Rattle.table.specs.declared.Table.{Table}
-use Rattle.table.specs.declared.Stage.{Stage}
-use Rattle.table.specs.declared.Stage.the-variants.{Refused, At}
-use Rattle.table.specs.declared.Answer.{Answer}
-use Rattle.table.specs.declared.Answer.the-variants.{Refused as Refusal, Accepted}
+use Rattle.simulation.specs.Table.{Table, states-of}
+use Rattle.form.specs.Items.{all-transitions, all-entries}
+use Rattle.layout.specs.Bytes.{Decoded, refused, accepted, decode, _then_, actions, states-at, states, transitions-at, transitions, entries-at, entries, end, actions-refusal, states-refusal, transitions-refusal, entries-refusal}
+use Rattle.table.specs.declared.parts.Layout.{Layout}
+use Rattle.table.specs.declared.parts.Stage.{Stage}
+use Rattle.table.specs.declared.parts.Stage.the-variants.{Refused, At}
+use Rattle.table.specs.declared.parts.Answer.{Answer}
+use Rattle.table.specs.declared.parts.Answer.the-variants.{Refused as Refusal, Accepted}
 
-abbrev pub unread : Table
+abbrev pub unread : Layout
 unread = record { actions = 0; states = 0; transitions = 0; entries = 0; «counts_at» = 0; «transitions_at» = 0; «entries_at» = 0 }
 
 -- a section's count, and where its items lie
-abbrev pub with-actions : ℕ → Table → Table
+abbrev pub with-actions : ℕ → Layout → Layout
 with-actions n t = record { actions = n; states = t .states; transitions = t .transitions; entries = t .entries; «counts_at» = t .«counts_at»; «transitions_at» = t .«transitions_at»; «entries_at» = t .«entries_at» }
 
-abbrev pub with-states : ℕ → ℕ → Table → Table
+abbrev pub with-states : ℕ → ℕ → Layout → Layout
 with-states n a t = record { actions = t .actions; states = n; transitions = t .transitions; entries = t .entries; «counts_at» = a; «transitions_at» = t .«transitions_at»; «entries_at» = t .«entries_at» }
 
-abbrev pub with-transitions : ℕ → ℕ → Table → Table
+abbrev pub with-transitions : ℕ → ℕ → Layout → Layout
 with-transitions n a t = record { actions = t .actions; states = t .states; transitions = n; entries = t .entries; «counts_at» = t .«counts_at»; «transitions_at» = a; «entries_at» = t .«entries_at» }
 
-abbrev pub with-entries : ℕ → ℕ → Table → Table
+abbrev pub with-entries : ℕ → ℕ → Layout → Layout
 with-entries n a t = record { actions = t .actions; states = t .states; transitions = t .transitions; entries = n; «counts_at» = t .«counts_at»; «transitions_at» = t .«transitions_at»; «entries_at» = a }
 
 -- a table read up to a place, unless it is refused
-abbrev pub stage : ℕ → Table → ℕ → Stage
+abbrev pub stage : ℕ → Layout → ℕ → Stage
 stage zero t a = At t (record { at = a })
 stage (suc k) t a = Refused (suc k)
 
 module _ (s : List ℕ) where
-  abbrev pub actions-read : Table
+  abbrev pub actions-read : Layout
   actions-read = with-actions (actions s) unread
 
-  abbrev pub states-read : Table
+  abbrev pub states-read : Layout
   states-read = with-states (states s) (states-at s + 1) actions-read
 
-  abbrev pub transitions-read : Table
+  abbrev pub transitions-read : Layout
   transitions-read = with-transitions (transitions s) (transitions-at s + 2) states-read
 
-  abbrev pub layout : Table
+  abbrev pub layout : Layout
   layout = with-entries (entries s) (entries-at s + 2) transitions-read
 
   abbrev pub after-actions : Stage
@@ -60,7 +60,7 @@ module _ (s : List ℕ) where
   after-entries = stage (actions-refusal s then states-refusal s then transitions-refusal s then entries-refusal s) layout (end s)
 
 -- where the parts of a table lie in its bytes
-unfoldable pub layout-of : Decodes → Table
+unfoldable pub layout-of : Table → Layout
 unfolding concat
 layout-of M =
     let counts : ℕ = 2 + length (M .codes) in

@@ -1,13 +1,14 @@
 // The four sections in their order: each takes the stage that the one before has reached.
-use crate::Answer;
-use crate::Stage;
-use crate::Table;
-use crate::cursor::Cursor;
-use crate::cursor::Read;
-use crate::items::codes_refusal;
-use crate::items::entries_refusal;
-use crate::items::sum_of;
-use crate::items::transitions_refusal;
+use crate::parts::Answer;
+use crate::parts::Layout;
+use crate::parts::Stage;
+use form::Table;
+use items::cursor::Cursor;
+use items::cursor::Read;
+use items::items::codes_refusal;
+use items::items::entries_refusal;
+use items::items::sum_of;
+use items::items::transitions_refusal;
 ghost use mathlib.Core.Path.{_≡_};
 ghost use Prim.Native.Nat.{_≤_, _<_};
 ghost use Rattle.table.specs.Answers.{items-read};
@@ -53,7 +54,7 @@ pub fn actions(s: &[u8]) -> Stage
     if refusal != 0 {
         return Stage::Refused(refusal);
     }
-    let mut t = Table::unread();
+    let mut t = Layout::unread();
     t.actions = n;
     Stage::At(t, c)
 }

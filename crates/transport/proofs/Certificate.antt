@@ -1,7 +1,7 @@
 -- A flow that the search can't improve and the rows that it reached make the kernel's answer.
 -- Assumes nothing.
 use mathlib.Core.Path.{_≡_, refl, sym, ap, _∙_, subst}
-use mathlib.Core.Bool.{Bool, true, false, not}
+use mathlib.Core.Bool.{Bool, true, false}
 use mathlib.Core.List.{List}
 use mathlib.Core.Logic.{⊎-elim}
 use Prim.Native.Nat.{ℕ, zero, suc, _*_, _^_, _≤_, _<_}
@@ -12,7 +12,7 @@ use lib.Dec.{T, eqb, eqb→eq, T-not}
 use lib.ListN.{length, getD}
 use borrow.Author.Tests.{eq-eqb}
 use Rattle.simulation.specs.Fit.{weight, total, fits?}
-use Rattle.simulation.proofs.Finite.Tests.{same-test, is-true}
+use Rattle.simulation.proofs.Finite.Tests.{same-test, is-true, true-T, false-T}
 use Rattle.simulation.proofs.Finite.Sums.{sum-mono, sum-tight}
 use Rattle.simulation.proofs.Flow.Partial.{Reach, row, tight-from}
 use Rattle.simulation.proofs.Fit.Gain.{supply, demand, all-supply}
@@ -20,23 +20,18 @@ use Rattle.simulation.proofs.Fit.Hall.{Partial, Certified, sent-all, full-share
 use Rattle.simulation.proofs.Fit.Cut.{Reached, largest-gain-sent, fits-sent, sent-fits, cut-certified}
 use Rattle.relation.specs.Mask.{Test, member}
 use Rattle.relation.proofs.Mask.{lowest-of, member-none, member-high, below-power}
-use Rattle.transport.specs.Answer.{cell, relates, Outside, Answered}
-use Rattle.transport.specs.Matrix.{row-sum, column-sum}
-use Rattle.transport.specs.Masks.{MaskOf, Used}
-use Rattle.transport.specs.Flow.{Flow}
-use Rattle.transport.specs.Search.{Forest, Stuck}
-use Rattle.transport.specs.Start.{Balanced}
-use Rattle.transport.proofs.MaskedLaws.{true-or-false, neither, user-column, user-row}
-use Rattle.transport.proofs.SearchLaws.{forest-all}
+use Rattle.matrix.specs.Matrix.{cell, Outside, row-sum, column-sum}
+use Rattle.matrix.specs.Problem.{relates}
+use Rattle.transport.specs.Answer.{Answered}
+use Rattle.matrix.specs.Masks.{MaskOf, Used}
+use Rattle.matrix.specs.Flow.{Flow}
+use Rattle.search.specs.Search.{Forest, Stuck}
+use Rattle.greedy.specs.Start.{Balanced}
+use Rattle.matrix.proofs.MaskedLaws.{true-or-false, neither, user-column, user-row}
+use Rattle.search.proofs.SearchLaws.{forest-all}
 
 pub eq-T : {m n : ℕ} → m ≡ n → T (eqb m n)
 eq-T {m} {n} e = subst T (sym (eq-eqb m n e)) tt
-
-pub true-T : {b : Bool} → b ≡ true → T b
-true-T e = subst T (sym e) tt
-
-false-T : {b : Bool} → b ≡ false → T (not b)
-false-T e = subst (λ b. T (not b)) (sym e) tt
 
 -- no row is reached where each sends all it has
 none-reached : {p q : ℕ} {R : ℕ → ℕ → Bool} {a : ℕ → ℕ} {x : ℕ → ℕ → ℕ} → ((i : ℕ) → i < p → a i ≤ row q x i) → {i : ℕ} → Reach p q R a x i → ⊥

@@ -1,38 +1,18 @@
--- What the flow kernel is asked and what it answers (01, "Keeping, ranking, sharing out").
+-- What the flow kernel answers (01, "Keeping, ranking, sharing out").
 -- m is a distribution with weights ws and n one with weights vs; a position of m is a row, a position of n a column.
 -- Assumes nothing.
 use mathlib.Core.Path.{_≡_}
-use mathlib.Core.Bool.{Bool, false}
+use mathlib.Core.Bool.{false}
 use mathlib.Core.List.{List}
 use mathlib.Core.Logic.{_≢_}
 use Prim.Native.Nat.{ℕ, _+_, _*_, _≤_, _<_}
 use lib.Dec.{T, eqb}
-use lib.ListN.{length, getD}
+use lib.ListN.{length}
 use Rattle.simulation.specs.Sum.{sum}
 use Rattle.simulation.specs.Fit.{weight, total, Shares, largest-gain, fits?, cut}
 use Rattle.relation.specs.Mask.{member}
-
--- a matrix in a list, in rows of 64
-abbrev pub cell : List ℕ → ℕ → ℕ → ℕ
-cell x i j = getD x (i * 64 + j) 0
-
--- row i is related to column j: bit j of the row's mask
-abbrev pub relates : List ℕ → ℕ → ℕ → Bool
-relates rel i j = member (getD rel i 0) j
-
--- y is x but for the cells of the first p rows and q columns
-pub record Outside (p q : ℕ) (x y : List ℕ) : Type 0 where
-  pub rows : (i j : ℕ) → p ≤ i → j < 64 → cell y i j ≡ cell x i j
-  pub columns : (i j : ℕ) → q ≤ j → j < 64 → cell y i j ≡ cell x i j
-
--- at most 64 targets on each side, totals below 2^16, a mask for each row and room for the amounts
-pub record Given (ws vs rel x : List ℕ) : Type 0 where
-  pub few-rows : length ws ≤ 64
-  pub few-columns : length vs ≤ 64
-  pub masks : length ws ≤ length rel
-  pub cells : 4096 ≤ length x
-  pub total-ws : total ws < 65536
-  pub total-vs : total vs < 65536
+use Rattle.matrix.specs.Problem.{relates}
+use Rattle.matrix.specs.Matrix.{cell, Outside}
 
 -- x, at first x₀, holds a flow that sends the most: all but the largest excess. The mask r is 01's smallest of the sets with the largest excess, empty exactly if m fits n
 pub record Answered (ws vs rel x₀ x : List ℕ) (r : ℕ) : Type 0 where

@@ -2,28 +2,23 @@
 // A position of the first is a row, a position of the second a column; the amount of row i and column j is at i * 64 + j.
 // After a greedy start the flow grows along shortest paths, found level by level over masks. A row is short while it has
 // something left to send, a column free while it can take more.
-mod cells;
-mod path;
-pub mod quick;
-mod search;
-mod start;
-
-use crate::cells::positive;
-use crate::cells::wide;
-use crate::path::Ends;
-use crate::path::push;
-use crate::start::begin;
-use crate::start::fill;
+use augment::Ends;
+use augment::push;
+use greedy::begin;
+use greedy::fill;
+use matrix::positive;
+use search::search;
 ghost use mathlib.Core.Path.{_≡_};
 ghost use Prim.Native.Nat.{ℕ, _+_, _^_, _≤_, _<_};
 ghost use lib.ListN.{length, getD};
-ghost use Rattle.simulation.specs.Fit.{total};
 ghost use Rattle.relation.specs.Mask.{member};
-ghost use Rattle.transport.specs.Answer.{Given, Answered};
-ghost use Rattle.transport.specs.Masks.{MaskOf};
-ghost use Rattle.transport.specs.Flow.{missing, Flow, Improves};
-ghost use Rattle.transport.specs.Search.{Ended};
-ghost use Rattle.transport.specs.Paths.{Augmented, Counts};
+ghost use Rattle.matrix.specs.Problem.{Given};
+ghost use Rattle.transport.specs.Answer.{Answered};
+ghost use Rattle.matrix.specs.Masks.{MaskOf};
+ghost use Rattle.matrix.specs.Flow.{missing, Flow, Improves};
+ghost use Rattle.search.specs.Search.{Ended};
+ghost use Rattle.augment.specs.Augments.{Augmented};
+ghost use Rattle.transport.specs.Paths.{Counts};
 
 // The smallest of the sets with the largest excess, as a mask, and the number of augmenting paths that led to the flow.
 pub struct Outcome {
@@ -51,31 +46,17 @@ fn improve(
         short: positive(a, p),
         free,
     };
-    let mut s = search::search(rel, users, from, via, e.short, e.free);
+    let mut s = search(rel, users, from, via, e.short, e.free);
     let mut paths = 0u32;
     while s.row < 64 {
         e = push(x, a, b, users, rel, from, via, p, q, e, s);
         paths += 1;
-        s = search::search(rel, users, from, via, e.short, e.free);
+        s = search(rel, users, from, via, e.short, e.free);
     }
     Outcome {
         cut: s.reached,
         paths,
     }
-}
-
-// The total of a distribution's weights.
-pub fn total_weight(w: &[u16]) -> u32
-    requires { ⌜ length (now w) ≤ 64 ⌝ }
-    ensures { λ r. ⌜ r ≡ total (now (w .entry)) ⌝ }
-{
-    let mut s = 0u32;
-    let mut i = 0;
-    while i < w.len() {
-        s = s + wide(w[i]);
-        i += 1;
-    }
-    s
 }
 
 fn no_amounts() -> [u32; 64]

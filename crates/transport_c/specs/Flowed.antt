@@ -1,24 +1,27 @@
--- What the kernel's entries for C and Rust answer, whatever they are given.
+-- What the kernel's entry for C and Rust answers, whatever it is given.
 -- Assumes nothing.
 use mathlib.Core.Path.{_≡_}
 use mathlib.Core.Bool.{Bool, true, false}
 use mathlib.Core.List.{List}
-use Prim.Native.Nat.{ℕ, _-_, _^_}
-use Rattle.transport.specs.Answer.{Given, Answered}
+use Prim.Native.Nat.{ℕ, _<_}
+use lib.ListN.{length, set}
+use Rattle.matrix.specs.Problem.{Given}
+use Rattle.transport.specs.Answer.{Answered}
 use Rattle.transport.specs.Paths.{Counts}
 
--- whether it is what the kernel takes
-pub record Accepts (ws vs rel x : List ℕ) (r : Bool) : Type 0 where
-  pub given : r ≡ true → Given ws vs rel x
-  pub refused : r ≡ false → Given ws vs rel x → ⊥
+-- what the kernel takes, and a place for its cut and for the number of paths
+pub record Taken (ws vs rel x cut paths : List ℕ) : Type 0 where
+  pub given : Given ws vs rel x
+  pub cut-place : 0 < length cut
+  pub paths-place : 0 < length paths
 
--- the kernel's answer where it has one to give; else all ones, and nothing changed
-pub record Flowed (ws vs rel x₀ x : List ℕ) (r : ℕ) : Type 0 where
-  pub answered : Given ws vs rel x₀ → Answered ws vs rel x₀ x r
-  pub refused : (Given ws vs rel x₀ → ⊥) → (r ≡ 2 ^ 64 - 1) × (x ≡ x₀)
+-- whether it is taken
+pub record Accepts (ws vs rel x cut paths : List ℕ) (r : Bool) : Type 0 where
+  pub taken : r ≡ true → Taken ws vs rel x cut paths
+  pub refused : r ≡ false → Taken ws vs rel x cut paths → ⊥
 
--- the number of augmenting paths to the kernel's flow; else all ones, and nothing changed
-pub record Counted (ws vs rel x₀ x : List ℕ) (n : ℕ) : Type 0 where
-  pub answered : Given ws vs rel x₀ → (r : ℕ) × Answered ws vs rel x₀ x r
-  pub counted : Given ws vs rel x₀ → Counts ws vs rel x n
-  pub refused : (Given ws vs rel x₀ → ⊥) → (n ≡ 2 ^ 32 - 1) × (x ≡ x₀)
+-- 1 with the kernel's answer, its cut c and the number of paths k first in their buffers, where the input is taken; else 0, and nothing changed
+pub record Flowed (ws vs rel x cut paths x′ cut′ paths′ : List ℕ) (r : ℕ) : Type 0 where
+  pub answered : Taken ws vs rel x cut paths → (r ≡ 1) × (c : ℕ) × (k : ℕ) × (cut′ ≡ set cut 0 c) × (paths′ ≡ set paths 0 k)
+      × Answered ws vs rel x x′ c × Counts ws vs rel x′ k
+  pub refused : (Taken ws vs rel x cut paths → ⊥) → (r ≡ 0) × (x′ ≡ x) × (cut′ ≡ cut) × (paths′ ≡ paths)

@@ -18,13 +18,13 @@ use Rattle.simulation.proofs.Finite.Sums.{sum-one, sum-add, sum-mul}
 use Rattle.simulation.proofs.Finite.Tests.{and-left}
 use Rattle.simulation.proofs.Simulation.Ranks.{rank-law}
 use Rattle.simulation.proofs.Trees.Length.{pair-length-step}
-use Rattle.table.specs.Form.{Loaded, table-of}
-use Rattle.table.proofs.FormLaws.{limits, sound}
+use Rattle.form.specs.Form.{Loaded, table-of}
+use Rattle.form.proofs.FormLaws.{limits, sound}
 use Rattle.relation.specs.Mask.{Test, member, without-member, size, Lowest}
 use Rattle.relation.proofs.Mask.{member-none, below-or-not}
-use Rattle.witness.specs.Choice.{Lost}
+use Rattle.choice.specs.Choice.{Lost}
 use Rattle.tree.proofs.Bytes.{members-all, steps-lowest, no-steps, steps-bytes, node-is}
-use Rattle.measure.proofs.Pairs.{place-below, member-holds}
+use Rattle.order.proofs.Pairs.{place-below, member-holds}
 use Rattle.tree.specs.Parts.{At, node-of, step-of, PartOf, Left, Given, StepGiven, StepWritten, NodeGiven, Around}
 use Rattle.tree.proofs.Places.{at-self, at-is, at-front, at-back, piece, placed, piece-length, placed-length, placed-before, placed-in}
 use Rattle.tree.proofs.Lengths.{step-size}

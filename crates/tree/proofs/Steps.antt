@@ -17,16 +17,16 @@ use Rattle.simulation.proofs.Finite.Sums.{sum-ext, when-same}
 use Rattle.simulation.proofs.Simulation.Ranks.{rank-law}
 use Rattle.simulation.proofs.Trees.Choice.{Fallen, chosen-law, chosen-target}
 use Rattle.simulation.proofs.Trees.OwnTree.{node-fuel}
-use Rattle.table.specs.Form.{Loaded, table-of, transitions-of, transition-at}
-use Rattle.table.proofs.FormLaws.{limits, sound, weights-length, limited-of}
+use Rattle.form.specs.Form.{Loaded, table-of, transitions-of, transition-at}
+use Rattle.form.proofs.FormLaws.{limits, sound, weights-length, limited-of}
 use Rattle.relation.specs.Mask.{Test, member}
 use Rattle.relation.proofs.Mask.{below-or-not}
 use Rattle.buffer.specs.Buffer.{over, Filled}
 use Rattle.buffer.proofs.Buffer.{part, back, part-all}
-use Rattle.witness.specs.Choice.{Lost, Choice, Sets}
+use Rattle.choice.specs.Choice.{Lost, Choice, Sets}
 use Rattle.tree.specs.Begin.{head-bytes, entry-bytes, BeginGiven, Begun}
 use Rattle.tree.proofs.Bytes.{children-from, child-at, no-children, step-is}
-use Rattle.witness.proofs.Choices.{choice-number, below-lost}
+use Rattle.choice.proofs.Choices.{choice-number, below-lost}
 use Rattle.measure.specs.Lengths.{set-length, SumGiven, Measured}
 use Rattle.tree.specs.Parts.{At, words-for, node-of, step-of, Left, Given, StepGiven, StepWritten, NodeGiven, Around, TreeGiven}
 use Rattle.tree.proofs.Places.{at-self, at-trans, at-is, at-front, at-back, piece, placed, piece-length, placed-length, placed-before, placed-in, placed-after}

@@ -6,9 +6,10 @@ use Prim.Native.Nat.{ℕ, _+_, _*_, _/_, _%_, _≤_, _<_}
 use lib.ListN.{length, getD}
 use Rattle.simulation.specs.Table.{Transition, states-of}
 use Rattle.simulation.specs.Tree.{chosen}
-use Rattle.table.specs.Form.{table-of}
+use Rattle.form.specs.Form.{table-of}
 use Rattle.buffer.specs.Buffer.{over}
-use Rattle.witness.specs.Choice.{Ranked, Lost, Choice, Sets, Lent}
+use Rattle.relate.specs.Ranked.{Ranked, Lent}
+use Rattle.choice.specs.Choice.{Lost, Choice, Sets}
 
 -- the code and the number of children of a transition
 abbrev pub head-bytes : Transition → List ℕ

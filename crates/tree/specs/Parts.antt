@@ -10,11 +10,11 @@ use Rattle.simulation.specs.Table.{states-of}
 use Rattle.simulation.specs.Round.{pairs}
 use Rattle.simulation.specs.Tree.{leaf, own-step, own-node, transition-bytes, node-bytes}
 use Rattle.simulation.specs.Length.{tree-length}
-use Rattle.table.specs.Form.{table-of}
+use Rattle.form.specs.Form.{table-of}
 use Rattle.relation.specs.Mask.{member}
-use Rattle.measure.specs.Count.{longest}
+use Rattle.order.specs.Count.{longest}
 use Rattle.measure.specs.Lengths.{Measured}
-use Rattle.witness.specs.Choice.{Ranked, Lent}
+use Rattle.relate.specs.Ranked.{Ranked, Lent}
 
 -- the list P stands in the list l at place a
 pub record At (l : List ℕ) (a : ℕ) (P : List ℕ) : Type 0 where

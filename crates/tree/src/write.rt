@@ -1,18 +1,17 @@
 // Writing a tree whose lengths are known: a node holds transitions and a transition holds nodes. The parts of the buffer are written in any order,
 // so that a call is made for parts of at most half the length only, and a longer part is left for a loop: the depth of calls is the logarithm of the length.
-use measure::count::LONGEST;
-use measure::lengths::node_length;
-use measure::lengths::pair_length;
-use measure::pair::number;
+use choice::find_sets;
+use measure::node_length;
+use measure::pair_length;
+use order::count::LONGEST;
+use order::pair::number;
 use relation::set;
-use table::form;
-use witness::choice::find_sets;
 ghost use mathlib.Core.Path.{_≡_};
 ghost use Prim.Native.Nat.{_+_, _/_, _^_, _≤_, _<_};
 ghost use lib.ListN.{length, getD};
 ghost use Rattle.simulation.specs.Table.{weights, target-at};
 ghost use Rattle.simulation.specs.Tree.{tree, node-bytes};
-ghost use Rattle.table.specs.Form.{Loaded, transitions-of, transition-at, table-of};
+ghost use Rattle.form.specs.Form.{Loaded, transitions-of, transition-at, table-of};
 ghost use Rattle.buffer.specs.Buffer.{over, Filled};
 ghost use Rattle.tree.specs.Begin.{head-bytes, entry-bytes, BeginGiven, Begun};
 ghost use Rattle.tree.specs.Parts.{step-of, node-of, StepGiven, StepWritten, NodeGiven, Around, TreeGiven};

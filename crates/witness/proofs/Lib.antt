@@ -1,16 +1,4 @@
--- What the proofs of several functions use.
+-- Laws that the proofs cite.
 -- Assumes nothing.
-pub mod Pieces
-pub mod Places
-pub mod Relating
-pub mod Choices
-pub mod Choosing
-pub mod Again
-pub mod RecordBytes
-pub mod FlowBytes
-pub mod FlowRow
-pub mod FlowFits
-pub mod FlowPlace
-pub mod FlowSearch
-pub mod FlowStep
-pub mod FlowWhole
+pub mod Room
+pub mod Showing

@@ -1,7 +1,3 @@
--- What the contracts of this crate cite.
+-- The definitions that the contracts cite.
 -- Assumes nothing.
-pub mod Choice
-pub mod Flow
-pub mod Records
-pub mod FlowSteps
-pub mod Display
+pub mod Shown

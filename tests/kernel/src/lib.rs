@@ -1,19 +1,22 @@
 //! The flow kernel, problems for it, two other ways to the answer, all subsets and a maximum flow of its own, and a flow
 //! that grows along depth-first paths.
 
+// A slice passes as a pointer and a length.
 extern "C" {
-    fn transport_flow(m: *const u16, p: usize, n: *const u16, q: usize, rel: *const u64, rows: usize, x: *mut u32, cells: usize) -> u64;
-    fn transport_paths(m: *const u16, p: usize, n: *const u16, q: usize, rel: *const u64, rows: usize, x: *mut u32, cells: usize) -> u32;
+    fn transport_flow(
+        m: *const u16, p: usize, n: *const u16, q: usize, rel: *const u64, rows: usize,
+        x: *mut u32, cells: usize, cut: *mut u64, cuts: usize, paths: *mut u32, counts: usize,
+    ) -> u32;
 }
 
-pub fn flow(m: &[u16], n: &[u16], rel: &[u64], x: &mut [u32]) -> u64 {
+pub fn flow(m: &[u16], n: &[u16], rel: &[u64], x: &mut [u32], cut: &mut [u64], paths: &mut [u32]) -> u32 {
     // SAFETY: pointers and lengths of slices that outlive the call.
-    unsafe { transport_flow(m.as_ptr(), m.len(), n.as_ptr(), n.len(), rel.as_ptr(), rel.len(), x.as_mut_ptr(), x.len()) }
-}
-
-pub fn paths(m: &[u16], n: &[u16], rel: &[u64], x: &mut [u32]) -> u32 {
-    // SAFETY: as above.
-    unsafe { transport_paths(m.as_ptr(), m.len(), n.as_ptr(), n.len(), rel.as_ptr(), rel.len(), x.as_mut_ptr(), x.len()) }
+    unsafe {
+        transport_flow(
+            m.as_ptr(), m.len(), n.as_ptr(), n.len(), rel.as_ptr(), rel.len(),
+            x.as_mut_ptr(), x.len(), cut.as_mut_ptr(), cut.len(), paths.as_mut_ptr(), paths.len(),
+        )
+    }
 }
 
 pub struct Random(pub u64);
@@ -116,13 +119,22 @@ impl Problem {
         Right { sent, cut: (0..p).filter(|&i| level[i] != usize::MAX).fold(0, |cut, i| cut | 1 << i) }
     }
 
+    /// Runs the kernel, which takes the problem. Returns its cut and the number of its augmenting paths, each the first of two words: the
+    /// second stays as it was.
+    pub fn answer(&self, x: &mut [u32]) -> (u64, u32) {
+        let (mut cut, mut paths) = ([7; 2], [7; 2]);
+        assert_eq!(flow(&self.m, &self.n, &self.rel, x, &mut cut, &mut paths), 1, "refused: {self:?}");
+        assert_eq!((cut[1], paths[1]), (7, 7), "{self:?}");
+        (cut[0], paths[0])
+    }
+
     /// Runs the kernel over filled memory and checks everything that it leaves there. Returns its answer in the oracles' terms.
     pub fn by_kernel(&self) -> Right {
         let (p, q) = (self.m.len(), self.n.len());
         let (t, u) = (total(&self.m), total(&self.n));
         let mut x: Vec<u32> = (0..4100u32).map(|k| k.wrapping_mul(2654435761)).collect();
         let before = x.clone();
-        let cut = flow(&self.m, &self.n, &self.rel, &mut x);
+        let (cut, _) = self.answer(&mut x);
         for k in 0..x.len() {
             let (i, j) = (k / 64, k % 64);
             if i < p && j < q {
@@ -145,13 +157,9 @@ impl Problem {
         Right { sent: rows.iter().sum(), cut }
     }
 
-    /// The augmenting paths that the kernel takes; the flow is the same as without counting them.
+    /// The number of augmenting paths that the kernel takes.
     pub fn paths(&self) -> usize {
-        let (mut x, mut y) = (vec![0; 4096], vec![0; 4096]);
-        flow(&self.m, &self.n, &self.rel, &mut x);
-        let count = paths(&self.m, &self.n, &self.rel, &mut y);
-        assert_eq!(x, y, "{self:?}");
-        count as usize
+        self.answer(&mut vec![0; 4096]).1 as usize
     }
 
     /// What a flow sends that grows along depth-first paths, and how many it takes. It starts as the kernel does.

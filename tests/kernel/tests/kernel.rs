@@ -1,7 +1,7 @@
 //! The flow kernel against all subsets and against a maximum flow of its own, at the limits, and on problems made to be slow,
 //! where its augmenting paths are counted.
 
-use kernel_tests::{flow, paths, total, Problem, Random, Right};
+use kernel_tests::{flow, total, Problem, Random, Right};
 
 // The kernel is right, and takes no more augmenting paths than there are targets.
 fn agree(problem: &Problem, right: Right) {
@@ -144,24 +144,36 @@ fn no_targets() {
     }
 }
 
+// Every row is in the cut, and the cut's word is all ones: a number that no refusal may share.
+#[test]
+fn a_full_cut_is_no_refusal() {
+    let problem = Problem { m: vec![1; 64], n: vec![1; 64], rel: vec![0; 64] };
+    let (mut x, mut cut, mut paths) = (vec![7; 4096], [7], [7]);
+    assert_eq!(flow(&problem.m, &problem.n, &problem.rel, &mut x, &mut cut, &mut paths), 1);
+    assert_eq!((cut, paths), ([u64::MAX], [0]));
+    assert!(x.iter().all(|&v| v == 0));
+    agree(&problem, problem.by_network());
+}
+
 #[test]
 fn what_the_kernel_does_not_take_is_refused() {
     let full = vec![u64::MAX; 65];
-    let refuse = |m: &[u16], n: &[u16], rel: &[u64], cells: usize| {
-        let mut x = vec![7u32; cells];
-        assert_eq!(flow(m, n, rel, &mut x), u64::MAX);
-        assert_eq!(paths(m, n, rel, &mut x), u32::MAX);
-        assert!(x.iter().all(|&v| v == 7));
+    let refuse = |m: &[u16], n: &[u16], rel: &[u64], cells: usize, cuts: usize, counts: usize| {
+        let (mut x, mut cut, mut paths) = (vec![7; cells], vec![7; cuts], vec![7; counts]);
+        assert_eq!(flow(m, n, rel, &mut x, &mut cut, &mut paths), 0);
+        assert!(x == vec![7; cells] && cut == vec![7; cuts] && paths == vec![7; counts]);
     };
-    refuse(&[1; 65], &[1], &full, 8192);
-    refuse(&[1], &[1; 65], &full, 8192);
-    refuse(&[1; 3], &[1], &full[..2], 4096);
-    refuse(&[1; 3], &[1], &full, 4095);
-    refuse(&[65_535, 1], &[1], &full, 4096);
-    refuse(&[1], &[65_535, 1], &full, 4096);
-    refuse(&[65_535; 64], &[1], &full, 4096);
-    let mut x = vec![7u32; 4096];
-    let m = [1023u16; 64];
+    refuse(&[1; 65], &[1], &full, 8192, 1, 1);
+    refuse(&[1], &[1; 65], &full, 8192, 1, 1);
+    refuse(&[1; 3], &[1], &full[..2], 4096, 1, 1);
+    refuse(&[1; 3], &[1], &full, 4095, 1, 1);
+    refuse(&[65_535, 1], &[1], &full, 4096, 1, 1);
+    refuse(&[1], &[65_535, 1], &full, 4096, 1, 1);
+    refuse(&[65_535; 64], &[1], &full, 4096, 1, 1);
+    refuse(&[1; 3], &[1], &full, 4096, 0, 1);
+    refuse(&[1; 3], &[1], &full, 4096, 1, 0);
+    let m = vec![1023; 64];
     assert_eq!(total(&m), 65_472);
-    assert_eq!(flow(&m, &m, &full, &mut x), 0);
+    let problem = Problem { n: m.clone(), m, rel: full };
+    assert_eq!(problem.by_kernel().cut, 0);
 }

@@ -5,8 +5,8 @@ use Prim.Native.Nat.{ℕ, _+_, _-_, _*_, _≤_}
 use native.Mathlib.Omega.{arith}
 use borrow.Author.Needs.{needs}
 use lib.ListN.{length, length-set}
-use Rattle.table.specs.Form.{start-of}
-use Rattle.table.proofs.FormLaws.{limits, start-bound}
+use Rattle.form.specs.Form.{start-of}
+use Rattle.form.proofs.FormLaws.{limits, start-bound}
 use Rattle.matching.specs.Held.{relation-of}
 use Rattle.matching.specs.Known.{Tried}
 use Rattle.matching.proofs.Steps.{one-passes, none-passes}

@@ -4,8 +4,8 @@ use mathlib.Core.Path.{_≡_, sym, _∙_, subst}
 use native.Mathlib.Omega.{arith}
 use lib.ListN.{length}
 use Rattle.simulation.specs.Round.{fits-step}
-use Rattle.table.specs.Form.{transition-at}
-use Rattle.table.proofs.FormLaws.{limits}
+use Rattle.form.specs.Form.{transition-at}
+use Rattle.form.proofs.FormLaws.{limits}
 use Rattle.matching.specs.Held.{Places, relation-of}
 use Rattle.matching.proofs.Sets.{set-at}
 use Rattle.matching.proofs.Fitting.{places-of, other-code, same-code, Tells, by-sets}

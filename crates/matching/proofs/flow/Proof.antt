@@ -4,7 +4,7 @@ use mathlib.Core.Path.{sym, ap, subst}
 use native.Mathlib.Omega.{arith}
 use lib.ListN.{length}
 use Rattle.simulation.specs.Fit.{total}
-use Rattle.table.proofs.FormLaws.{limited-at}
+use Rattle.form.proofs.FormLaws.{limited-at}
 use Rattle.matching.specs.Held.{Ascending, Places}
 use Rattle.matching.proofs.Fitting.{targets-ascend, places-of, by-flow}
 use borrow.Author.Needs.{needs}

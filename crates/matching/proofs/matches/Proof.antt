@@ -7,7 +7,7 @@ use native.Mathlib.Omega.{arith}
 use borrow.Author.Needs.{needs}
 use borrow.Author.Tests.{not-true, not-false}
 use lib.ListN.{length}
-use Rattle.table.proofs.FormLaws.{limits, counts, start-bound}
+use Rattle.form.proofs.FormLaws.{limits, counts, start-bound}
 use Rattle.matching.specs.Held.{relation-of, answered}
 use Rattle.matching.specs.Known.{Tried}
 use Rattle.matching.proofs.Steps.{upto-next, one-fails, all-pass}

@@ -5,8 +5,8 @@ use Prim.Native.Nat.{ℕ, _-_, _≤_}
 use native.Mathlib.Omega.{arith}
 use borrow.Author.Needs.{needs}
 use lib.ListN.{length, length-set}
-use Rattle.table.specs.Form.{transitions-of}
-use Rattle.table.proofs.FormLaws.{limits}
+use Rattle.form.specs.Form.{transitions-of}
+use Rattle.form.proofs.FormLaws.{limits}
 use Rattle.matching.specs.Held.{Places}
 use Rattle.matching.proofs.Fitting.{places-of}
 use Rattle.matching.proofs.Sets.{SetsTo, sets-next, last-start}

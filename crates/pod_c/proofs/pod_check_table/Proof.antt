@@ -2,8 +2,8 @@
 -- Assumes nothing.
 use mathlib.Core.Path.{sym, ap, _∙_}
 use borrow.Author.Needs.{needs}
-use Rattle.pod_c.specs.Numbers.{with-answer}
-use Rattle.pod_c.proofs.Into.{into-short, into-long}
+use Rattle.answer.specs.Numbers.{with-answer}
+use Rattle.answer.proofs.Into.{into-short, into-long}
 use Rattle.pod_c.proofs.pod_check_table.Statement.{statement}
 use Rattle.pod_c.proofs.pod_check_table.Tie as tie
 

@@ -2,7 +2,7 @@
 use mathlib.Core.Path.{refl}
 use Prim.Native.Nat.{zero-le}
 use native.Mathlib.Omega.{arith}
-use Rattle.report.proofs.Writing.{over-counts}
+use Rattle.digits.proofs.Writing.{over-counts}
 use Rattle.podcheck.proofs.Printing.{without-room, with-text}
 use borrow.Author.Needs.{needs}
 use Rattle.podcheck.proofs.answer.Statement.{statement}

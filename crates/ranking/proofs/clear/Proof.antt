@@ -4,8 +4,8 @@ use mathlib.Core.Path.{_≡_, refl, _∙_}
 use Prim.Native.Nat.{_-_, _≤_}
 use native.Mathlib.Omega.{arith}
 use lib.ListN.{length, length-set}
-use Rattle.ranking.specs.Rows.{Cleared}
-use Rattle.ranking.proofs.Settling.{cleared-none, cleared-next, cleared-all}
+use Rattle.rounds.specs.Rounds.{Cleared}
+use Rattle.rounds.proofs.Settling.{cleared-none, cleared-next, cleared-all}
 use Rattle.ranking.proofs.clear.Statement.{statement}
 use Rattle.ranking.proofs.clear.Tie as tie
 

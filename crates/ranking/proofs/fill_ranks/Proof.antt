@@ -3,8 +3,8 @@
 use mathlib.Core.Path.{ap₂, _∙_}
 use Prim.Native.Nat.{_*_}
 use native.Mathlib.Omega.{arith}
-use Rattle.table.specs.Form.{table-of}
-use Rattle.table.proofs.FormLaws.{limits, few-pairs}
+use Rattle.form.specs.Form.{table-of}
+use Rattle.form.proofs.FormLaws.{limits, few-pairs}
 use Rattle.matching.proofs.Trying.{none-tried}
 use Rattle.ranking.proofs.Ends.{begun, refined-over}
 use Rattle.ranking.proofs.fill_ranks.Statement.{statement}

@@ -4,8 +4,8 @@ use mathlib.Core.Path.{_≡_}
 use native.Mathlib.Omega.{arith}
 use borrow.Author.Needs.{needs}
 use lib.ListN.{length}
-use Rattle.table.specs.Form.{table-of}
-use Rattle.table.proofs.FormLaws.{limits}
+use Rattle.form.specs.Form.{table-of}
+use Rattle.form.proofs.FormLaws.{limits}
 use Rattle.ranking.proofs.Ends.{all-rows, no-rows, kept-few, filled}
 use Rattle.ranking.proofs.rank.Statement.{statement}
 use Rattle.ranking.proofs.rank.Tie as tie

@@ -13,7 +13,7 @@ use Rattle.simulation.specs.Sum.{sum, any, when}
 use Rattle.simulation.specs.Fit.{Amounts, Set, Fits, Positive, weight, weight-of, total, touched, gain, fits?, cut}
 use Rattle.simulation.specs.Table.{Transition, weights, target-at}
 use Rattle.simulation.specs.Round.{Relation, related, between, fits-step}
-use Rattle.simulation.proofs.Finite.Tests.{either, by-contradiction, is-true, is-false, same?, any-some, some-any, touched-some}
+use Rattle.simulation.proofs.Finite.Tests.{either, by-contradiction, is-true, is-false, same?, any-some, some-any, touched-some, true-T}
 use Rattle.simulation.proofs.Finite.Sums.{sum-ext, sum-mul, sum-term, sum-zero, when-mul}
 use Rattle.simulation.proofs.Flow.Partial.{Reach, row, column, tight-from}
 use Rattle.simulation.proofs.Fit.Gain.{supply, demand, weight-split, gain-is, gain-ext, gain-largest, largest-gained, fits-gain, cut-least}
@@ -21,9 +21,6 @@ use Rattle.simulation.proofs.Fit.Hall.{Partial, Certified, fits?→Fits
 use Rattle.simulation.proofs.Fit.Cut.{Reached, cut-certified, cut-excess}
 use Rattle.simulation.proofs.Fit.Compose.{fits?-mono}
 use Rattle.simulation.proofs.Simulation.Steps.{fits-step-code, fits-step-fits, fits-step-by}
-
-holds : {b : Bool} → b ≡ true → T b
-holds e = subst T (sym e) tt
 
 fails : {b : Bool} → b ≡ false → T b → ⊥
 fails e t = subst T e t
@@ -41,7 +38,7 @@ module _ (R : ℕ → ℕ → Bool) (ws vs : List ℕ) where
       (record {
         amount = λ i j. weight ws i * weight vs j;
         shares = record {
-          support = λ i j l m _. holds (h i j l m);
+          support = λ i j l m _. true-T (h i j l m);
           sent = λ i l. sum-mul (length vs) (weight ws i) (weight vs);
           taken = λ j l. sum-ext (length ws) _ _ (λ i _. mul-comm (weight ws i) (weight vs j)) ∙ sum-mul (length ws) (weight vs j) (weight ws);
         };
@@ -75,7 +72,7 @@ fits-step-less R R′ m n h e =
     fails e
     (fits-step-by R m n (fits-step-code R′ m n t)
     (fits?-mono (between R′ m n) (between R m n) (weights m) (weights n)
-    (λ i j _ _ r. holds (h (target-at m i) (target-at n j) (is-true (between R′ m n i j) r))) (fits-step-fits R′ m n t))))
+    (λ i j _ _ r. true-T (h (target-at m i) (target-at n j) (is-true (between R′ m n i j) r))) (fits-step-fits R′ m n t))))
 
 -- what a set weighs that holds all, none, some, or lacks one
 pub weight-all : (ws : List ℕ) (S : Set) → ((i : ℕ) → i < length ws → S i ≡ true) → weight-of ws S ≡ total ws
@@ -133,7 +130,7 @@ module _ (R : ℕ → ℕ → Bool) (ws vs : List ℕ) (S : Set) (positive : Pos
       tight-from (length ws) (length vs) R (supply ws vs) (demand ws vs) products S
       (λ i l f. omega (arith, products-row i, ap (λ (n : ℕ). weight ws i * n) (weight-all vs (R i) (λ j m. full i j l m (is-false (S i) (T-not (S i) f))))))
       (λ i j l m s r. omega (arith, products-column j, ap (λ (n : ℕ). weight vs j * n) (weight-all ws (λ i. R i j) (λ i′ l′. closed i j i′ l m l′ (is-true (S i) s) (is-true (R i j) r) .0))))
-      (λ i j i′ l m l′ s r _. holds (closed i j i′ l m l′ (is-true (S i) s) (is-true (R i j) r) .1))
+      (λ i j i′ l m l′ s r _. true-T (closed i j i′ l m l′ (is-true (S i) s) (is-true (R i j) r) .1))
 
   products-reach : Reached R ws vs products S
   products-reach i l s = Reach.short i l (omega (arith, products-row i, mul-lt-mul-of-pos-left (short i l (is-true (S i) s)) (positive i l)))
@@ -159,7 +156,7 @@ module _ (R : ℕ → ℕ → Bool) (ws vs : List ℕ) where
       is-false (cut R ws vs i)
       (cut-least R ws vs (λ i. false)
       (let w = largest-gained R ws vs in
-      le-antisymm (gain-largest R ws vs (λ i. false)) (omega (arith, gain-none, w .1, fits-gain R ws vs (holds e) (w .0)))) i l)
+      le-antisymm (gain-largest R ws vs (λ i. false)) (omega (arith, gain-none, w .1, fits-gain R ws vs (true-T e) (w .0)))) i l)
 
   pub cut-some : fits? R ws vs ≡ false → (i : ℕ) × (i < length ws) × (cut R ws vs i ≡ true)
   cut-some e =

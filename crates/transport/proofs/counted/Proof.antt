@@ -2,10 +2,10 @@
 use mathlib.Core.Path.{refl, _∙_}
 use Prim.Native.Nat.{_<_, _^_}
 use native.Mathlib.Omega.{arith}
-use Rattle.transport.proofs.MatrixLaws.{outside-trans}
-use Rattle.transport.proofs.FlowLaws.{preserves-trans}
-use Rattle.transport.proofs.StartLaws.{begun, balanced, missing-fits}
-use Rattle.transport.proofs.GreedyLaws.{greedy-is}
+use Rattle.matrix.proofs.MatrixLaws.{outside-trans}
+use Rattle.matrix.proofs.FlowLaws.{preserves-trans}
+use Rattle.greedy.proofs.StartLaws.{begun, balanced, missing-fits}
+use Rattle.greedy.proofs.GreedyLaws.{greedy-is}
 use Rattle.transport.proofs.Certificate.{finished}
 use borrow.Author.Needs.{needs}
 use Rattle.transport.proofs.counted.Statement.{statement}

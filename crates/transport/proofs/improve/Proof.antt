@@ -4,12 +4,12 @@ use Prim.Native.Nat.{_+_, _≤_}
 use native.Mathlib.Omega.{arith}
 use lib.ListN.{length, getD}
 use Rattle.relation.specs.Mask.{member}
-use Rattle.transport.specs.Masks.{MaskOf}
-use Rattle.transport.specs.Flow.{missing, Improves}
-use Rattle.transport.specs.Search.{SearchOf}
-use Rattle.transport.specs.Paths.{Augmented}
-use Rattle.transport.proofs.FlowLaws.{improves-refl, improves-trans}
-use Rattle.transport.proofs.PushLaws.{room-of, augmented-next}
+use Rattle.matrix.specs.Masks.{MaskOf}
+use Rattle.matrix.specs.Flow.{missing, Improves}
+use Rattle.search.specs.Search.{SearchOf}
+use Rattle.augment.specs.Augments.{Augmented}
+use Rattle.matrix.proofs.FlowLaws.{improves-refl, improves-trans}
+use Rattle.augment.proofs.PushLaws.{room-of, augmented-next}
 use Rattle.transport.proofs.improve.Statement.{statement}
 use Rattle.transport.proofs.improve.Tie as tie
 

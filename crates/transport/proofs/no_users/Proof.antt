@@ -1,6 +1,6 @@
 -- `transport::no_users` meets its contract. Assumes nothing.
 use mathlib.Core.Path.{refl}
-use Rattle.transport.proofs.MaskedLaws.{zeros-get}
+use Rattle.matrix.proofs.MaskedLaws.{zeros-get}
 use Rattle.transport.proofs.no_users.Statement.{statement}
 use Rattle.transport.proofs.no_users.Tie as tie
 

@@ -7,23 +7,60 @@ use Rattle.transport_c.proofs.transport_flow.Tie as tie
 accepts-requires : tie.Need-accepts-requires
 accepts-requires c κs = search needs
 
-transport-requires : tie.Need-transport-requires
-transport-requires c κs = c .before .before .accepts .ensures .given (c .before .if1 .taken)
+counted-requires : tie.Need-counted-requires
+counted-requires c κs = c .before .before .accepts .ensures .taken (c .before .if1 .taken) .given
+
+slice-write-cut : tie.Need-slice-write-cut
+slice-write-cut c =
+    let at-if1 = c .before .before .before .before in
+    at-if1 .before .accepts .ensures .taken (at-if1 .if1 .taken) .cut-place
+
+slice-write-paths : tie.Need-slice-write-paths
+slice-write-paths c =
+    let at-if1 = c .before .before .before .before in
+    at-if1 .before .accepts .ensures .taken (at-if1 .if1 .taken) .paths-place
 
 same-length : tie.Need-same-length
 same-length c = search needs
 
-returns : tie.Need-returns
-returns c =
-    let at-transport = c .before .before in
-    let at-if1 = at-transport .before .before in
-    record { answered = λ g. at-transport .transport .ensures; refused = λ n. absurd (n (at-if1 .before .accepts .ensures .given (at-if1 .if1 .taken))) }
-
 same-length-2 : tie.Need-same-length-2
 same-length-2 c = search needs
 
+same-length-3 : tie.Need-same-length-3
+same-length-3 c = search needs
+
+returns : tie.Need-returns
+returns c =
+    let at-counted = c .before .before in
+    let at-if1 = at-counted .before .before in
+    let (answered, counts) = at-counted .counted .ensures in
+    record { answered = λ _. (refl, _, _, refl, refl, answered, counts); refused = λ not-taken. absurd (not-taken (at-if1 .before .accepts .ensures .taken (at-if1 .if1 .taken))) }
+
+same-length-4 : tie.Need-same-length-4
+same-length-4 c = search needs
+
+same-length-5 : tie.Need-same-length-5
+same-length-5 c = search needs
+
+same-length-6 : tie.Need-same-length-6
+same-length-6 c = search needs
+
 returns-2 : tie.Need-returns-2
-returns-2 c = record { answered = λ g. absurd (c .before .accepts .ensures .refused (c .if1 .left) g); refused = λ n. (refl, refl) }
+returns-2 c = record { answered = λ t. absurd (c .before .accepts .ensures .refused (c .if1 .left) t); refused = λ _. (refl, refl, refl, refl) }
 
 pub transport-flow-spec : {M : Type 1} → statement M
-transport-flow-spec = tie.close (tie.spec accepts-requires transport-requires same-length returns same-length-2 returns-2)
+transport-flow-spec =
+    tie.close
+    (tie.spec
+    accepts-requires
+    counted-requires
+    slice-write-cut
+    slice-write-paths
+    same-length
+    same-length-2
+    same-length-3
+    returns
+    same-length-4
+    same-length-5
+    same-length-6
+    returns-2)

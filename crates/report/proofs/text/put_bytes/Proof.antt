@@ -3,9 +3,10 @@ use mathlib.Core.List.{List, _++_}
 use Prim.Native.Nat.{ℕ, _≤_, _-_, zero-le}
 use native.Mathlib.Omega.{arith}
 use lib.ListN.{length, getD}
-use Rattle.report.specs.Writes.{Writes}
-use Rattle.report.specs.Text.{pieces, space, hex, bytes-text}
-use Rattle.report.proofs.Writing.{kept, pieces-start, pieces-turn, pieces-room, pieces-end}
+use Rattle.digits.specs.Writes.{Writes, pieces}
+use Rattle.report.specs.Text.{space, bytes-text}
+use Rattle.digits.specs.Digits.{hex}
+use Rattle.digits.proofs.Writing.{kept, pieces-start, pieces-turn, pieces-room, pieces-end}
 use Rattle.report.proofs.text.put_bytes.Statement.{statement}
 use Rattle.report.proofs.text.put_bytes.Tie as tie
 

@@ -1,5 +1,5 @@
 -- `report::text::put_outcome` meets its contract. Assumes nothing.
-use Rattle.report.proofs.Writing.{nothing}
+use Rattle.digits.proofs.Writing.{nothing}
 use Rattle.report.specs.Text.{tree-text}
 use borrow.Author.Needs.{needs}
 use Rattle.report.proofs.text.put_outcome.Statement.{statement}

@@ -1,6 +1,7 @@
 -- `report::text::put_pair` meets its contract. Assumes nothing.
-use Rattle.report.specs.Text.{space, newline, labelled, pair-line}
-use Rattle.report.proofs.Writing.{then, kept, room-first, room-rest}
+use Rattle.report.specs.Text.{space, newline, pair-line}
+use Rattle.digits.specs.Digits.{labelled}
+use Rattle.digits.proofs.Writing.{then, kept, room-first, room-rest}
 use borrow.Author.Needs.{needs}
 use Rattle.report.proofs.text.put_pair.Statement.{statement}
 use Rattle.report.proofs.text.put_pair.Tie as tie

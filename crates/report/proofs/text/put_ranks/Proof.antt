@@ -3,9 +3,10 @@ use mathlib.Core.List.{List}
 use Prim.Native.Nat.{ℕ, _+_, _≤_, _-_, zero-le}
 use native.Mathlib.Omega.{arith}
 use lib.ListN.{getD}
-use Rattle.report.specs.Writes.{Writes}
-use Rattle.report.specs.Text.{pieces, space, labelled, ranks-text}
-use Rattle.report.proofs.Writing.{kept, pieces-start, pieces-turn, pieces-room, pieces-end}
+use Rattle.digits.specs.Writes.{Writes, pieces}
+use Rattle.report.specs.Text.{space, ranks-text}
+use Rattle.digits.specs.Digits.{labelled}
+use Rattle.digits.proofs.Writing.{kept, pieces-start, pieces-turn, pieces-room, pieces-end}
 use borrow.Author.Needs.{needs}
 use Rattle.report.proofs.text.put_ranks.Statement.{statement}
 use Rattle.report.proofs.text.put_ranks.Tie as tie

@@ -2,7 +2,7 @@
 use mathlib.Core.List.{List}
 use Prim.Native.Nat.{ℕ}
 use Rattle.report.specs.Text.{rows-text, rounds-line, yes?, tree-text, report-text}
-use Rattle.report.proofs.Writing.{then, kept, room-first, room-rest}
+use Rattle.digits.proofs.Writing.{then, kept, room-first, room-rest}
 use borrow.Author.Needs.{needs}
 use Rattle.report.proofs.text.put_report.Statement.{statement}
 use Rattle.report.proofs.text.put_report.Tie as tie

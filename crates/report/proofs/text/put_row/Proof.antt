@@ -1,6 +1,6 @@
 -- `report::text::put_row` meets its contract. Assumes nothing.
 use Rattle.report.specs.Text.{ranks-text, newline, row-line}
-use Rattle.report.proofs.Writing.{then, kept, room-first, room-rest}
+use Rattle.digits.proofs.Writing.{then, kept, room-first, room-rest}
 use Prim.Native.Nat.{_*_}
 use borrow.Author.Needs.{needs}
 use Rattle.report.proofs.text.put_row.Statement.{statement}

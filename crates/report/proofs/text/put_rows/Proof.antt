@@ -2,9 +2,9 @@
 use Prim.Native.Nat.{_≤_, _-_, zero-le}
 use native.Mathlib.Nat.{mul-le-mul-right, suc-mul}
 use native.Mathlib.Omega.{arith}
-use Rattle.report.specs.Writes.{Writes}
-use Rattle.report.specs.Text.{pieces, row-line, rows-text}
-use Rattle.report.proofs.Writing.{kept, pieces-start, pieces-turn, pieces-room, pieces-end}
+use Rattle.digits.specs.Writes.{Writes, pieces}
+use Rattle.report.specs.Text.{row-line, rows-text}
+use Rattle.digits.proofs.Writing.{kept, pieces-start, pieces-turn, pieces-room, pieces-end}
 use Rattle.report.proofs.text.put_rows.Statement.{statement}
 use Rattle.report.proofs.text.put_rows.Tie as tie
 

@@ -1,6 +1,6 @@
 -- `report::text::put_spaced` meets its contract. Assumes nothing.
-use Rattle.report.specs.Text.{hex}
-use Rattle.report.proofs.Writing.{then, kept, room-first, room-rest}
+use Rattle.digits.specs.Digits.{hex}
+use Rattle.digits.proofs.Writing.{then, kept, room-first, room-rest}
 use Rattle.report.proofs.text.put_spaced.Statement.{statement}
 use Rattle.report.proofs.text.put_spaced.Tie as tie
 

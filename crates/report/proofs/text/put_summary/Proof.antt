@@ -2,8 +2,9 @@
 use mathlib.Core.Bool.{cond}
 use mathlib.Core.List.{List}
 use Prim.Native.Nat.{ℕ}
-use Rattle.report.specs.Text.{word-kept, word-verdict, word-yes, word-no, labelled, summary-line}
-use Rattle.report.proofs.Writing.{then, kept, room-first, room-rest}
+use Rattle.report.specs.Text.{word-kept, word-verdict, word-yes, word-no, summary-line}
+use Rattle.digits.specs.Digits.{labelled}
+use Rattle.digits.proofs.Writing.{then, kept, room-first, room-rest}
 use borrow.Author.Needs.{needs}
 use Rattle.report.proofs.text.put_summary.Statement.{statement}
 use Rattle.report.proofs.text.put_summary.Tie as tie

@@ -1,6 +1,6 @@
 -- `report::text::put_tree` meets its contract. Assumes nothing.
 use Rattle.report.specs.Text.{bytes-text, newline, tree-line}
-use Rattle.report.proofs.Writing.{then, kept, room-first, room-rest}
+use Rattle.digits.proofs.Writing.{then, kept, room-first, room-rest}
 use borrow.Author.Needs.{needs}
 use Rattle.report.proofs.text.put_tree.Statement.{statement}
 use Rattle.report.proofs.text.put_tree.Tie as tie

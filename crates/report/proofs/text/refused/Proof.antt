@@ -1,7 +1,7 @@
 -- `report::text::refused` meets its contract. Assumes nothing.
-use Rattle.report.specs.Writes.{Room}
+use Rattle.digits.specs.Writes.{Room}
 use Rattle.report.specs.Text.{refused-text}
-use Rattle.report.proofs.Writing.{whole}
+use Rattle.digits.proofs.Writing.{whole}
 use Rattle.report.proofs.Bounds.{refused-room}
 use borrow.Author.Needs.{needs}
 use Rattle.report.proofs.text.refused.Statement.{statement}

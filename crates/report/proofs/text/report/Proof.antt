@@ -1,8 +1,8 @@
 -- `report::text::report` meets its contract. Assumes nothing.
 use native.Mathlib.Omega.{arith}
-use Rattle.report.specs.Writes.{Room}
+use Rattle.digits.specs.Writes.{Room}
 use Rattle.report.specs.Text.{report-text}
-use Rattle.report.proofs.Writing.{whole}
+use Rattle.digits.proofs.Writing.{whole}
 use Rattle.report.proofs.Bounds.{report-room}
 use borrow.Author.Needs.{needs}
 use Rattle.report.proofs.text.report.Statement.{statement}

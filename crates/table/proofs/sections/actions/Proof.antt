@@ -9,11 +9,11 @@ use lib.ListN.{length}
 use denote.Ref.{now}
 use borrow.Author.Needs.{needs}
 use borrow.Author.Tests.{leb-true}
-use Rattle.table.specs.Bytes.{first, actions, code-refusal, actions-refusal}
+use Rattle.layout.specs.Bytes.{first, actions, code-refusal, actions-refusal}
 use Rattle.table.specs.Stages.{with-actions}
-use Rattle.table.proofs.ReadLaws.{Told, byte-told, byte-ended, part-told, part-ended}
+use Rattle.items.proofs.ReadLaws.{Told, byte-told, byte-ended, part-told, part-ended}
 use Rattle.table.proofs.StageLaws.{stage-refused, stage-fault, stage-at}
-use Rattle.table.proofs.SectionLaws.{section-end, section-short, section-items}
+use Rattle.layout.proofs.SectionLaws.{section-end, section-short, section-items}
 use Rattle.table.proofs.sections.actions.Statement.{statement}
 use Rattle.table.proofs.sections.actions.Tie as tie
 

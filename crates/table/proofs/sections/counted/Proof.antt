@@ -11,11 +11,11 @@ use lib.ListN.{length}
 use denote.Ref.{now}
 use borrow.Author.Needs.{needs}
 use borrow.Author.Tests.{le-leb, lt-leb, eq-eqb, ne-eqb}
-use Rattle.table.specs.Bytes.{refuse_unless_, section, half}
-use Rattle.table.proofs.Laws.{refused, not-refused, both}
-use Rattle.table.proofs.ReadLaws.{Told, half-told, half-ended, part-told, part-ended}
+use Rattle.layout.specs.Bytes.{refuse_unless_, section, half}
+use Rattle.layout.proofs.Laws.{refused, not-refused, both}
+use Rattle.items.proofs.ReadLaws.{Told, half-told, half-ended, part-told, part-ended}
 use Rattle.table.proofs.StageLaws.{items-fault, items-at}
-use Rattle.table.proofs.SectionLaws.{section-end, section-rule, section-short, section-items}
+use Rattle.layout.proofs.SectionLaws.{section-end, section-rule, section-short, section-items}
 use Rattle.table.proofs.sections.counted.Statement.{statement}
 use Rattle.table.proofs.sections.counted.Tie as tie
 

@@ -9,11 +9,11 @@ use lib.ListN.{length}
 use denote.Ref.{now}
 use borrow.Author.Needs.{needs}
 use borrow.Author.Tests.{eq-eqb, ne-eqb}
-use Rattle.table.specs.Bytes.{refuse_unless_, _then_, end, actions-refusal, states-refusal, transitions-refusal, entries-refusal}
+use Rattle.layout.specs.Bytes.{refuse_unless_, _then_, end, actions-refusal, states-refusal, transitions-refusal, entries-refusal}
 use Rattle.table.specs.Stages.{layout}
-use Rattle.table.proofs.Laws.{refused, not-refused}
-use Rattle.table.proofs.SectionLaws.{then-zero}
-use Rattle.table.proofs.Bounds.{refusal-is}
+use Rattle.layout.proofs.Laws.{refused, not-refused}
+use Rattle.layout.proofs.SectionLaws.{then-zero}
+use Rattle.layout.proofs.Bounds.{refusal-is}
 use Rattle.table.proofs.StageLaws.{Reached, reached}
 use Rattle.table.proofs.AnswerLaws.{refused as answer-refused, accepted, refused-told}
 use Rattle.table.proofs.sections.end.Statement.{statement}

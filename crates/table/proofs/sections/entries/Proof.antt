@@ -11,15 +11,15 @@ use denote.Ref.{now}
 use borrow.Author.Needs.{needs}
 use borrow.Author.Tests.{leb-true, eqb-true}
 use Rattle.simulation.specs.Sum.{sum}
-use Rattle.table.specs.declared.Table.{Table}
-use Rattle.table.specs.Limits.{most-entries}
-use Rattle.table.specs.Bytes.{_then_, first, half, transitions-at, transitions, size, size-from, entries-at, entries, end, run-refusal, actions-refusal, states-refusal, transitions-refusal, entries-refusal}
+use Rattle.table.specs.declared.parts.Layout.{Layout}
+use Rattle.form.specs.Limits.{most-entries}
+use Rattle.layout.specs.Bytes.{_then_, first, half, transitions-at, transitions, size, size-from, entries-at, entries, end, run-refusal, actions-refusal, states-refusal, transitions-refusal, entries-refusal}
 use Rattle.table.specs.Answers.{count-refusal, items-read}
 use Rattle.table.specs.Stages.{with-entries, transitions-read}
-use Rattle.table.proofs.Laws.{and-right}
+use Rattle.layout.proofs.Laws.{and-right}
 use Rattle.table.proofs.StageLaws.{Reached, reached, stage-fault, stage-at, stays, Counted, items-told, items-refused-told}
-use Rattle.table.proofs.SectionLaws.{then-zero, then-parts, holds, section-whole, section-past, section-before}
-use Rattle.table.proofs.Bounds.{Transitions, transitions-bounds}
+use Rattle.layout.proofs.SectionLaws.{then-zero, then-parts, holds, section-whole, section-past, section-before}
+use Rattle.layout.proofs.Bounds.{Transitions, transitions-bounds}
 use Rattle.table.proofs.sections.entries.Statement.{statement}
 use Rattle.table.proofs.sections.entries.Tie as tie
 
@@ -51,10 +51,10 @@ bounds c = transitions-bounds (bytes c) (then-parts _ _ (reach c .passed) .1)
 
 -- the table read so far: how many transitions it has, and where their sizes begin
 many : (c : tie.After-stage) → c .stage .given .0 .0 .transitions ≡ transitions (bytes c)
-many c = ap (λ (t : Table). t .transitions) (reach c .table)
+many c = ap (λ (t : Layout). t .transitions) (reach c .table)
 
 sizes : (c : tie.After-stage) → c .stage .given .0 .0 .«transitions_at» + 1 ≡ transitions-at (bytes c) + 3
-sizes c = let a = ap (λ (t : Table). t .«transitions_at») (reach c .table) in omega arith
+sizes c = let a = ap (λ (t : Layout). t .«transitions_at») (reach c .table) in omega arith
 
 total : (c : tie.After-stage) → let s = bytes c in let t = c .stage .given .0 .0 in sum (t .transitions) (size-from s (t .«transitions_at» + 1)) ≡ sum (transitions s) (size s)
 total c = ap₂ (λ (m q : ℕ). sum m (size-from (bytes c) q)) (many c) (sizes c)
@@ -77,7 +77,7 @@ items c =
     let i = told (at-items c) in
     let m = many d in
     let q = sizes d in
-    let n = ap (λ (t : Table). t .states) (reach d .table) in
+    let n = ap (λ (t : Layout). t .states) (reach d .table) in
     c .entries-refusal .ensures
     ∙ (λ x. first 0 (m x) (run-refusal (bytes d) (n x) (q x) (i .from x)))
     ∙ sym (section-past _ _ _ _ (i .passed))

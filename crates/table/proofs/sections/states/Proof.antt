@@ -10,13 +10,13 @@ use lib.ListN.{length}
 use denote.Ref.{now}
 use borrow.Author.Needs.{needs}
 use borrow.Author.Tests.{le-ltb, lt-ltb, le-leb, lt-leb}
-use Rattle.table.specs.Limits.{most-states}
-use Rattle.table.specs.Bytes.{refuse_unless_, _then_, states-at, states, transitions-at, actions-refusal, states-refusal}
+use Rattle.form.specs.Limits.{most-states}
+use Rattle.layout.specs.Bytes.{refuse_unless_, _then_, states-at, states, transitions-at, actions-refusal, states-refusal}
 use Rattle.table.specs.Stages.{with-states, actions-read}
-use Rattle.table.proofs.Laws.{refused, not-refused, both}
-use Rattle.table.proofs.ReadLaws.{Told, byte-told, byte-ended, part-told, part-ended}
+use Rattle.layout.proofs.Laws.{refused, not-refused, both}
+use Rattle.items.proofs.ReadLaws.{Told, byte-told, byte-ended, part-told, part-ended}
 use Rattle.table.proofs.StageLaws.{Reached, reached, stage-refused, stage-at, stays}
-use Rattle.table.proofs.SectionLaws.{then-zero, section-end, section-rule, section-short, section-items}
+use Rattle.layout.proofs.SectionLaws.{then-zero, section-end, section-rule, section-short, section-items}
 use Rattle.table.proofs.sections.states.Statement.{statement}
 use Rattle.table.proofs.sections.states.Tie as tie
 

@@ -9,14 +9,14 @@ use denote.Ref.{now}
 use borrow.Author.Needs.{needs}
 use borrow.Author.Tests.{leb-true}
 use Rattle.simulation.specs.Sum.{sum}
-use Rattle.table.specs.declared.Table.{Table}
-use Rattle.table.specs.Limits.{most-transitions}
-use Rattle.table.specs.Bytes.{_then_, first, half, states, count, transitions-at, transitions, entries-at, transition-refusal, actions-refusal, states-refusal, transitions-refusal}
+use Rattle.table.specs.declared.parts.Layout.{Layout}
+use Rattle.form.specs.Limits.{most-transitions}
+use Rattle.layout.specs.Bytes.{_then_, first, half, states, count, transitions-at, transitions, entries-at, transition-refusal, actions-refusal, states-refusal, transitions-refusal}
 use Rattle.table.specs.Answers.{count-refusal, items-read}
 use Rattle.table.specs.Stages.{with-transitions, states-read}
 use Rattle.table.proofs.StageLaws.{Reached, reached, stage-fault, stage-at, stays, Counted, items-told, items-refused-told}
-use Rattle.table.proofs.SectionLaws.{then-zero, then-parts, section-whole, section-past, section-before}
-use Rattle.table.proofs.Bounds.{actions-bytes, states-bounds, sum-of-counts}
+use Rattle.layout.proofs.SectionLaws.{then-zero, then-parts, section-whole, section-past, section-before}
+use Rattle.layout.proofs.Bounds.{actions-bytes, states-bounds, sum-of-counts}
 use Rattle.table.proofs.sections.transitions.Statement.{statement}
 use Rattle.table.proofs.sections.transitions.Tie as tie
 
@@ -46,7 +46,7 @@ reach c = reached _ _ _ (c .before .before .before .pre) (c .stage .given .1)
 summed : (c : tie.After-counted) → let s = bytes (at-stage c) in c .before .sum-of .result ≡ sum (states s) (count s)
 summed c =
     let r = reach (at-stage c) in
-    sum-of-counts (bytes (at-stage c)) (ap (λ (t : Table). t .states) (r .table)) (ap (λ (t : Table). t .«counts_at») (r .table)) (c .before .sum-of .ensures)
+    sum-of-counts (bytes (at-stage c)) (ap (λ (t : Layout). t .states) (r .table)) (ap (λ (t : Layout). t .«counts_at») (r .table)) (c .before .sum-of .ensures)
 
 -- what the count's reading says, at this section's place and with its sum
 counts : (c : tie.After-counted) → let s = bytes (at-stage c) in c .counted .result ≡ items-read s (transitions-at s) most-transitions (sum (states s) (count s)) 5 2
@@ -79,8 +79,8 @@ sum-of-requires c κs =
     let d = c .before in
     let r = reach d in
     let b = states-bounds (bytes d) (then-parts _ _ (r .passed) .1) in
-    let n = ap (λ (t : Table). t .states) (r .table) in
-    let a = ap (λ (t : Table). t .«counts_at») (r .table) in
+    let n = ap (λ (t : Layout). t .states) (r .table) in
+    let a = ap (λ (t : Layout). t .«counts_at») (r .table) in
     (omega arith, λ i h. omega arith)
 
 counted-requires : tie.Need-counted-requires
@@ -98,7 +98,7 @@ transitions-refusal-requires c κs =
     let s = bytes d in
     let r = reach d in
     let i = told (c .before) in
-    let a = ap (λ (t : Table). t .actions) (r .table) in
+    let a = ap (λ (t : Layout). t .actions) (r .table) in
     let b = actions-bytes s (then-parts _ _ (r .passed) .0) in
     let h = leb-true (transitions-at s + 2 + 2 * half s (transitions-at s)) (length s) (section-whole _ _ _ _ (i .passed) .all-present) in
     let n = i .count in

@@ -2,18 +2,17 @@
 -- Each answer stands in the order of the code.
 -- Assumes nothing.
 use mathlib.Core.Path.{refl, ap, _∙_}
-use Prim.Native.Nat.{_+_, _-_}
+use Prim.Native.Nat.{_+_, _-_, ℕ, _<_}
 use native.Mathlib.Nat.{le-refl, pos-of-ne-zero, lt-of-lt-of-le}
 use native.Mathlib.Omega.{arith}
 use lib.ListN.{length, length-set}
 use Rattle.simulation.proofs.Finite.Sums.{members-most}
-use Rattle.table.specs.Form.{transition-at}
-use Rattle.table.proofs.FormLaws.{targets-length}
+use Rattle.form.specs.Form.{transition-at}
+use Rattle.form.proofs.FormLaws.{targets-length}
 use Rattle.relation.specs.Mask.{member}
-use Rattle.witness.proofs.Choices.{choice-number}
+use Rattle.choice.proofs.Choices.{choice-number}
 use Rattle.tree.proofs.Nodes.{pair-lost, NodeLoop, node-room, node-begins, node-asked, turn-room, node-step, node-next, node-ends}
 use Rattle.tree.proofs.Steps.{AroundLoop, begin-given, around-begins, around-levels, few-children, stack-room, number-known, place-known, entry-room, entry-piece, sum-given, child-fits, child-room, child-given, join-fits, around-next, around-ends, HoleLoop, hole-begins, hole-room, hole-step, hole-short, hole-less, hole-fits, hole-next, hole-ends}
-use Prim.Native.Nat.{ℕ, _<_}
 use borrow.Fn.Kinds.{In}
 use borrow.Fn.PlainCycle.{Measures, is, falls, and}
 use Rattle.tree.proofs.write.write_around.Reads as write-around
@@ -28,11 +27,11 @@ use Rattle.tree.proofs.write.+write_around+write_node+write_transition.
 use Rattle.relation.proofs.set.count.Reads as count-reads
 use Rattle.relation.proofs.set.lowest.Reads as lowest-reads
 use Rattle.relation.proofs.set.without_lowest.Reads as without-lowest-reads
-use Rattle.table.proofs.form.targets.Reads as targets-reads
+use Rattle.form.proofs.targets.Reads as targets-reads
 use Rattle.tree.proofs.write.begin_transition.Reads as begin-transition-reads
 use Rattle.tree.proofs.write.join.Reads as join-reads
-use Rattle.measure.proofs.lengths.node_length.Reads as node-length-reads
-use Rattle.measure.proofs.lengths.pair_length.Reads as pair-length-reads
+use Rattle.measure.proofs.node_length.Reads as node-length-reads
+use Rattle.measure.proofs.pair_length.Reads as pair-length-reads
 use Rattle.tree.proofs.write.put_entry.Reads as put-entry-reads
 use Rattle.tree.proofs.write.+write_around+write_node+write_transition.{statement}
 use Rattle.tree.proofs.write.+write_around+write_node+write_transition.Tie.{close}

@@ -3,14 +3,14 @@ use mathlib.Core.Path.{_≡_, sym, ap, _∙_, subst}
 use mathlib.Core.List.{List}
 use Prim.Native.Nat.{ℕ}
 use lib.ListN.{getD}
-use Rattle.witness.specs.Choice.{Choice}
+use Rattle.choice.specs.Choice.{Choice}
 use native.Mathlib.Omega.{arith}
 use borrow.Author.Needs.{needs}
 use Rattle.simulation.specs.Table.{Transition}
-use Rattle.table.proofs.FormLaws.{limits}
+use Rattle.form.proofs.FormLaws.{limits}
 use Rattle.buffer.specs.Buffer.{over}
 use Rattle.tree.specs.Begin.{head-bytes}
-use Rattle.witness.proofs.Choices.{choice-number, pair-place}
+use Rattle.choice.proofs.Choices.{choice-number, pair-place}
 use Rattle.tree.proofs.write.begin_transition.Statement.{statement}
 use Rattle.tree.proofs.write.begin_transition.Tie as tie
 

@@ -8,7 +8,7 @@ use lib.ListN.{getD, length-set}
 use Rattle.buffer.specs.Buffer.{over}
 use Rattle.tree.specs.Begin.{entry-bytes}
 use Rattle.buffer.proofs.Buffer.{start, store, finish}
-use Rattle.witness.proofs.Places.{place-small, in-targets, in-weights, target-byte}
+use Rattle.relate.proofs.Places.{place-small, in-targets, in-weights, target-byte}
 use Rattle.tree.proofs.write.put_entry.Statement.{statement}
 use Rattle.tree.proofs.write.put_entry.Tie as tie
 

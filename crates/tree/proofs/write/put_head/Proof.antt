@@ -5,8 +5,8 @@ use Prim.Native.Nat.{ℕ}
 use native.Mathlib.Omega.{arith}
 use borrow.Author.Needs.{needs}
 use lib.ListN.{length}
-use Rattle.table.specs.Form.{transition-at}
-use Rattle.table.proofs.FormLaws.{limited-at, targets-length}
+use Rattle.form.specs.Form.{transition-at}
+use Rattle.form.proofs.FormLaws.{limited-at, targets-length}
 use Rattle.buffer.specs.Buffer.{over}
 use Rattle.buffer.proofs.Buffer.{start, store, finish}
 use Rattle.tree.proofs.write.put_head.Statement.{statement}

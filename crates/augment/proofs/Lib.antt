@@ -1,0 +1,4 @@
+-- Laws of a path and of moving along it.
+-- Assumes nothing.
+pub mod PathLaws
+pub mod PushLaws

@@ -1,3 +1,0 @@
--- Laws of the rows.
--- Assumes nothing.
-pub mod Laws

@@ -1,3 +1,0 @@
--- The definitions.
--- Assumes nothing.
-pub mod Rows

@@ -1,0 +1,392 @@
+-- How the chosen transition and its sets are found: the walks over the members of a mask, the cut of two transitions, what one adds to
+-- the sets of the other, and the walks over the transitions of a state.
+-- Assumes nothing.
+use mathlib.Core.Path.{_≡_, refl, sym, ap, ap₂, _∙_, subst, subst₂, fun-ext}
+use mathlib.Core.Bool.{Bool, true, false, not, _&&_, _||_, and-comm}
+use mathlib.Core.List.{List, [], _∷_}
+use mathlib.Core.Logic.{_⊎_, inl, inr, ⊎-elim}
+use Prim.Native.Nat.{ℕ, zero, suc, _+_, _-_, _≤_, _<_, pred}
+use native.Mathlib.Nat.{not-suc-le-zero, le-of-suc-le-suc, sub-self}
+use native.Mathlib.Omega.{arith}
+use native.Mathlib.Decide.{ℕ-discrete, decLt}
+use lib.Dec.{T, eqb, eqb→eq}
+use borrow.Author.Tests.{lt-ltb, ltb-true}
+use lib.ListN.{length, getD, take, set, length-set}
+use lib.Seq.{take-all, getD-set-same, getD-set-other}
+use Rattle.simulation.specs.Sum.{any, any-of}
+use Rattle.simulation.specs.Fit.{touched, fits?}
+use Rattle.simulation.specs.Table.{Transition, Table, weights, targets, target-at, states-of, steps, no-transition, transition}
+use Rattle.simulation.specs.Round.{Relation, between, fits-step, round}
+use Rattle.simulation.specs.Tree.{before, chosen, cut-of, apart-by, apart}
+use Rattle.simulation.proofs.Finite.Tests.{and-left, and-right, differ-eqb, is-true, is-false, same-test, any-some, some-any, any-ext, same-eqb}
+use Rattle.simulation.proofs.Finite.Lists.{any-of-at, any-of-by}
+use Rattle.simulation.proofs.Trees.Choice.{Chosen, chosen-law, chosen-at}
+use Rattle.form.specs.Form.{Loaded, table-of, start-of, transitions-of, transition-at}
+use Rattle.form.proofs.FormLaws.{counts, start-bound, starts-ascend, transition-of, transition-numbered, weights-length}
+use Rattle.relation.specs.Mask.{Test, member, up-to, without-member, either, except, Lowest}
+use Rattle.relation.proofs.Mask.{member-none, below-or-not}
+use Rattle.relate.specs.Rows.{Rows}
+use Rattle.matrix.specs.Problem.{relates}
+use Rattle.cut.specs.Quick.{CutOf}
+use Rattle.matrix.proofs.MaskedLaws.{true-or-false, neither, except-at, either-at, either-left, either-right, drop-at, drop-out, no-members}
+use Rattle.choice.specs.Choice.{Compared, Cut, Names, Added, Joined, Lost, Choice}
+use Rattle.simulation.proofs.Fit.Agree.{fits-agree, cut-agree}
+use Rattle.relate.proofs.Relating.{related-round}
+
+-- ---- a walk over the members of a mask
+
+pub eqb-flip : (a b : ℕ) → eqb a b ≡ eqb b a
+eqb-flip a b = same-test (eqb a b) (eqb b a) (λ t. same-eqb (sym (eqb→eq a b t))) (λ t. same-eqb (sym (eqb→eq b a t)))
+
+-- a test of more numbers, none of which passes
+any-wider : (p q : ℕ) (f g : ℕ → Bool) → p ≤ q → ((i : ℕ) → i < p → f i ≡ g i) → ((i : ℕ) → p ≤ i → g i ≡ false) → any p f ≡ any q g
+any-wider p q f g le same none =
+    same-test (any p f) (any q g)
+    (λ t. let w = any-some p f t in some-any q g (w .0) (omega (arith, w .1)) (subst T (same (w .0) (w .1)) (w .2)))
+    (λ t.
+    let w = any-some q g t in
+    ⊎-elim (λ l. some-any p f (w .0) l (subst T (sym (same (w .0) l)) (w .2))) (λ l. absurd (subst T (none (w .0) l) (w .2))) (below-or-not (w .0) p))
+
+-- what is left is a part of the mask
+next-part : (mask left left′ t : ℕ) → ((i : ℕ) → member left i ≡ true → member mask i ≡ true) → member left′ ≡ without-member t (member left)
+    → (i : ℕ) → member left′ i ≡ true → member mask i ≡ true
+next-part mask left left′ t part e i h = part i (drop-at (member left) t i e h .0)
+
+-- acc is the union of the sets of the members passed
+pub record Uniting (sets : ℕ → Test) (mask left acc : ℕ) : Type 0 where
+  pub part : (i : ℕ) → member left i ≡ true → member mask i ≡ true
+  pub from : (u : ℕ) → member acc u ≡ true → (i : ℕ) × (member mask i ≡ true) × (sets i u ≡ true)
+  pub all : (i u : ℕ) → member mask i ≡ true → member left i ≡ false → sets i u ≡ true → member acc u ≡ true
+
+module _ {sets : ℕ → Test} {mask : ℕ} where
+  pub uniting-start : Uniting sets mask mask 0
+  uniting-start = record {
+    part = λ i t. t;
+    from = λ u t. absurd (neither t (member-none u));
+    all = λ i u t f. absurd (neither t f);
+  }
+
+  pub uniting-next : {left acc left′ acc′ t : ℕ} → Uniting sets mask left acc → Lowest (member left) t → member left′ ≡ without-member t (member left)
+      → member acc′ ≡ either (sets t) (member acc) → Uniting sets mask left′ acc′
+  uniting-next {left} {acc} {left′} {acc′} {t} g low e u = record {
+    part = next-part mask left left′ t (g .part) e;
+    from = λ k m. ⊎-elim (λ h. (t, g .part t (low .here), h)) (g .from k) (either-at (sets t) (member acc) k u m);
+    all = λ i k m f h.
+        ⊎-elim (λ c. either-left (sets t) (member acc) k u (subst (λ (i : ℕ). sets i k ≡ true) c h)) (λ o. either-right (sets t) (member acc) k u (g .all i k m o h))
+        (drop-out (member left) t i e f);
+  }
+
+  pub uniting-end : {left acc : ℕ} (n : ℕ) → left ≡ 0 → Names mask n → Uniting sets mask left acc → (u : ℕ) → member acc u ≡ any n (λ i. member mask i && sets i u)
+  uniting-end {acc = acc} n z inside g u =
+      same-test (member acc u) (any n (λ i. member mask i && sets i u))
+      (λ t. let w = g .from u (is-true (member acc u) t) in some-any n (λ i. member mask i && sets i u) (w .0) (inside (w .0) (w .1)) (subst T (sym (ap₂ _&&_ (w .1) (w .2))) tt))
+      (λ t.
+      let w = any-some n (λ i. member mask i && sets i u) t in
+      let i = w .0 in
+      subst T (sym (g .all i u (is-true (member mask i) (and-left (member mask i) (sets i u) (w .2))) (no-members z i) (is-true (sets i u) (and-right (member mask i) (sets i u) (w .2))))) tt)
+
+-- the places below q that a mask doesn't name
+module _ (q all mask left : ℕ) (ea : member all ≡ up-to q) (el : member left ≡ except (member all) (member mask)) where
+  pub outside-names : Names left q
+  outside-names i t = ltb-true i q (sym (ap (λ X. X i) ea) ∙ except-at (member all) (member mask) i el t .0)
+
+  pub outside-any : (ts : List ℕ) (u : ℕ) → any q (λ j. member left j && eqb u (getD ts j 0)) ≡ any q (λ j. eqb (getD ts j 0) u && not (member mask j))
+  outside-any ts u =
+      any-ext q _ _ (λ j l.
+      ap₂ _&&_ (ap (λ X. X j) el ∙ ap (λ b. b && not (member mask j)) (ap (λ X. X j) ea ∙ lt-ltb j q l)) (eqb-flip u (getD ts j 0))
+      ∙ and-comm (not (member mask j)) (eqb (getD ts j 0) u))
+
+-- the sets of the members passed are joined, the others as they were
+pub record Joining (mask more : ℕ) (sets sets′ : List ℕ) (left : ℕ) : Type 0 where
+  pub size : length sets′ ≡ length sets
+  pub part : (i : ℕ) → member left i ≡ true → member mask i ≡ true
+  pub joined : (i : ℕ) → member mask i ≡ true → member left i ≡ false → (u : ℕ) → member (getD sets′ i 0) u ≡ (member more u || member (getD sets i 0) u)
+  pub waiting : (i : ℕ) → member left i ≡ true → getD sets′ i 0 ≡ getD sets i 0
+  pub others : (i : ℕ) → member mask i ≡ false → getD sets′ i 0 ≡ getD sets i 0
+
+pub joining-start : (mask more : ℕ) (sets : List ℕ) → Joining mask more sets sets mask
+joining-start mask more sets = record { size = refl; part = λ i t. t; joined = λ i t f. absurd (neither t f); waiting = λ i _. refl; others = λ i _. refl }
+
+pub joining-next : {mask more left left′ t : ℕ} {sets sets′ : List ℕ} (v : ℕ) → Joining mask more sets sets′ left → Names mask (length sets)
+    → Lowest (member left) t → member left′ ≡ without-member t (member left) → member v ≡ either (member more) (member (getD sets′ t 0))
+    → Joining mask more sets (set sets′ t v) left′
+joining-next {mask} {more} {left} {left′} {t} {sets} {sets′} v j names low e hv =
+    record {
+      size = length-set sets′ t v ∙ j .size;
+      part = next-part mask left left′ t (j .part) e;
+      joined = λ i m f u. at i m u (ℕ-discrete i t) (drop-out (member left) t i e f);
+      waiting = λ i h. let w = drop-at (member left) t i e h in getD-set-other sets′ t i v 0 (w .1) ∙ j .waiting i (w .0);
+      others = λ i f. getD-set-other sets′ t i v 0 (λ c. neither (ap (member mask) c ∙ j .part t (low .here)) f) ∙ j .others i f;
+    }
+  where
+    at : (i : ℕ) → member mask i ≡ true → (u : ℕ) → Dec (i ≡ t) → (i ≡ t) ⊎ (member left i ≡ false) → member (getD (set sets′ t v) i 0) u ≡ (member more u || member (getD sets i 0) u)
+    at i m u (yes c) _ =
+        subst (λ (k : ℕ). member (getD (set sets′ t v) k 0) u ≡ (member more u || member (getD sets k 0) u)) (sym c)
+        (ap (λ (y : ℕ). member y u) (getD-set-same sets′ t v 0 (omega (arith, j .size, names t (j .part t (low .here)))))
+        ∙ ap (λ X. X u) hv ∙ ap (λ (y : ℕ). member more u || member y u) (j .waiting t (low .here)))
+    at i m u (no o) (inl c) = absurd (o c)
+    at i m u (no o) (inr f) = ap (λ (y : ℕ). member y u) (getD-set-other sets′ t i v 0 o) ∙ j .joined i m f u
+
+pub joining-end : {mask more left : ℕ} {sets sets′ : List ℕ} → left ≡ 0 → Joining mask more sets sets′ left → Joined mask more sets sets′
+joining-end {mask} {more} {sets = sets} {sets′} z j = record { join = λ i u. at i u (true-or-false (member mask i)) }
+  where
+    at : (i u : ℕ) → (member mask i ≡ true) ⊎ (member mask i ≡ false) → member (getD sets′ i 0) u ≡ ((member mask i && member more u) || member (getD sets i 0) u)
+    at i u (inl t) = j .joined i t (no-members z i) u ∙ sym (ap (λ b. (b && member more u) || member (getD sets i 0) u) t)
+    at i u (inr f) = ap (λ (y : ℕ). member y u) (j .others i f) ∙ sym (ap (λ b. (b && member more u) || member (getD sets i 0) u) f)
+
+-- ---- a list emptied from its start
+
+pub record Clearing (n : ℕ) (l₀ l : List ℕ) (i : ℕ) : Type 0 where
+  pub inside : i ≤ n
+  pub size : length l ≡ length l₀
+  pub empty : (k : ℕ) → k < i → getD l k 0 ≡ 0
+
+pub clearing-start : (n : ℕ) (l : List ℕ) → Clearing n l l 0
+clearing-start n l = record { inside = omega arith; size = refl; empty = λ k h. absurd (not-suc-le-zero h) }
+
+pub clearing-next : {n : ℕ} {l₀ l : List ℕ} {i : ℕ} → Clearing n l₀ l i → i < n → n ≤ length l₀ → Clearing n l₀ (set l i 0) (i + 1)
+clearing-next {n} {l₀} {l} {i} w lt le = record { inside = omega arith; size = length-set l i 0 ∙ w .size; empty = λ k h. at k h (ℕ-discrete k i) }
+  where
+    at : (k : ℕ) → k < i + 1 → Dec (k ≡ i) → getD (set l i 0) k 0 ≡ 0
+    at k h (yes e) = ap (λ (k : ℕ). getD (set l i 0) k 0) e ∙ getD-set-same l i 0 0 (omega (arith, w .size))
+    at k h (no ne) = getD-set-other l i k 0 0 ne ∙ w .empty k (omega (arith, ne))
+
+-- ---- the cut of two transitions
+
+module _ {first second ranks : List ℕ} {r j k : ℕ} {rel x : List ℕ} (g : Compared first second ranks r j k rel x) where
+  -- what the answer says, with the rows that it was asked for
+  pub cut-found : {rel′ ws vs : List ℕ} {mask : ℕ}
+      → Rows ranks (states-of (table-of second)) r (targets (transition-at first j)) (targets (transition-at second k)) rel rel′
+      → ws ≡ weights (transition-at first j) → vs ≡ weights (transition-at second k) → CutOf ws vs rel′ mask
+      → Cut (round (table-of first) (table-of second) (pred r)) (transition-at first j) (transition-at second k) rel′ mask
+  cut-found {rel′} {mask = mask} w ew ev answer =
+      let m = transition-at first j in
+      let n = transition-at second k in
+      let R = between (round (table-of first) (table-of second) (pred r)) m n in
+      let a : CutOf (weights m) (weights n) rel′ mask = subst₂ (λ (p q : List ℕ). CutOf p q rel′ mask) ew ev answer in
+      let rows = related-round j k (g .ranked) (g .from-first) (g .from-second) r (g .later) w in
+      let same : (i l : ℕ) → i < length (weights m) → l < length (weights n) → R i l ≡ relates rel′ i l =
+      λ i l b c. sym (rows i l (omega (arith, weights-length m)) (omega (arith, weights-length n))) in
+      record {
+        fit = fits-agree R (relates rel′) (weights m) (weights n) same ∙ a .fit;
+        smallest = λ i b. let c : i < length (weights m) = omega (arith, weights-length m) in cut-agree R (relates rel′) (weights m) (weights n) same i c ∙ a .smallest i c;
+        no-others = λ i b. a .no-others i (omega (arith, weights-length m));
+        related = rows;
+      }
+
+-- ---- whether one transition fits another
+
+module _ (R : Relation) (m n : Transition) where
+  pub fits-other : (m .code ≡ n .code → ⊥) → false ≡ fits-step R m n
+  unfolding fits-step
+  fits-other d = sym (ap (λ b. b && fits? (between R m n) (weights m) (weights n)) (differ-eqb (m .code) (n .code) d))
+
+  pub fits-same : {rel : List ℕ} {mask : ℕ} → m .code ≡ n .code → Cut R m n rel mask → eqb mask 0 ≡ fits-step R m n
+  unfolding fits-step
+  fits-same e c = sym (ap (λ b. b && fits? (between R m n) (weights m) (weights n)) (is-true (eqb (m .code) (n .code)) (same-eqb e)) ∙ c .fit)
+
+  -- ---- what n adds to the sets of the targets of m
+
+  pub apart-other : (m .code ≡ n .code → ⊥) → (i u : ℕ) → apart-by R m i n u ≡ false
+  unfolding apart-by
+  apart-other d i u =
+      ap (λ b. (b && cut-of R m n i) && any (length (weights n)) (λ l. eqb (target-at n l) u && not (touched (length (weights m)) (between R m n) (cut-of R m n) l)))
+      (differ-eqb (m .code) (n .code) d)
+
+  apart-same : m .code ≡ n .code → (i u : ℕ)
+      → apart-by R m i n u ≡ (cut-of R m n i && any (length (weights n)) (λ l. eqb (target-at n l) u && not (touched (length (weights m)) (between R m n) (cut-of R m n) l)))
+  unfolding apart-by
+  apart-same e i u =
+      ap (λ b. (b && cut-of R m n i) && any (length (weights n)) (λ l. eqb (target-at n l) u && not (touched (length (weights m)) (between R m n) (cut-of R m n) l)))
+      (is-true (eqb (m .code) (n .code)) (same-eqb e))
+
+  pub none-added : (m .code ≡ n .code → ⊥) → (sets : List ℕ) → Added R m n sets sets
+  none-added d sets = record { join = λ i _ u. sym (ap (λ b. b || member (getD sets i 0) u) (apart-other d i u)) }
+
+  -- the mask names targets of m
+  pub cut-names : {rel : List ℕ} {mask : ℕ} → Cut R m n rel mask → (p : ℕ) → length (m .entries) ≤ p → Names mask p
+  cut-names c p le i t = ⊎-elim (λ l. omega arith) (λ l. absurd (neither t (c .no-others i l))) (below-or-not i (length (m .entries)))
+
+  module _ {rel : List ℕ} {mask : ℕ} (near more : ℕ) (code : m .code ≡ n .code) (c : Cut R m n rel mask) (rows : length (m .entries) ≤ length rel)
+      (touch : (l : ℕ) → member near l ≡ touched (length rel) (relates rel) (member mask) l)
+      (loose : (u : ℕ) → member more u ≡ any (length (n .entries)) (λ l. eqb (target-at n l) u && not (member near l))) where
+    near-is : (l : ℕ) → l < length (n .entries) → touched (length (weights m)) (between R m n) (cut-of R m n) l ≡ member near l
+    near-is l b =
+        any-wider (length (weights m)) (length rel) (λ i. cut-of R m n i && between R m n i l) (λ i. member mask i && relates rel i l) (omega (arith, weights-length m))
+        (λ i a. ap₂ _&&_ (c .smallest i (omega (arith, weights-length m))) (sym (c .related i l (omega (arith, weights-length m)) b)))
+        (λ i a. ap (λ v. v && relates rel i l) (c .no-others i (omega (arith, weights-length m))))
+        ∙ sym (touch l)
+
+    more-is : (u : ℕ) → any (length (weights n)) (λ l. eqb (target-at n l) u && not (touched (length (weights m)) (between R m n) (cut-of R m n) l)) ≡ member more u
+    more-is u =
+        ap (λ (q : ℕ). any q (λ l. eqb (target-at n l) u && not (touched (length (weights m)) (between R m n) (cut-of R m n) l))) (weights-length n)
+        ∙ any-ext (length (n .entries)) _ _ (λ l b. ap (λ v. eqb (target-at n l) u && not v) (near-is l b))
+        ∙ sym (loose u)
+
+    pub some-added : {sets sets′ : List ℕ} → Joined mask more sets sets′ → Added R m n sets sets′
+    some-added {sets} {sets′} w =
+        record {
+          join = λ i b u.
+              w .join i u
+              ∙ ap (λ v. v || member (getD sets i 0) u) (ap₂ _&&_ (sym (c .smallest i b)) (sym (more-is u)) ∙ sym (apart-same code i u));
+        }
+
+-- ---- the transitions of a state, by number
+
+-- none of those before number k passes
+pub record Scan (f : List ℕ) (t : ℕ) (test : Transition → Bool) (k : ℕ) : Type 0 where
+  pub low : start-of f t ≤ k
+  pub high : k ≤ start-of f (t + 1)
+  pub none : (l : ℕ) → start-of f t ≤ l → l < k → test (transition-at f l) ≡ false
+
+module _ (f : List ℕ) (l : Loaded f) (t : ℕ) (b : t < states-of (table-of f)) where
+  abbrev N : Table
+  N = table-of f
+
+  pub number-of : (k : ℕ) → start-of f t ≤ k → k < start-of f (t + 1) → k < transitions-of f
+  number-of k a h = omega (arith, start-bound f l (t + 1) (omega arith))
+
+  place-of : (k : ℕ) → start-of f t ≤ k → k < start-of f (t + 1) → k - start-of f t < length (steps N t)
+  place-of k a h = omega (arith, counts f l t b)
+
+  module _ (test : Transition → Bool) where
+    pub scan-start : Scan f t test (start-of f t)
+    scan-start = record { low = omega arith; high = starts-ascend f l t (t + 1) (omega arith) (omega arith); none = λ k a h. absurd (omega arith) }
+
+    pub scan-next : {k : ℕ} → Scan f t test k → k < start-of f (t + 1) → test (transition-at f k) ≡ false → Scan f t test (k + 1)
+    scan-next {k} s h e = record { low = omega (arith, s .low); high = omega arith; none = λ i a c. at i a c (ℕ-discrete i k) }
+      where
+        at : (i : ℕ) → start-of f t ≤ i → i < k + 1 → Dec (i ≡ k) → test (transition-at f i) ≡ false
+        at i a c (yes p) = ap (λ (i : ℕ). test (transition-at f i)) p ∙ e
+        at i a c (no p) = s .none i a (omega (arith, p))
+
+    pub scan-found : {k : ℕ} → Scan f t test k → k < start-of f (t + 1) → test (transition-at f k) ≡ true → true ≡ any-of test (steps N t)
+    scan-found {k} s h e =
+        sym (is-true (any-of test (steps N t)) (any-of-by test no-transition (steps N t) (k - start-of f t) (place-of k (s .low) h)
+        (subst T (sym e ∙ ap test (transition-numbered f l t k b (s .low) h)) tt)))
+
+    pub scan-end : {k : ℕ} → Scan f t test k → start-of f (t + 1) ≤ k → false ≡ any-of test (steps N t)
+    scan-end {k} s h = sym (is-false (any-of test (steps N t)) (λ x.
+        let w = any-of-at test no-transition (steps N t) x in
+        subst T (ap test (sym (transition-of f l t (w .0) b (w .1))) ∙ s .none (start-of f t + w .0) (omega arith) (omega (arith, counts f l t b, w .1))) (w .2)))
+
+-- ---- the first transition that fits none
+
+module _ (first second : List ℕ) (s t : ℕ) where
+  -- m fits some transition of t in the round before the pair's rank
+  abbrev pub matches : Transition → Bool
+  matches m = any-of (fits-step (before (table-of first) (table-of second) s t) m) (steps (table-of second) t)
+
+  -- those of s before number j do
+  pub record Trying (j : ℕ) : Type 0 where
+    pub low : start-of first s ≤ j
+    pub high : j < start-of first (s + 1)
+    pub all : (l : ℕ) → start-of first s ≤ l → l < j → T (matches (transition-at first l))
+
+  module _ (l : Loaded first) (p : Lost first second s t) where
+    abbrev some-fails : Chosen (table-of first) (table-of second) s t (chosen (table-of first) (table-of second) s t)
+    some-fails = chosen-law (table-of first) (table-of second) s t (p .left) (p .right) (p .fell)
+
+    -- not all of them do
+    not-all : (j : ℕ) → ((l : ℕ) → start-of first s ≤ l → l < j → T (matches (transition-at first l))) → j < start-of first (s + 1)
+    not-all j h =
+        let w = some-fails in
+        let k = w .place in
+        let here = transition-of first l s k (p .left) (w .here) in
+        go k (decLt j (start-of first (s + 1))) (λ b.
+        let q = any-of-at (fits-step (before (table-of first) (table-of second) s t) (transition (table-of first) s k)) no-transition (steps (table-of second) t)
+        (subst (λ (m : Transition). T (matches m)) here (h (start-of first s + k) (omega arith) b)) in
+        w .unfit (q .0) (q .1) (subst (λ (m : Transition). T (fits-step (before (table-of first) (table-of second) s t) m (transition (table-of second) t (q .0)))) (w .same) (q .2)))
+        (omega (arith, counts first l s (p .left), w .here))
+      where
+        go : (k : ℕ) → Dec (j < start-of first (s + 1)) → (start-of first s + k < j → ⊥) → start-of first s + k < start-of first (s + 1) → j < start-of first (s + 1)
+        go k (yes b) f c = b
+        go k (no b) f c = absurd (f (omega (arith, b)))
+
+    pub trying-start : Trying (start-of first s)
+    trying-start = record { low = omega arith; high = not-all (start-of first s) (λ l a h. absurd (omega arith)); all = λ l a h. absurd (omega arith) }
+
+    pub trying-next : {j : ℕ} → Trying j → matches (transition-at first j) ≡ true → Trying (j + 1)
+    trying-next {j} w e = record { low = omega (arith, w .low); high = not-all (j + 1) more; all = more }
+      where
+        at : (i : ℕ) → start-of first s ≤ i → i < j + 1 → Dec (i ≡ j) → T (matches (transition-at first i))
+        at i a c (yes q) = subst T (sym (ap (λ (i : ℕ). matches (transition-at first i)) q ∙ e)) tt
+        at i a c (no q) = w .all i a (omega (arith, q))
+
+        more : (i : ℕ) → start-of first s ≤ i → i < j + 1 → T (matches (transition-at first i))
+        more i a c = at i a c (ℕ-discrete i j)
+
+    pub trying-end : {j : ℕ} → Trying j → matches (transition-at first j) ≡ false → Choice first second s t j
+    trying-end {j} w e =
+        let here = transition-numbered first l s j (p .left) (w .low) (w .high) in
+        record {
+          low = w .low;
+          high = w .high;
+          is = here ∙ sym (chosen-at (table-of first) (table-of second) s t (j - start-of first s) (omega (arith, counts first l s (p .left), w .low, w .high))
+              (λ i c. subst (λ (m : Transition). T (matches m)) (transition-of first l s i (p .left) (omega (arith, counts first l s (p .left), w .high)))
+              (w .all (start-of first s + i) (omega arith) (omega (arith, w .low))))
+              (λ x. subst T (ap matches (sym here) ∙ e) x));
+        }
+
+-- ---- the sets, transition by transition
+
+or-swap : (a b c : Bool) → (a || (b || c)) ≡ (b || (a || c))
+or-swap true true c = refl
+or-swap true false c = refl
+or-swap false true c = refl
+or-swap false false c = refl
+
+any-of-take : (f : Transition → Bool) (ns : List Transition) (c : ℕ) → c < length ns → any-of f (take (suc c) ns) ≡ (f (getD ns c no-transition) || any-of f (take c ns))
+unfolding any-of
+any-of-take f [] c h = absurd (not-suc-le-zero h)
+any-of-take f (n ∷ ns) zero h = refl
+any-of-take f (n ∷ ns) (suc c) h = ap (λ b. f n || b) (any-of-take f ns c (le-of-suc-le-suc h)) ∙ or-swap (f n) (f (getD ns c no-transition)) (any-of f (take c ns))
+
+any-of-nothing : (f : Transition → Bool) → any-of f [] ≡ false
+unfolding any-of
+any-of-nothing f = refl
+
+apart-is : (R : Relation) (m : Transition) (ns : List Transition) (i u : ℕ) → any-of (λ n. apart-by R m i n u) ns ≡ apart R m ns i u
+unfolding apart
+apart-is R m ns i u = refl
+
+-- the sets hold what the transitions of t before number k add
+pub record Gathering (R : Relation) (m : Transition) (second : List ℕ) (t k : ℕ) (sets : List ℕ) : Type 0 where
+  pub low : start-of second t ≤ k
+  pub high : k ≤ start-of second (t + 1)
+  pub gathered : (i : ℕ) → i < length (m .entries) → (u : ℕ)
+      → member (getD sets i 0) u ≡ any-of (λ n. apart-by R m i n u) (take (k - start-of second t) (steps (table-of second) t))
+
+module _ (R : Relation) (m : Transition) (second : List ℕ) (l : Loaded second) (t : ℕ) (b : t < states-of (table-of second)) where
+  pub gathering-start : (sets : List ℕ) → ((i : ℕ) → i < length (m .entries) → getD sets i 0 ≡ 0) → Gathering R m second t (start-of second t) sets
+  gathering-start sets z =
+      record {
+        low = omega arith;
+        high = starts-ascend second l t (t + 1) (omega arith) (omega arith);
+        gathered = λ i a u.
+            ap (λ (y : ℕ). member y u) (z i a) ∙ member-none u
+            ∙ sym (ap (λ (c : ℕ). any-of (λ n. apart-by R m i n u) (take c (steps (table-of second) t))) (sub-self (start-of second t)) ∙ any-of-nothing (λ n. apart-by R m i n u));
+      }
+
+  pub gathering-next : {k : ℕ} {sets sets′ : List ℕ} → Gathering R m second t k sets → k < start-of second (t + 1) → Added R m (transition-at second k) sets sets′
+      → Gathering R m second t (k + 1) sets′
+  gathering-next {k} {sets} {sets′} g h a =
+      let c = k - start-of second t in
+      let e : k + 1 - start-of second t ≡ suc c = let q = g .low in omega arith in
+      record {
+        low = omega (arith, g .low);
+        high = omega arith;
+        gathered = λ i lt u.
+            a .join i lt u
+            ∙ ap₂ (λ (n : Transition) (v : Bool). apart-by R m i n u || v) (transition-numbered second l t k b (g .low) h) (g .gathered i lt u)
+            ∙ sym (ap (λ (c : ℕ). any-of (λ n. apart-by R m i n u) (take c (steps (table-of second) t))) e
+            ∙ any-of-take (λ n. apart-by R m i n u) (steps (table-of second) t) c (omega (arith, counts second l t b, g .low)));
+      }
+
+  pub gathering-end : {k : ℕ} {sets : List ℕ} → Gathering R m second t k sets → start-of second (t + 1) ≤ k → (i : ℕ) → i < length (m .entries)
+      → member (getD sets i 0) ≡ apart R m (steps (table-of second) t) i
+  gathering-end {k} g h i lt =
+      fun-ext (λ u.
+      g .gathered i lt u
+      ∙ ap (any-of (λ n. apart-by R m i n u)) (take-all (k - start-of second t) (steps (table-of second) t) (omega (arith, counts second l t b, g .high)))
+      ∙ apart-is R m (steps (table-of second) t) i u)

@@ -1,0 +1,49 @@
+-- `choice::rank_at` meets its contract. Assumes nothing.
+use mathlib.Core.List.{List}
+use mathlib.Core.Path.{_≡_, ap}
+use Prim.Native.Nat.{ℕ, _+_, _*_, _≤_, _<_}
+use native.Mathlib.Omega.{arith}
+use native.Mathlib.Nat.{mul-le-mul-left}
+use lib.ListN.{getD}
+use borrow.Author.Needs.{needs}
+use Rattle.simulation.specs.Table.{states-of}
+use Rattle.form.proofs.FormLaws.{limits}
+use Rattle.form.specs.Form.{Loaded, table-of}
+use Rattle.choice.proofs.rank_at.Statement.{statement}
+use Rattle.choice.proofs.rank_at.Tie as tie
+
+small : (f : List ℕ) (s n : ℕ) → Loaded f → s < 64 → n ≡ states-of (table-of f) → s * n < 4096
+small f s n l a e = omega (arith, mul-le-mul-left s (let h : n ≤ 64 = omega (arith, limits f l .states-few) in h))
+
+states-requires : tie.Need-states-requires
+states-requires c κs = search needs
+
+mul-result : tie.Need-mul-result
+mul-result c =
+    let entry = c .before .before .before in
+    record { fits = omega (arith, small (entry .args .second .now) (entry .args .s) _ (entry .pre .0) (entry .pre .1) (c .states .ensures)) }
+
+add-result : tie.Need-add-result
+add-result c =
+    let entry = c .before .before .before in
+    record { fits = omega (arith, small (entry .args .second .now) (entry .args .s) _ (entry .pre .0) (entry .pre .1) (c .states .ensures), entry .pre .2) }
+
+mul-result-2 : tie.Need-mul-result-2
+mul-result-2 c =
+    let entry = c .before .before .before in
+    record { fits = omega (arith, small (entry .args .second .now) (entry .args .s) _ (entry .pre .0) (entry .pre .1) (c .states .ensures), entry .pre .2) }
+
+shared-slice-read-result : tie.Need-shared-slice-read-result
+shared-slice-read-result c =
+    let entry = c .before .before .before .before in
+    omega (arith, entry .pre .3, ap (λ (n : ℕ). entry .args .s * n) (c .before .states .ensures))
+
+returns : tie.Need-returns
+returns c =
+    let entry = c .before .before .before .before in
+    ap (λ (n : ℕ). getD (entry .args .ranks .now) (entry .args .s * n + entry .args .t) 0) (c .before .states .ensures)
+
+pub rank-at-spec : {M : Type 1} → statement M
+rank-at-spec =
+    tie.close
+    (tie.spec states-requires mul-result add-result mul-result-2 shared-slice-read-result returns)

@@ -1,0 +1,98 @@
+// The check of two loaded tables: ranks for all pairs, then a flow or a tree for the chosen one.
+// What the array lent as room holds is free. It is made of ones, which the compiler writes in words, where zeros become a call of memset.
+use answer::Answer;
+use ranking;
+ghost use mathlib.Core.Path.{_≡_};
+ghost use mathlib.Core.Bool.{cond, _||_};
+ghost use Prim.Native.Nat.{_*_, _≤_, _<_};
+ghost use lib.Dec.{eqb, leb};
+ghost use lib.ListN.{length};
+ghost use Rattle.simulation.specs.Table.{states-of};
+ghost use Rattle.simulation.specs.Round.{pairs};
+ghost use Rattle.form.specs.Form.{table-of, Loaded};
+ghost use Rattle.compare.specs.Outcome.{lent, left};
+ghost use Rattle.compare.specs.Steps.{found-answer, Compared};
+
+// The answer of an accepted call, but for what is written.
+fn found(ranks: &[u16], place: usize, rounds: u16, kept: u16) -> Answer
+    requires { ⌜ (place < length (now ranks)) × (0 < length (now ranks)) ⌝ }
+    ensures { λ r. ⌜ r ≡ found-answer (now (ranks .entry)) place rounds kept ⌝ }
+{
+    Answer {
+        number: 0,
+        table: 0,
+        needed: 0,
+        rounds: rounds as u32,
+        kept: kept as u32,
+        verdict: one_if_zero(ranks[0]),
+        rank: ranks[place] as u32,
+        written: 0,
+    }
+}
+
+fn one_if_zero(rank: u16) -> u32
+    ensures { λ r. ⌜ r ≡ cond (eqb rank 0) 1 0 ⌝ }
+{
+    if rank == 0 { 1 } else { 0 }
+}
+
+// Ranks for all pairs, then what there is to show of (s, t).
+fn show(
+    first: &[u16],
+    second: &[u16],
+    s: usize,
+    t: usize,
+    ranks: &mut [u16],
+    flow: &mut [u8],
+    tree: &mut [u8],
+) -> Answer
+    requires { ⌜ Loaded (now first) × Loaded (now second) × (s < states-of (table-of (now first))) × (t < states-of (table-of (now second)))
+        × (pairs (table-of (now first)) (table-of (now second)) ≤ length (now ranks)) ⌝ }
+    ensures { λ r. ⌜ Compared (table-of (now (first .entry))) (table-of (now (second .entry))) s t
+        (lent (now (ranks .entry)) (now (flow .entry)) (now (tree .entry))) (left r (lent (now (ranks .exit)) (now (flow .exit)) (now (tree .exit)))) ⌝ }
+{
+    let mut x = [1u32; 4096];
+    let r = ranking::rank(first, second, ranks, &mut x);
+    let place = s * form::states(second) + t;
+    let a = found(ranks, place, r.rounds, r.kept);
+    if ranks[place] == 0 {
+        return witness::show_flow(first, second, ranks, s, t, a, &mut x, flow);
+    }
+    witness::show_tree(first, second, ranks, s, t, a, &mut x, tree)
+}
+
+// Whether the pair lies outside the p × q pairs.
+fn is_outside(s: usize, t: usize, p: usize, q: usize) -> bool
+    ensures { λ r. ⌜ r ≡ (leb p s || leb q t) ⌝ }
+{
+    p <= s || q <= t
+}
+
+// The check of two loaded tables. A pair outside is refused before short ranks.
+pub fn compare_tables(
+    first: &[u16],
+    second: &[u16],
+    s: usize,
+    t: usize,
+    ranks: &mut [u16],
+    flow: &mut [u8],
+    tree: &mut [u8],
+) -> Answer
+    requires { ⌜ Loaded (now first) × Loaded (now second) ⌝ }
+    ensures { λ r. ⌜ Compared (table-of (now (first .entry))) (table-of (now (second .entry))) s t
+        (lent (now (ranks .entry)) (now (flow .entry)) (now (tree .entry))) (left r (lent (now (ranks .exit)) (now (flow .exit)) (now (tree .exit)))) ⌝ }
+{
+    let p = form::states(first);
+    let q = form::states(second);
+    let pairs = p * q;
+    let needed = pairs as u32;
+    let outside = is_outside(s, t, p, q);
+    let short = ranks.len() < pairs;
+    if outside {
+        return Answer::refused(11, 0, 0);
+    }
+    if short {
+        return Answer::refused(20, 0, needed);
+    }
+    show(first, second, s, t, ranks, flow, tree)
+}

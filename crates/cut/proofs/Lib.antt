@@ -1,0 +1,3 @@
+-- Laws of the cut.
+-- Assumes nothing.
+pub mod QuickLaws

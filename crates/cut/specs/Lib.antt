@@ -1,0 +1,3 @@
+-- What settles a cut without a flow.
+-- Assumes nothing.
+pub mod Quick

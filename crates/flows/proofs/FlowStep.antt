@@ -1,0 +1,72 @@
+-- The flow of one transition: what its writer is asked, and what it leaves.
+-- Assumes nothing.
+use mathlib.Core.Path.{_≡_, sym, _∙_, ap, subst}
+use mathlib.Core.List.{List}
+use Prim.Native.Nat.{ℕ, _+_, _*_, _≤_, _<_}
+use native.Mathlib.Nat.{mul-le-mul-left}
+use native.Mathlib.Omega.{arith}
+use lib.ListN.{length, getD}
+use Rattle.simulation.specs.Table.{Transition, Table, targets, states-of, transition}
+use Rattle.form.specs.Form.{Loaded, table-of, start-of, transitions-of, transition-at}
+use Rattle.form.proofs.Sound.{few-targets}
+use Rattle.form.proofs.FormLaws.{states-count, limits, limited-at, targets-length, distribution-at, transition-number, transition-of}
+use Rattle.matrix.specs.Matrix.{cell}
+use Rattle.buffer.specs.Buffer.{Filled}
+use Rattle.flows.specs.Flow.{flow-of, step-room}
+use Rattle.flows.specs.FlowSteps.{SharesKept, Records, Searched, Found, Shown}
+
+-- targets are states, of which there are at most 64
+pub target-byte : (f : List ℕ) → Loaded f → (j : ℕ) → j < transitions-of f → (k : ℕ) → k < length (targets (transition-at f j))
+    → getD (targets (transition-at f j)) k 0 < 256
+target-byte f l j h k lt = omega (arith, distribution-at f l j h .in-range k (omega (arith, targets-length (transition-at f j))), limits f l .states-few)
+
+-- at most as many targets as states
+pub few-second : (g : List ℕ) → Loaded g → (j : ℕ) → j < transitions-of g → length (targets (transition-at g j)) ≤ states-of (table-of g)
+few-second g l j h = omega (arith, few-targets (states-of (table-of g)) (transition-at g j) (distribution-at g l j h), states-count g, targets-length (transition-at g j))
+
+-- so the flow of m over n has room
+pub room-enough : (N : Table) (m n : Transition) → length (targets n) ≤ states-of N → 3 + length (targets m) * (length (targets n) * 6) ≤ step-room N m
+room-enough N m n h =
+    let a = targets-length m in
+    let b : 6 * length (m .entries) * length (targets n) ≤ 6 * length (m .entries) * states-of N = mul-le-mul-left (6 * length (m .entries)) h in
+    let c : length (targets m) * (length (targets n) * 6) ≡ 6 * length (m .entries) * length (targets n) = ap (λ (p : ℕ). p * (length (targets n) * 6)) a ∙ omega arith in
+    omega arith
+
+module _ {f g ranks x x′ : List ℕ} {i t r : ℕ} (q : Searched f g ranks x i t) (found : Found f g i t r x x′) where
+  module _ {start : ℕ} (e : start ≡ start-of g t) where
+    pub step-number : start + r < transitions-of g
+    step-number = omega (arith, transition-number g (q .ready .ranked .second-loaded) t r (q .second) (found .below))
+
+    step-is : transition-at g (start + r) ≡ transition (table-of g) t r
+    step-is = ap (λ (k : ℕ). transition-at g (k + r)) e ∙ transition-of g (q .ready .ranked .second-loaded) t r (q .second) (found .below)
+
+    module _ {mt nt : List ℕ} (em : mt ≡ targets (transition-at f i)) (en : nt ≡ targets (transition-at g (start + r))) where
+      pub step-asked : {room : ℕ} → step-room (table-of g) (transition-at f i) ≤ room → (r < 256) × Records mt nt x′ × (3 + length mt * (length nt * 6) ≤ room)
+      step-asked {room} h =
+          let m = transition-at f i in
+          let n = transition-at g (start + r) in
+          let lm = limited-at f (q .ready .ranked .first-loaded) i (q .first) in
+          let ln = limited-at g (q .ready .ranked .second-loaded) (start + r) step-number in (
+            omega (arith, step-number, limits g (q .ready .ranked .second-loaded) .transitions-few),
+            subst (λ l. Records l nt x′) (sym em) (subst (λ l. Records (targets m) l x′) (sym en) (record {
+              rows = omega (arith, lm .few, lm .paired);
+              few = omega (arith, ln .few, ln .paired);
+              sources = target-byte f (q .ready .ranked .first-loaded) i (q .first);
+              targets = target-byte g (q .ready .ranked .second-loaded) (start + r) step-number;
+              cells = omega (arith, q .ready .cells, found .size);
+            })),
+            subst (λ l. 3 + length l * (length nt * 6) ≤ room) (sym em) (subst (λ l. 3 + length (targets m) * (length l * 6) ≤ room) (sym en)
+                (omega (arith, room-enough (table-of g) m n (few-second g (q .ready .ranked .second-loaded) (start + r) step-number)))),
+          )
+
+      pub step-shown : {w : ℕ} {old new : List ℕ} → Filled (flow-of r mt nt (cell x′)) w old new → Shown (table-of f) (table-of g) (transition-at f i) t w x x′ old new
+      step-shown {w} {old} {new} p =
+          let m = transition-at f i in
+          let there : Filled (flow-of r (targets m) (targets (transition (table-of g) t r)) (cell x′)) w old new =
+          subst (λ n. Filled (flow-of r (targets m) (targets n) (cell x′)) w old new) step-is
+          (subst (λ l. Filled (flow-of r (targets m) l (cell x′)) w old new) en (subst (λ l. Filled (flow-of r l nt (cell x′)) w old new) em p)) in
+          record {
+            shares = subst (λ (k : ℕ). SharesKept (table-of f) (table-of g) m (transition (table-of g) t k) (cell x′)) (found .is) (found .shares);
+            filled = subst (λ (k : ℕ). Filled (flow-of k (targets m) (targets (transition (table-of g) t k)) (cell x′)) w old new) (found .is) there;
+            size = found .size;
+          }

@@ -1,0 +1,196 @@
+-- The flows of a pair, transition by transition.
+-- Assumes nothing.
+use mathlib.Core.Path.{_≡_, refl, sym, _∙_, ap, subst}
+use mathlib.Core.Bool.{cond}
+use mathlib.Core.List.{List, [], _∷_}
+use Prim.Native.Nat.{ℕ, suc, _+_, _-_, _≤_, _<_}
+use native.Mathlib.Nat.{not-suc-le-zero}
+use native.Mathlib.Decide.{ℕ-discrete}
+use native.Mathlib.Omega.{arith}
+use lib.Dec.{T, eqb}
+use lib.ListN.{length, set, length-set}
+use borrow.Author.Tests.{eq-eqb, ne-eqb}
+use Rattle.simulation.specs.Fit.{Amounts}
+use Rattle.simulation.specs.Table.{Table, targets, states-of, steps, transition}
+use Rattle.simulation.specs.Round.{fits-step, pairs}
+use Rattle.simulation.proofs.Simulation.Rounds.{in-matched}
+use Rattle.simulation.proofs.Simulation.Greatest.{kept-in}
+use Rattle.form.specs.Form.{table-of, start-of, transitions-of, transition-at}
+use Rattle.form.proofs.FormLaws.{limits, counts, start-bound, transition-number, transition-of}
+use Rattle.matrix.specs.Matrix.{cell}
+use Rattle.buffer.specs.Buffer.{Filled}
+use Rattle.flows.specs.Flow.{count, one-flow, place-of, partner, step-room, Right, flow-bytes, flow-room}
+use Rattle.relate.specs.Ranked.{kept-relation}
+use Rattle.flows.specs.FlowSteps.{SharesKept, Sought, Searched, Shown, Chosen, Flowed}
+use Rattle.buffer.proofs.Buffer.{part, back}
+use Rattle.flows.proofs.Pieces.{Plan, Going, going-start, going-within, going-room, going-fits, going-next, going-end, going-ext, stored, stored-past}
+use Rattle.flows.proofs.FlowBytes.{flow-length}
+use Rattle.flows.proofs.FlowPlace.{partner-fits}
+use Rattle.flows.proofs.FlowStep.{few-second, room-enough}
+
+-- the flow of the transition k of s
+abbrev pub flow-at : (M N : Table) (s t : ℕ) (xs : ℕ → Amounts) → ℕ → List ℕ
+flow-at M N s t xs k = one-flow (place-of M N s t k) (transition M s k) (partner M N s t k) (xs k)
+
+abbrev pub head-at : Table → ℕ → List ℕ
+head-at M s = length (steps M s) ∷ []
+
+-- the flows of the first k transitions are written, with amounts that are right
+pub record Flowing (M N : Table) (s t : ℕ) (old : List ℕ) (k at : ℕ) (now : List ℕ) : Type 0 where
+  pub amounts : ℕ → Amounts
+  pub right : (l : ℕ) → l < k → SharesKept M N (transition M s l) (partner M N s t l) (amounts l)
+  pub going : Going (head-at M s) (flow-at M N s t amounts) (length (steps M s)) old k at now
+
+-- amounts for one transition more
+with-amounts : (ℕ → Amounts) → ℕ → Amounts → ℕ → Amounts
+with-amounts xs k x l = cond (eqb l k) x (xs l)
+
+with-same : (xs : ℕ → Amounts) (k : ℕ) (x : Amounts) → with-amounts xs k x k ≡ x
+unfolding with-amounts
+with-same xs k x = ap (λ b. cond b x (xs k)) (eq-eqb k k refl)
+
+with-other : (xs : ℕ → Amounts) (k : ℕ) (x : Amounts) (l : ℕ) → (l ≡ k → ⊥) → with-amounts xs k x l ≡ xs l
+unfolding with-amounts
+with-other xs k x l d = ap (λ b. cond b x (xs l)) (ne-eqb l k d)
+
+-- a kept pair of two tables, and where the transitions of s start
+pub record Pair (f g ranks x : List ℕ) (s t start : ℕ) : Type 0 where
+  pub chosen : Chosen f g ranks x s t
+  pub from : start ≡ start-of f s
+
+module _ {f g ranks x : List ℕ} {s t start : ℕ} (p : Pair f g ranks x s t start) where
+  abbrev q : Chosen f g ranks x s t
+  q = p .chosen
+
+  abbrev M : Table
+  M = table-of f
+
+  abbrev N : Table
+  N = table-of g
+
+  abbrev n : ℕ
+  n = length (steps M s)
+
+  -- the count of the transitions of s, and their numbers
+  pub count-is : {end : ℕ} → end ≡ start-of f (s + 1) → end - start ≡ n
+  count-is e = omega (arith, counts f (q .ready .ranked .first-loaded) s (q .first), p .from)
+
+  pub count-ordered : {end : ℕ} → end ≡ start-of f (s + 1) → start ≤ end
+  count-ordered e = omega (arith, counts f (q .ready .ranked .first-loaded) s (q .first), p .from)
+
+  pub count-few : n ≤ 128
+  count-few =
+      omega (
+        arith,
+        counts f (q .ready .ranked .first-loaded) s (q .first),
+        start-bound f (q .ready .ranked .first-loaded) (s + 1) (omega (arith, q .first)),
+        limits f (q .ready .ranked .first-loaded) .transitions-few,
+      )
+
+  number-below : (k : ℕ) → k < n → start + k < transitions-of f
+  number-below k lt = omega (arith, transition-number f (q .ready .ranked .first-loaded) s k (q .first) lt, p .from)
+
+  pub number-fits : (k : ℕ) → k < n → start + k < 128
+  number-fits k lt = omega (arith, number-below k lt, limits f (q .ready .ranked .first-loaded) .transitions-few)
+
+  step-is : (k : ℕ) → k < n → transition-at f (start + k) ≡ transition M s k
+  step-is k lt = ap (λ (i : ℕ). transition-at f (i + k)) (p .from) ∙ transition-of f (q .ready .ranked .first-loaded) s k (q .first) lt
+
+  -- each transition is fitted by some transition of t
+  sought-at : (k : ℕ) → k < n → Sought f g (start + k) t
+  sought-at k lt =
+      let r = in-matched M N (pairs M N) s t (kept-in M N (suc (pairs M N)) s t (q .first) (q .second) (q .kept)) k lt in
+      (r .0, r .1, subst (λ m. T (fits-step (kept-relation M N) m (transition N t (r .0)))) (sym (step-is k lt)) (r .2))
+
+  -- what is asked of its flow, for amounts of the same length
+  pub step-asked : (y : List ℕ) (k : ℕ) → k < n → length y ≡ length x → Searched f g ranks y (start + k) t
+  step-asked y k lt e =
+      record {
+        ready = record { ranked = q .ready .ranked; cells = omega (arith, q .ready .cells) };
+        first = number-below k lt;
+        second = q .second;
+        some = sought-at k lt;
+      }
+
+  -- the flow of a transition has room
+  pub most : (xs : ℕ → Amounts) (k : ℕ) → k < n → length (flow-at M N s t xs k) ≤ step-room N (transition M s k)
+  most xs k lt =
+      let r = partner-fits M N s t (q .first) (q .second) (q .kept) k lt in
+      let few : length (targets (partner M N s t k)) ≤ states-of N =
+      subst (λ m. length (targets m) ≤ states-of N) (transition-of g (q .ready .ranked .second-loaded) t (place-of M N s t k) (q .second) (r .0))
+      (few-second g (q .ready .ranked .second-loaded) (start-of g t + place-of M N s t k)
+      (transition-number g (q .ready .ranked .second-loaded) t (place-of M N s t k) (q .second) (r .0))) in
+      omega (
+        arith,
+        flow-length (place-of M N s t k) (targets (transition M s k)) (targets (partner M N s t k)) (xs k),
+        room-enough N (transition M s k) (partner M N s t k) few,
+      )
+
+  pub flow-plan : (xs : ℕ → Amounts) (old : List ℕ) → flow-room M N s ≤ length old → Plan (head-at M s) (flow-at M N s t xs) (λ k. step-room N (transition M s k)) n old
+  unfolding flow-room
+  flow-plan xs old room = record { room = room; most = most xs }
+
+  module _ (old : List ℕ) (room : flow-room M N s ≤ length old) where
+    flowing-start : Filled (head-at M s) 1 old old → Flowing M N s t old 0 1 old
+    flowing-start w = record { amounts = λ k i j. 0; right = λ l lt. absurd (not-suc-le-zero lt); going = going-start (flow-plan (λ k i j. 0) old room) w }
+
+    module _ {k at : ℕ} {now : List ℕ} (w : Flowing M N s t old k at now) where
+      pub flowing-within : at ≤ length now
+      flowing-within = going-within (flow-plan (w .amounts) old room) (w .going)
+
+      module _ (lt : k < n) where
+        pub flowing-room : step-room N (transition-at f (start + k)) ≤ length (part at now)
+        flowing-room = subst (λ m. step-room N m ≤ length (part at now)) (sym (step-is k lt)) (going-room (flow-plan (w .amounts) old room) (w .going) lt)
+
+        module _ {r : ℕ} {y y′ ys : List ℕ} (d : Shown M N (transition-at f (start + k)) t r y y′ (part at now) ys) where
+          shown : Shown M N (transition M s k) t r y y′ (part at now) ys
+          shown = subst (λ m. Shown M N m t r y y′ (part at now) ys) (step-is k lt) d
+
+          abbrev more : ℕ → Amounts
+          more = with-amounts (w .amounts) k (cell y′)
+
+          pub flowing-fits : at + r ≤ length old
+          flowing-fits =
+              omega (arith, going-fits (flow-plan (w .amounts) old room) (w .going) lt, shown .filled .count, most (λ _. cell y′) k lt)
+
+          pub flowing-next : Flowing M N s t old (k + 1) (at + r) (back at now ys)
+          flowing-next = record {
+            amounts = more;
+            right = λ l lt. at-place l lt (ℕ-discrete l k);
+            going =
+                going-next (flow-plan more old room)
+                (going-ext (flow-at M N s t more) (λ l lt. ap (λ z. one-flow (place-of M N s t l) (transition M s l) (partner M N s t l) z)
+                (sym (with-other (w .amounts) k (cell y′) l (λ e. omega arith)))) (w .going))
+                lt
+                (subst (λ z. Filled (one-flow (place-of M N s t k) (transition M s k) (partner M N s t k) z) r (part at now) ys)
+                (sym (with-same (w .amounts) k (cell y′))) (shown .filled));
+          }
+            where
+              at-place : (l : ℕ) → l < k + 1 → Dec (l ≡ k) → SharesKept M N (transition M s l) (partner M N s t l) (more l)
+              at-place l lt (yes e) =
+                  subst (λ (i : ℕ). SharesKept M N (transition M s i) (partner M N s t i) (more i)) (sym e)
+                  (subst (λ z. SharesKept M N (transition M s k) (partner M N s t k) z) (sym (with-same (w .amounts) k (cell y′))) (shown .shares))
+              at-place l lt (no e) =
+                  subst (λ z. SharesKept M N (transition M s l) (partner M N s t l) z) (sym (with-other (w .amounts) k (cell y′) l e)) (w .right l (omega arith))
+
+  -- the first byte is the count
+  module _ (old : List ℕ) (room : flow-room M N s ≤ length old) {v : ℕ} (e : v ≡ n) where
+    pub room-kept : flow-room M N s ≤ length (set old 0 v)
+    room-kept = subst (λ (z : ℕ). flow-room M N s ≤ z) (sym (length-set old 0 v)) room
+
+    pub room-some : 0 < length old
+    unfolding flow-room
+    room-some = omega (arith, room)
+
+    pub flowing-begin : Flowing M N s t (set old 0 v) 0 1 (set old 0 v)
+    flowing-begin = flowing-start (set old 0 v) room-kept (subst (λ (z : ℕ). Filled (z ∷ []) 1 (set old 0 v) (set old 0 v)) e (stored v old room-some))
+
+    pub flowing-end : {k at : ℕ} {now : List ℕ} → Flowing M N s t (set old 0 v) k at now → n ≤ k → Flowed M N s t at old now
+    unfolding Right flow-bytes
+    flowing-end {k} {at} {now} w le = record {
+      amounts = w .amounts;
+      right = λ l lt. w .right l (omega arith);
+      filled =
+          stored-past n at _ old now
+          (subst (λ (z : ℕ). Filled (flow-bytes M N s t (w .amounts)) at (set old 0 z) now) e (going-end (flow-plan (w .amounts) (set old 0 v) room-kept) (w .going) le));
+    }

@@ -1,0 +1,13 @@
+-- What the proofs of several functions use.
+-- Assumes nothing.
+pub mod Pieces
+pub mod Again
+pub mod RecordBytes
+pub mod FlowBytes
+pub mod FlowRow
+pub mod FlowFits
+pub mod FlowPlace
+pub mod FlowSearch
+pub mod FlowStep
+pub mod FlowWhole
+pub mod FlowRoom

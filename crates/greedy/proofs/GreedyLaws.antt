@@ -1,0 +1,206 @@
+-- The greedy start's loops: the columns of a row, and the rows.
+-- Assumes nothing.
+use mathlib.Core.Path.{_≡_, refl, sym, ap, ap₂, _∙_, subst}
+use mathlib.Core.Bool.{Bool, true, false, not}
+use mathlib.Core.List.{List}
+use mathlib.Core.Logic.{_≢_, ⊎-elim}
+use Prim.Native.Nat.{ℕ, zero, suc, _+_, _-_, _≤_, _<_, min}
+use native.Mathlib.Decide.{ℕ-discrete}
+use native.Mathlib.Omega.{arith}
+use lib.Dec.{eqb}
+use lib.ListN.{getD}
+use borrow.Author.Tests.{ne-eqb}
+use Rattle.simulation.specs.Sum.{sum, when}
+use Rattle.relation.specs.Mask.{member, without-member, both, Lowest}
+use Rattle.relation.proofs.Mask.{below-or-not}
+use Rattle.matrix.specs.Matrix.{cell, delta, row-sum, column-sum, Adds}
+use Rattle.matrix.specs.Problem.{relates}
+use Rattle.matrix.specs.Masks.{MaskOf}
+use Rattle.matrix.specs.Flow.{Preserves}
+use Rattle.greedy.specs.Greedy.{Greedy, RowFilled}
+use Rattle.matrix.proofs.MatrixLaws.{delta-same, sum-next, row-same, column-same, row-none, column-none, row-adds, adds-row, adds-column}
+use Rattle.matrix.proofs.MaskedLaws.{neither, both-at, both-out, drop-at, drop-out, no-members}
+
+when-none : (c : Bool) (n : ℕ) → (c ≡ true → n ≡ 0) → when c n ≡ 0
+when-none true n h = h refl
+when-none false n h = refl
+
+when-true : {c : Bool} (n : ℕ) → c ≡ true → n ≡ when c n
+when-true n e = sym (ap (λ (c : Bool). when c n) e)
+
+-- less of one has no more than nothing
+when-less : (c : Bool) (m m′ n : ℕ) → m′ ≤ m → when c (min m n) ≡ 0 → when c (min m′ n) ≡ 0
+when-less true m m′ n h e = omega arith
+when-less false m m′ n h e = refl
+
+least : (c : Bool) {m m′ n n′ : ℕ} → m ≡ m′ → n ≡ n′ → when c (min m n) ≡ when c (min m′ n′)
+least c = ap₂ (λ (m n : ℕ). when c (min m n))
+
+-- terms that are 0 add nothing
+sum-idle : (k n : ℕ) (f : ℕ → ℕ) → ((j : ℕ) → k ≤ j → j < k + n → f j ≡ 0) → sum (k + n) f ≡ sum k f
+sum-idle k zero f h = ap (λ (m : ℕ). sum m f) (omega arith)
+sum-idle k (suc n) f h = let e : k + suc n ≡ (k + n) + 1 = omega arith in
+    ap (λ (m : ℕ). sum m f) e ∙ sum-next (k + n) f ∙ omega (arith, h (k + n) (omega arith) (omega arith), sum-idle k n f (λ j l m. h j l (omega arith)))
+
+sum-idle-to : (k n : ℕ) (f : ℕ → ℕ) → k ≤ n → ((j : ℕ) → k ≤ j → j < n → f j ≡ 0) → sum n f ≡ sum k f
+sum-idle-to k n f l h = let e : n ≡ k + (n - k) = omega arith in
+    ap (λ (m : ℕ). sum m f) e ∙ sum-idle k (n - k) f (λ j a b. h j a (omega arith))
+
+row-idle : (k n i : ℕ) (x : List ℕ) → k ≤ n → ((j : ℕ) → k ≤ j → j < n → cell x i j ≡ 0) → row-sum n x i ≡ row-sum k x i
+unfolding row-sum
+row-idle k n i x l h = sum-idle-to k n (λ j. cell x i j) l h
+
+column-idle : (k n j : ℕ) (x : List ℕ) → k ≤ n → ((i : ℕ) → k ≤ i → i < n → cell x i j ≡ 0) → column-sum n x j ≡ column-sum k x j
+unfolding column-sum
+column-idle k n j x l h = sum-idle-to k n (λ i. cell x i j) l h
+
+-- row i is filled up to column `next`; a column from there on that is not left gets nothing
+pub record Filling (q i : ℕ) (rel a₀ b₀ x₀ x a b : List ℕ) (left : ℕ) : Type 0 where
+  pub next : ℕ
+  pub each : (j : ℕ) → j < next → j < q → cell x i j ≡ when (relates rel i j) (min (getD a₀ i 0 - row-sum j x i) (getD b₀ j 0))
+  pub clean : (j : ℕ) → next ≤ j → j < q → cell x i j ≡ 0
+  pub same : (j : ℕ) → next ≤ j → getD b j 0 ≡ getD b₀ j 0
+  pub part : (j : ℕ) → member left j ≡ true → (j < q) × (relates rel i j ≡ true)
+  pub later : (j : ℕ) → member left j ≡ true → next ≤ j
+  pub idle : (j : ℕ) → next ≤ j → j < q → member left j ≡ false → when (relates rel i j) (min (getD a i 0) (getD b₀ j 0)) ≡ 0
+  pub sent : row-sum q x i + getD a i 0 ≡ getD a₀ i 0
+  pub others : (k j : ℕ) → k ≢ i → j < 64 → cell x k j ≡ cell x₀ k j
+
+pub filling-none : {q i : ℕ} {rel x a b : List ℕ} {free left : ℕ} → ((j : ℕ) → j < q → cell x i j ≡ 0) → MaskOf q (λ j. getD b j 0) free
+    → member left ≡ both (member (getD rel i 0)) (member free) → Filling q i rel a b x x a b left
+filling-none {q} {i} {rel} {x} {a} {b} {free} {left} z m e = record {
+  next = 0;
+  each = λ j l. absurd (omega arith);
+  clean = λ j l h. z j h;
+  same = λ j l. refl;
+  part = λ j t. let w = both-at (member (getD rel i 0)) (member free) j e t in (m .below j (w .1), w .0);
+  later = λ j t. omega arith;
+  idle = λ j l h t. when-none (relates rel i j) (min (getD a i 0) (getD b j 0)) (λ r. elim (ℕ-discrete (getD b j 0) 0) [
+    | yes c ↦ omega arith
+    | no o ↦ absurd (neither (m .there j h o) (both-out (member (getD rel i 0)) (member free) j e t r))
+  ]);
+  sent = omega (arith, row-none q i x z);
+  others = λ k j o l. refl;
+}
+
+module _ {q i : ℕ} {rel a₀ b₀ x₀ x a b : List ℕ} {left : ℕ} (s : Filling q i rel a₀ b₀ x₀ x a b left) where
+  -- what the row has left is what it had without the columns before j
+  so-far : (j : ℕ) → s .next ≤ j → j < q → getD a i 0 ≡ getD a₀ i 0 - row-sum j x i
+  so-far j l h = omega (arith, s .sent, row-idle j q i x (omega arith) (λ k m n. s .clean k (omega arith) n))
+
+  skipped : (j : ℕ) → s .next ≤ j → j < q → member left j ≡ false → cell x i j ≡ when (relates rel i j) (min (getD a₀ i 0 - row-sum j x i) (getD b₀ j 0))
+  skipped j l h t = s .clean j l h ∙ sym (s .idle j l h t) ∙ least (relates rel i j) (so-far j l h) refl
+
+  pub filling-end : left ≡ 0 → RowFilled q i rel a₀ b₀ x₀ x
+  filling-end z = record {
+    each = λ j h. ⊎-elim (λ l. s .each j l h) (λ l. skipped j l h (no-members z j)) (below-or-not j (s .next));
+    others = s .others;
+  }
+
+  -- the lowest column that is left gets as much as both have
+  module _ {j : ℕ} (l : Lowest (member left) j) (w : q ≤ 64) {x′ : List ℕ} (t : Adds x x′ i j (min (getD a i 0) (getD b j 0))) where
+    h : j < q
+    h = s .part j (l .here) .0
+
+    before : (k : ℕ) → k < j → k < q → cell x i k ≡ when (relates rel i k) (min (getD a₀ i 0 - row-sum k x i) (getD b₀ k 0))
+    before k m n = ⊎-elim (λ c. s .each k c n) (λ c. skipped k c n (l .before k m)) (below-or-not k (s .next))
+
+    kept : (k : ℕ) → k < 64 → k ≢ j → cell x′ i k ≡ cell x i k
+    kept k m n = adds-column t i k m (λ e. n (sym e))
+
+    row-before : (k : ℕ) → k ≤ j → row-sum k x′ i ≡ row-sum k x i
+    row-before k m = row-same k i x x′ (λ c n. kept c (omega (arith, h)) (λ e. omega arith))
+
+    here : cell x′ i j ≡ when (relates rel i j) (min (getD a₀ i 0 - row-sum j x′ i) (getD b₀ j 0))
+    here = let m = s .later j (l .here) in
+        omega (arith, t .more i j (omega (arith, h)), s .clean j m h, delta-same i (delta j j (min (getD a i 0) (getD b j 0))), delta-same j (min (getD a i 0) (getD b j 0)))
+        ∙ when-true (min (getD a i 0) (getD b j 0)) (s .part j (l .here) .1)
+        ∙ least (relates rel i j) (omega (arith, so-far j m h, row-before j (omega arith))) (s .same j m)
+
+    was-left : (a′ : List ℕ) (left′ : ℕ) → member left′ ≡ both (λ k. not (eqb (getD a′ i 0) 0)) (without-member j (member left)) → (k : ℕ) → member left′ k ≡ true → (member left k ≡ true) × (k ≢ j)
+    was-left a′ left′ e k m = drop-at (member left) j k refl (both-at (λ k. not (eqb (getD a′ i 0) 0)) (without-member j (member left)) k e m .1)
+
+    pub filling-next : (a′ b′ : List ℕ) (left′ : ℕ) → row-sum q x′ i + getD a′ i 0 ≡ row-sum q x i + getD a i 0 → ((c : ℕ) → c ≢ j → getD b′ c 0 ≡ getD b c 0)
+        → member left′ ≡ both (λ k. not (eqb (getD a′ i 0) 0)) (without-member j (member left)) → Filling q i rel a₀ b₀ x₀ x′ a′ b′ left′
+    filling-next a′ b′ left′ bal o e = let less : getD a′ i 0 ≤ getD a i 0 = omega (arith, row-adds q q w t h i) in record {
+      next = suc j;
+      each = λ k m n. elim (ℕ-discrete k j) [
+        | yes c ↦ subst (λ (k : ℕ). cell x′ i k ≡ when (relates rel i k) (min (getD a₀ i 0 - row-sum k x′ i) (getD b₀ k 0))) (sym c) here
+        | no c ↦ kept k (omega arith) c ∙ before k (omega arith) n ∙ least (relates rel i k) (omega (arith, row-before k (omega arith))) refl
+      ];
+      clean = λ k m n. kept k (omega arith) (λ c. omega arith) ∙ s .clean k (omega (arith, s .later j (l .here))) n;
+      same = λ k m. o k (λ c. omega arith) ∙ s .same k (omega (arith, s .later j (l .here)));
+      part = λ k m. s .part k (was-left a′ left′ e k m .0);
+      later = λ k m. let d = was-left a′ left′ e k m in
+          ⊎-elim (λ c. absurd (neither (d .0) (l .before k c))) (λ c. let n = d .1 in omega arith) (below-or-not k j);
+      idle = λ k m n f. elim (ℕ-discrete (getD a′ i 0) 0) [
+        | yes c ↦ when-none (relates rel i k) (min (getD a′ i 0) (getD b₀ k 0)) (λ _. omega arith)
+        | no c ↦ ⊎-elim
+            (λ g. absurd (omega arith))
+            (λ g. when-less (relates rel i k) (getD a i 0) (getD a′ i 0) (getD b₀ k 0) less (s .idle k (omega (arith, s .later j (l .here))) n g))
+            (drop-out (member left) j k refl (both-out (λ k. not (eqb (getD a′ i 0) 0)) (without-member j (member left)) k e f (ap not (ne-eqb (getD a′ i 0) 0 c))))
+      ];
+      sent = omega (arith, s .sent);
+      others = λ k c n m. adds-row t k c m (λ e. n (sym e)) ∙ s .others k c n m;
+    }
+
+-- the rows before n are filled, the others empty
+pub greedy-none : {q : ℕ} {rel : List ℕ} {s d : ℕ → ℕ} {x : List ℕ} → Greedy 0 q rel s d x
+greedy-none = record { each = λ i j h. absurd (omega arith) }
+
+module _ {p q n : ℕ} {rel a₀ b₀ x₀ x a b x′ : List ℕ} (hp : n < p) (w : q ≤ 64) (z₀ : (i j : ℕ) → i < p → j < q → cell x₀ i j ≡ 0) (z : (i j : ℕ) → n ≤ i → i < p → j < q → cell x i j ≡ 0)
+    (k : Preserves p q x₀ a₀ b₀ x a b) (f : RowFilled q n rel a b x x′) where
+  row-left : getD a n 0 ≡ getD a₀ n 0
+  row-left = omega (arith, k .sent n hp, row-none q n x (λ j h. z n j (omega arith) hp h), row-none q n x₀ (λ j h. z₀ n j hp h))
+
+  column-kept : (i j : ℕ) → i ≤ n → j < q → column-sum i x′ j ≡ column-sum i x j
+  column-kept i j l h = column-same i j x x′ (λ c m. f .others c j (λ e. omega arith) (omega arith))
+
+  column-left : (j : ℕ) → j < q → getD b j 0 ≡ getD b₀ j 0 - column-sum n x′ j
+  column-left j h = omega (
+    arith,
+    k .taken j h,
+    column-none p j x₀ (λ i l. z₀ i j l h),
+    column-idle n p j x (omega arith) (λ i l m. z i j l m h),
+    column-kept n j (omega arith) h,
+  )
+
+  pub greedy-next : Greedy n q rel (λ i. getD a₀ i 0) (λ j. getD b₀ j 0) x → Greedy (n + 1) q rel (λ i. getD a₀ i 0) (λ j. getD b₀ j 0) x′
+  greedy-next g = record {
+    each = λ i j l h. elim (ℕ-discrete i n) [
+      | yes c ↦ subst (λ (i : ℕ). cell x′ i j ≡ when (relates rel i j) (min (getD a₀ i 0 - row-sum j x′ i) (getD b₀ j 0 - column-sum i x′ j))) (sym c)
+          (f .each j h ∙ least (relates rel n j) (ap (λ (m : ℕ). m - row-sum j x′ n) row-left) (column-left j h))
+      | no c ↦ f .others i j c (omega arith) ∙ g .each i j (omega arith) h
+          ∙ least (relates rel i j)
+          (ap (λ (m : ℕ). getD a₀ i 0 - m) (sym (row-same j i x x′ (λ l m. f .others i l c (omega arith)))))
+          (ap (λ (m : ℕ). getD b₀ j 0 - m) (sym (column-kept i j (omega arith) h)))
+    ];
+  }
+
+  pub empty-next : (i j : ℕ) → n + 1 ≤ i → i < p → j < q → cell x′ i j ≡ 0
+  empty-next i j l m h = f .others i j (λ e. omega arith) (omega arith) ∙ z i j (omega arith) m h
+
+-- the same with equal supplies and demands
+pub greedy-is : {p p′ q : ℕ} {rel : List ℕ} {s s′ d d′ : ℕ → ℕ} {x : List ℕ} → p′ ≡ p → ((i : ℕ) → i < p → s i ≡ s′ i) → ((j : ℕ) → j < q → d j ≡ d′ j) → Greedy p q rel s d x → Greedy p′ q rel s′ d′ x
+greedy-is {p} {rel = rel} {x = x} e u v g = record {
+  each = λ i j h l. let k : i < p = omega arith in
+      g .each i j k l ∙ least (relates rel i j) (ap (λ (m : ℕ). m - row-sum j x i) (u i k)) (ap (λ (m : ℕ). m - column-sum i x j) (v j l));
+}
+
+-- there is one greedy flow: an amount hangs only on those of the rows above and of the columns before
+module _ {p q : ℕ} {rel : List ℕ} {s d : ℕ → ℕ} {x y : List ℕ} (f : Greedy p q rel s d x) (g : Greedy p q rel s d y) where
+  same-row : (i : ℕ) → i < p → ((k j : ℕ) → k < i → j < q → cell x k j ≡ cell y k j) → (n j : ℕ) → j < n → j < q → cell x i j ≡ cell y i j
+  same-row i h above zero j l m = absurd (omega arith)
+  same-row i h above (suc n) j l m =
+      f .each i j h m
+      ∙ least (relates rel i j)
+      (ap (λ (t : ℕ). s i - t) (row-same j i y x (λ k o. same-row i h above n k (omega arith) (omega arith))))
+      (ap (λ (t : ℕ). d j - t) (column-same i j y x (λ k o. above k j o m)))
+      ∙ sym (g .each i j h m)
+
+  same-rows : (n i j : ℕ) → i < n → i < p → j < q → cell x i j ≡ cell y i j
+  same-rows zero i j l h m = absurd (omega arith)
+  same-rows (suc n) i j l h m = same-row i h (λ k c o u. same-rows n k c (omega arith) (omega arith) u) (suc j) j (omega arith) m
+
+  pub greedy-unique : (i j : ℕ) → i < p → j < q → cell x i j ≡ cell y i j
+  greedy-unique i j h m = same-rows (suc i) i j (omega arith) h m

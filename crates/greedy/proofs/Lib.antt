@@ -1,0 +1,4 @@
+-- Laws of the start.
+-- Assumes nothing.
+pub mod StartLaws
+pub mod GreedyLaws

@@ -1,0 +1,19 @@
+-- The greedy start: row by row and column by column, a related pair gets the least of what its row and its column have left.
+-- Assumes nothing.
+use mathlib.Core.Path.{_≡_}
+use mathlib.Core.List.{List}
+use mathlib.Core.Logic.{_≢_}
+use Prim.Native.Nat.{ℕ, _-_, _<_, min}
+use lib.ListN.{getD}
+use Rattle.simulation.specs.Sum.{when}
+use Rattle.matrix.specs.Matrix.{cell, row-sum, column-sum}
+use Rattle.matrix.specs.Problem.{relates}
+
+-- s is what each row has to send, d what each column has to take; before i and j come the columns before j in row i and the rows before i in column j
+pub record Greedy (p q : ℕ) (rel : List ℕ) (s d : ℕ → ℕ) (x : List ℕ) : Type 0 where
+  pub each : (i j : ℕ) → i < p → j < q → cell x i j ≡ when (relates rel i j) (min (s i - row-sum j x i) (d j - column-sum i x j))
+
+-- one row of it, with what was left before the row in a and b; the other rows stay
+pub record RowFilled (q i : ℕ) (rel a b x x′ : List ℕ) : Type 0 where
+  pub each : (j : ℕ) → j < q → cell x′ i j ≡ when (relates rel i j) (min (getD a i 0 - row-sum j x′ i) (getD b j 0))
+  pub others : (k j : ℕ) → k ≢ i → j < 64 → cell x′ k j ≡ cell x k j

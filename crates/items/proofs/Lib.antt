@@ -1,0 +1,3 @@
+-- Laws of a read.
+-- Assumes nothing.
+pub mod ReadLaws

@@ -1,0 +1,100 @@
+-- `items::items::entries_refusal` meets its contract. The loop's invariant: the transitions below j pass, and start is the number of their entries.
+-- Assumes nothing.
+use mathlib.Core.Path.{_≡_, sym, _∙_, ap, ap₂}
+use Prim.Native.Nat.{ℕ, _+_, _*_, _-_, _≤_}
+use native.Mathlib.Omega.{arith}
+use lib.ListN.{length}
+use denote.Ref.{now}
+use Rattle.simulation.specs.Sum.{sum}
+use Rattle.layout.specs.Bytes.{first, entry-refusal, size-from, run-refusal}
+use Rattle.layout.proofs.Laws.{Passed, passed-none, passed-more, passed-here, passed-all}
+use Rattle.simulation.proofs.Finite.Sums.{sum-none, sum-more, sum-le}
+use Rattle.items.proofs.items.entries_refusal.Statement.{statement}
+use Rattle.items.proofs.items.entries_refusal.Tie as tie
+
+abbrev Inv-loop : tie.InvT-loop
+Inv-loop s n sizes m at start₀ j₀ start j = Passed m (run-refusal s n sizes at) j × (j ≤ m) × (start ≡ sum j (size-from s sizes))
+
+abbrev μ-loop : tie.MeasureT-loop
+μ-loop s n sizes m at start₀ j₀ start j = m - j
+
+-- the entries of the transition j lie within the bytes
+within : (c : tie.After-byte-at Inv-loop μ-loop) → let b = c .before .before in let a = b .before .before .args in a .at + 3 * (b .loop .start + c .byte-at .result) ≤ length (now (a .s))
+within c =
+    let b = c .before .before in
+    let a = b .before .before .args in
+    let more = sum-le (b .loop .j) (a .m) (size-from (now (a .s)) (a .sizes)) (omega arith) in
+    omega arith
+
+-- what is found among them is the refusal of the transition j
+here : (c : tie.After-entries-of-refusal Inv-loop μ-loop) → let b = c .before .before .before in let a = b .before .before .args in c .entries-of-refusal .result ≡ run-refusal (now (a .s)) (a .n) (a .sizes) (a .at) (b .loop .j)
+unfolding run-refusal
+here c =
+    let b = c .before .before .before in
+    let a = b .before .before .args in
+    c .entries-of-refusal .ensures
+    ∙ ap₂ (λ (size start : ℕ). first 0 size (entry-refusal (now (a .s)) (a .n) (a .at + 3 * start))) (c .before .byte-at .ensures .is) (b .loop .inv .2)
+
+loop-holds : tie.Need-loop-holds Inv-loop μ-loop
+loop-holds c = (passed-none _ _, omega arith, sum-none _)
+
+mul-byte-at : tie.Need-mul-byte-at Inv-loop μ-loop
+mul-byte-at c = omega arith
+
+add-byte-at : tie.Need-add-byte-at Inv-loop μ-loop
+add-byte-at c = omega arith
+
+byte-at-requires : tie.Need-byte-at-requires Inv-loop μ-loop
+byte-at-requires c κs = omega arith
+
+mul-entries-of-refusal : tie.Need-mul-entries-of-refusal Inv-loop μ-loop
+mul-entries-of-refusal c = omega (arith, within c)
+
+add-entries-of-refusal : tie.Need-add-entries-of-refusal Inv-loop μ-loop
+add-entries-of-refusal c = omega (arith, within c)
+
+entries-of-refusal-requires : tie.Need-entries-of-refusal-requires Inv-loop μ-loop
+entries-of-refusal-requires c κs = omega (arith, within c)
+
+returns : tie.Need-returns Inv-loop μ-loop
+returns c = let b = c .before .before .before .before in passed-here _ _ (b .loop .j) (b .loop .inv .0) (omega arith) (here (c .before)) (c .if1 .taken)
+
+add-start : tie.Need-add-start Inv-loop μ-loop
+add-start c = omega (arith, within (c .before .before))
+
+add-j : tie.Need-add-j Inv-loop μ-loop
+add-j c = omega arith
+
+loop-less : tie.Need-loop-less Inv-loop μ-loop
+loop-less c = omega arith
+
+loop-again : tie.Need-loop-again Inv-loop μ-loop
+loop-again c =
+    let b = c .before .before .before .before in
+    let a = b .before .before .args in
+    let f = size-from (now (a .s)) (a .sizes) in
+    let more = ap (λ (z : ℕ). b .loop .start + z) (c .before .before .byte-at .ensures .is) ∙ sum-more (b .loop .j) f (b .loop .inv .2) in
+    (passed-more _ _ (b .loop .j) (b .loop .inv .0) (omega arith) (sym (here (c .before)) ∙ c .if1 .left), omega arith, more)
+
+returns-2 : tie.Need-returns-2 Inv-loop μ-loop
+returns-2 c = passed-all _ _ _ (c .before .loop .inv .0) (omega arith)
+
+pub entries-refusal-spec : {M : Type 1} → statement M
+entries-refusal-spec =
+    tie.close
+    (tie.spec
+    Inv-loop
+    μ-loop
+    loop-holds
+    mul-byte-at
+    add-byte-at
+    byte-at-requires
+    mul-entries-of-refusal
+    add-entries-of-refusal
+    entries-of-refusal-requires
+    returns
+    add-start
+    add-j
+    loop-less
+    loop-again
+    returns-2)

@@ -1,0 +1,3 @@
+-- What a read returns.
+-- Assumes nothing.
+pub mod Reads

@@ -1,0 +1,104 @@
+-- A table cut short anywhere is refused with exactly 1, and one with bytes after it with exactly 2.
+-- Assumes nothing.
+use mathlib.Core.Path.{_≡_, _∙_}
+use mathlib.Core.List.{List, _∷_, _++_}
+use Prim.Native.Nat.{ℕ, suc, _+_, _≤_, _<_}
+use native.Mathlib.Decide.{decLt}
+use native.Mathlib.Omega.{arith}
+use lib.Dec.{eqb}
+use lib.ListN.{length, take, length-append, List·getD-append}
+use lib.Seq.{length-take-le, getD-take}
+use borrow.Author.Tests.{ne-eqb}
+use Rattle.simulation.specs.Table.{Table}
+use Rattle.layout.specs.Bytes.{_then_, refuse_unless_, byte, states-at, transitions-at, entries-at, end, refusal, actions-refusal, states-refusal, transitions-refusal, entries-refusal, refused, accepted, decode}
+use Rattle.layout.proofs.Laws.{refused as refused-unless}
+use Rattle.layout.proofs.SectionLaws.{then-zero, then-first}
+use Rattle.layout.proofs.Bounds.{passes, refusal-is, transitions-at-is, entries-at-is, end-is}
+use Rattle.layout.proofs.DecodeLaws.{decode-refused, accepted-told}
+use Rattle.layout.proofs.Agree.{actions-kept, actions-broken, states-kept, states-broken, transitions-kept, transitions-broken, entries-kept, entries-broken, end-same}
+
+-- the first section that refuses decides
+module _ (t : List ℕ) (k : ℕ) where
+  abbrev later : ℕ
+  later = refuse 2 unless eqb (end t) (length t)
+
+  at-actions : actions-refusal t ≡ suc k → refusal t ≡ suc k
+  at-actions e = refusal-is t ∙ then-first later k (then-first (entries-refusal t) k (then-first (transitions-refusal t) k (then-first (states-refusal t) k e)))
+
+  at-states : actions-refusal t ≡ 0 → states-refusal t ≡ suc k → refusal t ≡ suc k
+  at-states a e = refusal-is t ∙ then-first later k (then-first (entries-refusal t) k (then-first (transitions-refusal t) k (then-zero (states-refusal t) a ∙ e)))
+
+  module _ (a : actions-refusal t ≡ 0) (b : states-refusal t ≡ 0) where
+    states-pass : actions-refusal t then states-refusal t ≡ 0
+    states-pass = then-zero (states-refusal t) a ∙ b
+
+    at-transitions : transitions-refusal t ≡ suc k → refusal t ≡ suc k
+    at-transitions e = refusal-is t ∙ then-first later k (then-first (entries-refusal t) k (then-zero (transitions-refusal t) states-pass ∙ e))
+
+    module _ (c : transitions-refusal t ≡ 0) where
+      transitions-pass : actions-refusal t then states-refusal t then transitions-refusal t ≡ 0
+      transitions-pass = then-zero (transitions-refusal t) states-pass ∙ c
+
+      at-entries : entries-refusal t ≡ suc k → refusal t ≡ suc k
+      at-entries e = refusal-is t ∙ then-first later k (then-zero (entries-refusal t) transitions-pass ∙ e)
+
+      at-end : entries-refusal t ≡ 0 → later ≡ suc k → refusal t ≡ suc k
+      at-end d e = refusal-is t ∙ then-zero later (then-zero (entries-refusal t) transitions-pass ∙ d) ∙ e
+
+module _ (s : List ℕ) (e : refusal s ≡ 0) where
+  module _ (k : ℕ) (l : k < length s) where
+    abbrev front : List ℕ
+    front = take k s
+
+    long : length front ≡ k
+    long = length-take-le k s (omega arith)
+
+    room : k ≤ length front
+    room = omega (arith, long)
+
+    same : (p : ℕ) → p < k → byte front p ≡ byte s p
+    same p h = getD-take k s p 0 h
+
+    -- by the section that the end lies in
+    cut : Dec (k < states-at s) → Dec (k < transitions-at s) → Dec (k < entries-at s) → refusal front ≡ 1
+    cut (yes a) b c = at-actions front 0 (actions-broken s front k same e room long a)
+    cut (no a) (yes b) c = at-states front 0 (actions-kept s front k same e room (omega arith)) (states-broken s front k same e room long (omega arith) b)
+    cut (no a) (no b) (yes c) =
+        at-transitions front 0 (actions-kept s front k same e room (omega arith)) (states-kept s front k same e room (omega arith))
+        (transitions-broken s front k same e room long (omega arith) c)
+    cut (no a) (no b) (no c) =
+        at-entries front 0 (actions-kept s front k same e room (omega arith)) (states-kept s front k same e room (omega arith)) (transitions-kept s front k same e room (omega arith))
+        (entries-broken s front k same e room long (omega arith) (omega (arith, passes s e .of-end)))
+
+    pub prefix-refusal : refusal (take k s) ≡ 1
+    prefix-refusal = cut (decLt k (states-at s)) (decLt k (transitions-at s)) (decLt k (entries-at s))
+
+  module _ (b : ℕ) (more : List ℕ) where
+    abbrev longer : List ℕ
+    longer = s ++ b ∷ more
+
+    beyond : length longer ≡ length s + suc (length more)
+    beyond = length-append s (b ∷ more)
+
+    kept : (p : ℕ) → p < length s → byte longer p ≡ byte s p
+    kept p h = List·getD-append s (b ∷ more) 0 p h
+
+    pub longer-refusal : refusal (s ++ b ∷ more) ≡ 2
+    longer-refusal =
+        let d = passes s e .of-end in
+        let at-end-is = end-is s in
+        let entries-begin = entries-at-is s in
+        let transitions-begin = transitions-at-is s in
+        let room : length s ≤ length longer = omega (arith, beyond) in
+        let after = end-same s longer (length s) kept e room (omega arith) in
+        let other = ne-eqb (end longer) (length longer) (λ q. omega (arith, beyond)) in
+        at-end longer 1 (actions-kept s longer (length s) kept e room (omega arith)) (states-kept s longer (length s) kept e room (omega arith))
+        (transitions-kept s longer (length s) kept e room (omega arith)) (entries-kept s longer (length s) kept e room (omega arith)) (refused-unless 2 other)
+
+-- every proper prefix of accepted bytes
+pub prefix-refused : (s : List ℕ) (M : Table) → decode s ≡ accepted M → (k : ℕ) → k < length s → decode (take k s) ≡ refused 1
+prefix-refused s M h k l = decode-refused (take k s) 0 (prefix-refusal s (accepted-told s M h .passed) k l)
+
+-- accepted bytes and more
+pub longer-refused : (s : List ℕ) (M : Table) → decode s ≡ accepted M → (b : ℕ) (more : List ℕ) → decode (s ++ b ∷ more) ≡ refused 2
+longer-refused s M h b more = decode-refused (s ++ b ∷ more) 1 (longer-refusal s (accepted-told s M h .passed) b more)

@@ -1,0 +1,4 @@
+-- Laws that the proofs cite.
+-- Assumes nothing.
+pub mod Walks
+pub mod Growing

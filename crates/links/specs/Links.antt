@@ -1,0 +1,49 @@
+-- Which states have a transition to a state, and the pairs that a lost pair puts in doubt.
+-- Assumes nothing.
+use mathlib.Core.Path.{_≡_}
+use mathlib.Core.Bool.{true, false}
+use mathlib.Core.List.{List}
+use Prim.Native.Nat.{ℕ, _+_, _≤_, _<_}
+use lib.ListN.{length, getD}
+use Rattle.relation.specs.Mask.{member}
+use Rattle.form.specs.Form.{start-of, transition-at, table-of}
+use Rattle.matching.specs.Held.{holds}
+use Rattle.simulation.specs.Table.{targets, states-of}
+
+-- the rows have no pair
+abbrev pub Empty : List ℕ → Type 0
+Empty rows = (s t : ℕ) → holds rows s t ≡ false
+
+-- each row that has a pair is one of the set
+abbrev pub Covered : ℕ → List ℕ → Type 0
+Covered fell lost = (s t : ℕ) → holds lost s t ≡ true → member fell s ≡ true
+
+-- before has the state s at each target of its transitions
+abbrev pub Links : List ℕ → ℕ → List ℕ → Type 0
+Links f s before =
+    (j i : ℕ) → start-of f s ≤ j → j < start-of f (s + 1) → i < length (targets (transition-at f j)) → holds before (getD (targets (transition-at f j)) i 0) s ≡ true
+
+-- each member of a row is below n
+abbrev pub Within : ℕ → List ℕ → Type 0
+Within n rows = (s t : ℕ) → holds rows s t ≡ true → t < n
+
+-- before holds, for each state of a form, the states that have a transition to it, and no number that is not a state
+pub record Linked (f before : List ℕ) : Type 0 where
+  pub room : 64 ≤ length before
+  pub links : (s : ℕ) → s < states-of (table-of f) → Links f s before
+  pub states : Within (states-of (table-of f)) before
+
+-- no pair of the first rows is missing in the second
+pub record Grown (rows rows′ : List ℕ) : Type 0 where
+  pub still : (s t : ℕ) → holds rows s t ≡ true → holds rows′ s t ≡ true
+
+-- rows that have grown by members s only
+pub record Joins (s : ℕ) (rows rows′ : List ℕ) : Type 0 where
+  pub grown : Grown rows rows′
+  pub within : (n : ℕ) → s < n → Within n rows → Within n rows′
+
+-- a pair is in doubt, and its row doubtful, if a lost pair lies one transition behind it; a doubtful row is a state before some other; lost′ has no pair
+pub record Doubted (lost before behind : List ℕ) (doubtful : ℕ) (doubt lost′ : List ℕ) : Type 0 where
+  pub raised : (a s u t : ℕ) → holds before a s ≡ true → holds lost a u ≡ true → holds behind u t ≡ true → (member doubtful s ≡ true) × (holds doubt s t ≡ true)
+  pub within : (n : ℕ) → Within n before → (s : ℕ) → member doubtful s ≡ true → s < n
+  pub empty : Empty lost′

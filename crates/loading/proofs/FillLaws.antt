@@ -1,0 +1,144 @@
+-- How a form is filled: a column number by number, the form column by column.
+-- Assumes nothing.
+use mathlib.Core.Path.{_≡_, refl, sym, ap, _∙_}
+use mathlib.Core.Logic.{inl, inr, ⊎-elim}
+use mathlib.Core.List.{List}
+use Prim.Native.Nat.{ℕ, _+_, _*_, _-_, _≤_, _<_}
+use native.Mathlib.Decide.{decLt}
+use native.Mathlib.Omega.{arith}
+use lib.ListN.{length, set, drop, length-set, length-drop}
+use lib.Seq.{ext-getD, getD-drop, getD-set-same, getD-set-other}
+use Rattle.simulation.specs.Sum.{sum}
+use Rattle.simulation.proofs.Finite.Sums.{sum-ext}
+use Rattle.table.specs.declared.parts.Layout.{Layout}
+use Rattle.form.specs.Limits.{most-codes, most-states, most-transitions, most-entries}
+use Rattle.layout.specs.Bytes.{byte, half, Octets, actions, states-at, states, count, transitions-at, transitions, size, entries-at, entries, refusal}
+use Rattle.table.specs.Stages.{layout}
+use Rattle.form.specs.Form.{form-size, states-from, actions-from, starts-from, entry-starts-from, codes-from, targets-from, weights-from, listed-from, at, start-of, entry-start}
+use Rattle.loading.specs.Fill.{Filled, run, Heads, Columns, Between}
+use Rattle.layout.proofs.Bounds.{passes, accepted, actions-bytes}
+
+pub filled-none : (f : List ℕ) (from : ℕ) (g : ℕ → ℕ) → Filled f from 0 g f
+filled-none f from g = record { long = refl; filled = λ i l. absurd (omega arith); kept = λ i l. refl }
+
+pub filled-more : (f : List ℕ) (from i : ℕ) (g : ℕ → ℕ) {f′ : List ℕ} (v : ℕ) → Filled f from i g f′ → from + i < length f → v ≡ g i
+    → Filled f from (i + 1) g (set f′ (from + i) v)
+filled-more f from i g {f′} v w l e =
+    record {
+      long = length-set f′ (from + i) v ∙ w .long;
+      filled = λ k b. here k b (decLt k i);
+      kept = λ k b. getD-set-other f′ (from + i) k v 0 (λ q. ⊎-elim (λ a. omega arith) (λ a. omega arith) b) ∙ w .kept k (⊎-elim (λ a. inl a) (λ a. inr (omega arith)) b);
+    }
+  where
+    here : (k : ℕ) → k < i + 1 → Dec (k < i) → at (set f′ (from + i) v) (from + k) ≡ g k
+    here k b (yes h) = getD-set-other f′ (from + i) (from + k) v 0 (λ q. omega arith) ∙ w .filled k h
+    here k b (no h) =
+        let q : k ≡ i = omega arith in
+        rw q (getD-set-same f′ (from + i) v 0 (omega (arith, w .long)) ∙ e)
+
+pub filled-one : (f : List ℕ) (at v : ℕ) → at < length f → Filled f at 1 (λ i. v) (set f at v)
+filled-one f at v l =
+    let e : at + 0 ≡ at = omega arith in
+    rw e at (filled-more f at 0 (λ i. v) v (filled-none f at (λ i. v)) (omega arith) refl)
+
+-- what a column leaves alone
+pub filled-between : {f f′ : List ℕ} {from n : ℕ} {g : ℕ → ℕ} (a b : ℕ) → Filled f from n g f′ → a ≤ from → from + n ≤ b → Between a b f f′
+filled-between a b w l m = record { long = w .long; kept = λ i h. w .kept i (⊎-elim (λ x. inl (omega arith)) (λ x. inr (omega arith)) h) }
+
+pub between-trans : {a b : ℕ} {f g h : List ℕ} → Between a b f g → Between a b g h → Between a b f h
+between-trans u v = record { long = v .long ∙ u .long; kept = λ i l. v .kept i l ∙ u .kept i l }
+
+pub between-wider : {a b : ℕ} {f g : List ℕ} (c d : ℕ) → Between a b f g → c ≤ a → b ≤ d → Between c d f g
+between-wider c d u l m = record { long = u .long; kept = λ i h. u .kept i (⊎-elim (λ x. inl (omega arith)) (λ x. inr (omega arith)) h) }
+
+pub between-beyond : {a b : ℕ} {f g : List ℕ} → Between a b f g → drop b g ≡ drop b f
+between-beyond {a} {b} {f} {g} u =
+    ext-getD 0 (drop b g) (drop b f) (length-drop b g ∙ ap (λ n. n - b) (u .long) ∙ sym (length-drop b f))
+    (λ i l. getD-drop b g i 0 ∙ u .kept (b + i) (inr (omega arith)) ∙ sym (getD-drop b f i 0))
+
+-- counts and places of accepted bytes, as a layout has them
+pub record Parts (s : List ℕ) (t : Layout) : Type 0 where
+  pub actions-are : t .actions ≡ actions s
+  pub states-are : t .states ≡ states s
+  pub transitions-are : t .transitions ≡ transitions s
+  pub entries-are : t .entries ≡ entries s
+  pub counts-from : t .«counts_at» ≡ states-at s + 1
+  pub transitions-from : t .«transitions_at» ≡ transitions-at s + 2
+  pub entries-from : t .«entries_at» ≡ entries-at s + 2
+  pub few-actions : actions s ≤ most-codes
+  pub few-states : states s ≤ most-states
+  pub few-transitions : transitions s ≤ most-transitions
+  pub few-entries : entries s ≤ most-entries
+  pub actions-there : 1 + actions s ≤ length s
+  pub counts-there : states-at s + 1 + states s ≤ length s
+  pub transitions-there : transitions-at s + 2 + 2 * transitions s ≤ length s
+  pub entries-there : entries-at s + 2 + 3 * entries s ≤ length s
+
+pub parts : (s : List ℕ) (t : Layout) → Octets s → refusal s ≡ 0 → t ≡ layout s → Parts s t
+parts s t octets e q =
+    let a = accepted s e in
+    record {
+      actions-are = ap (λ (t : Layout). t .actions) q;
+      states-are = ap (λ (t : Layout). t .states) q;
+      transitions-are = ap (λ (t : Layout). t .transitions) q;
+      entries-are = ap (λ (t : Layout). t .entries) q;
+      counts-from = ap (λ (t : Layout). t .«counts_at») q;
+      transitions-from = ap (λ (t : Layout). t .«transitions_at») q;
+      entries-from = ap (λ (t : Layout). t .«entries_at») q;
+      few-actions = omega (arith, octets 0);
+      few-states = a .of-states .few;
+      few-transitions = a .of-transitions .few;
+      few-entries = a .of-entries .few;
+      actions-there = actions-bytes s (passes s e .of-actions);
+      counts-there = a .of-states .bytes;
+      transitions-there = a .of-transitions .bytes;
+      entries-there = a .of-entries .bytes;
+    }
+
+module _ (s : List ℕ) (t : Layout) (p : Parts s t) where
+  -- the counts and the starts, written one after the other
+  pub heads-by : {f f₁ f₂ f₃ f₄ : List ℕ}
+      → Filled f states-from 1 (λ i. t .states) f₁
+      → Filled f₁ actions-from 1 (λ i. t .actions) f₂
+      → Filled f₂ starts-from (t .states + 1) (λ i. sum i (run s (t .«counts_at») 1)) f₃
+      → Filled f₃ entry-starts-from (t .transitions + 1) (λ i. sum i (run s (t .«transitions_at» + 1) 2)) f₄
+      → Heads s f₄ × Between 0 codes-from f f₄
+  unfolding start-of entry-start
+  heads-by u v w x = (
+    record {
+      states-are = x .kept 0 (inl (omega arith)) ∙ w .kept 0 (inl (omega arith)) ∙ v .kept 0 (inl (omega arith)) ∙ u .filled 0 (omega arith) ∙ p .states-are;
+      actions-are = x .kept 1 (inl (omega arith)) ∙ w .kept 1 (inl (omega arith)) ∙ v .filled 0 (omega arith) ∙ p .actions-are;
+      starts-are = λ q l.
+          x .kept (starts-from + q) (inl (omega (arith, p))) ∙ w .filled q (omega (arith, p))
+          ∙ sum-ext q (run s (t .«counts_at») 1) (count s) (λ i m. ap (byte s) (omega (arith, p .counts-from)));
+      entry-starts-are = λ j l.
+          x .filled j (omega (arith, p)) ∙ sum-ext j (run s (t .«transitions_at» + 1) 2) (size s) (λ i m. ap (byte s) (omega (arith, p .transitions-from)));
+    },
+    between-trans (filled-between 0 codes-from u (omega arith) (omega arith))
+        (between-trans (filled-between 0 codes-from v (omega arith) (omega arith))
+        (between-trans (filled-between 0 codes-from w (omega arith) (omega (arith, p))) (filled-between 0 codes-from x (omega arith) (omega (arith, p))))),
+  )
+
+  -- the columns, written one after the other
+  pub columns-by : {f f₁ f₂ f₃ f₄ : List ℕ}
+      → Filled f codes-from (t .transitions) (run s (t .«transitions_at») 2) f₁
+      → Filled f₁ targets-from (t .entries) (run s (t .«entries_at») 3) f₂
+      → Filled f₂ weights-from (t .entries) (λ i. half s (t .«entries_at» + 1 + 3 * i)) f₃
+      → Filled f₃ listed-from (t .actions) (run s 1 1) f₄
+      → Columns s f₄ × Between codes-from form-size f f₄
+  columns-by u v w x = (
+    record {
+      codes-are = λ j l.
+          x .kept (codes-from + j) (inl (omega (arith, p))) ∙ w .kept (codes-from + j) (inl (omega (arith, p))) ∙ v .kept (codes-from + j) (inl (omega (arith, p)))
+          ∙ u .filled j (omega (arith, p)) ∙ ap (byte s) (omega (arith, p .transitions-from));
+      targets-are = λ e l.
+          x .kept (targets-from + e) (inl (omega (arith, p))) ∙ w .kept (targets-from + e) (inl (omega (arith, p)))
+          ∙ v .filled e (omega (arith, p)) ∙ ap (byte s) (omega (arith, p .entries-from));
+      weights-are = λ e l.
+          x .kept (weights-from + e) (inl (omega (arith, p))) ∙ w .filled e (omega (arith, p)) ∙ ap (half s) (omega (arith, p .entries-from));
+      listed-are = λ i l. x .filled i (omega (arith, p)) ∙ ap (byte s) (omega arith);
+    },
+    between-trans (filled-between codes-from form-size u (omega arith) (omega (arith, p)))
+        (between-trans (filled-between codes-from form-size v (omega arith) (omega (arith, p)))
+        (between-trans (filled-between codes-from form-size w (omega arith) (omega (arith, p))) (filled-between codes-from form-size x (omega arith) (omega (arith, p))))),
+  )

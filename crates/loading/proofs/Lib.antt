@@ -1,0 +1,4 @@
+-- Laws of loading.
+-- Assumes nothing.
+pub mod FillLaws
+pub mod LoadLaws

@@ -1,0 +1,56 @@
+-- What the functions that write a form leave in it, by places.
+-- Assumes nothing.
+use mathlib.Core.Path.{_≡_}
+use mathlib.Core.Logic.{_⊎_, _≢_}
+use mathlib.Core.List.{List}
+use Prim.Native.Nat.{ℕ, _+_, _*_, _≤_, _<_}
+use lib.ListN.{length, drop}
+use Rattle.layout.specs.Bytes.{byte, actions, code, states, transitions, label, state-start, start, entries, target, weight, refusal, table}
+use Rattle.form.specs.Form.{form-size, states-from, actions-from, codes-from, targets-from, weights-from, listed-from, at, start-of, entry-start, Loaded, table-of}
+
+-- f′ has the numbers g 0, …, g (n - 1) from a place on, and is f elsewhere
+pub record Filled (f : List ℕ) (from n : ℕ) (g : ℕ → ℕ) (f′ : List ℕ) : Type 0 where
+  pub long : length f′ ≡ length f
+  pub filled : (i : ℕ) → i < n → at f′ (from + i) ≡ g i
+  pub kept : (i : ℕ) → (i < from) ⊎ (from + n ≤ i) → at f′ i ≡ at f i
+
+-- n bytes of s, each step after the one before
+abbrev pub run : (s : List ℕ) (from step : ℕ) → ℕ → ℕ
+run s from step i = byte s (from + step * i)
+
+-- n places of s are there, each step after the one before, and so are n places of a form
+pub record Runs (s : List ℕ) (from step n : ℕ) (f : List ℕ) (to : ℕ) : Type 0 where
+  pub bytes : (i : ℕ) → i < n → from + step * i < length s
+  pub room : to + n ≤ length f
+
+-- the form has the counts and the starts of the bytes s
+pub record Heads (s f : List ℕ) : Type 0 where
+  pub states-are : at f states-from ≡ states s
+  pub actions-are : at f actions-from ≡ actions s
+  pub starts-are : (q : ℕ) → q ≤ states s → start-of f q ≡ state-start s q
+  pub entry-starts-are : (j : ℕ) → j ≤ transitions s → entry-start f j ≡ start s j
+
+-- the form has the columns of the bytes s
+pub record Columns (s f : List ℕ) : Type 0 where
+  pub codes-are : (j : ℕ) → j < transitions s → at f (codes-from + j) ≡ label s j
+  pub targets-are : (e : ℕ) → e < entries s → at f (targets-from + e) ≡ target s e
+  pub weights-are : (e : ℕ) → e < entries s → at f (weights-from + e) ≡ weight s e
+  pub listed-are : (i : ℕ) → i < actions s → at f (listed-from + i) ≡ code s i
+
+-- f and f′ are equally long, and differ at the places from a on, below b, only
+pub record Between (a b : ℕ) (f f′ : List ℕ) : Type 0 where
+  pub long : length f′ ≡ length f
+  pub kept : (i : ℕ) → (i < a) ⊎ (b ≤ i) → at f′ i ≡ at f i
+
+-- f′ holds the table of the accepted bytes s, and is f past the end of a form
+pub record Loads (s f f′ : List ℕ) : Type 0 where
+  pub loaded : Loaded f′
+  pub same : table-of f′ ≡ table s
+  pub long : length f′ ≡ length f
+  pub beyond : drop form-size f′ ≡ drop form-size f
+
+-- r is the refusal of the bytes s; f′ is loaded where there is none, and f as it was otherwise
+pub record Reads (s f : List ℕ) (r : ℕ) (f′ : List ℕ) : Type 0 where
+  pub number : r ≡ refusal s
+  pub accepted : refusal s ≡ 0 → Loads s f f′
+  pub refused : refusal s ≢ 0 → f′ ≡ f

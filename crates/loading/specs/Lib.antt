@@ -1,0 +1,3 @@
+-- What loading leaves in a form.
+-- Assumes nothing.
+pub mod Fill

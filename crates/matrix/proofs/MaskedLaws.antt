@@ -1,0 +1,209 @@
+-- Members of masks after an operation, and the masks of the places where a number is not 0.
+-- Assumes nothing.
+use mathlib.Core.Path.{_≡_, refl, sym, ap, _∙_, subst, subst⁻¹, fun-ext}
+use mathlib.Core.Bool.{Bool, true, false, not, cond, _&&_, _||_, true≢false}
+use mathlib.Core.List.{List}
+use mathlib.Core.Logic.{_≢_, _⊎_, inl, inr, ⊎-elim}
+use Prim.Native.Nat.{ℕ, _+_, _^_, _≤_, _<_}
+use native.Mathlib.Decide.{ℕ-discrete}
+use native.Mathlib.Omega.{arith}
+use lib.Dec.{eqb}
+use lib.ListN.{length, getD, set, replicate, length-replicate, getD-replicate, List·getD-eq-default}
+use lib.Seq.{getD-set-same, getD-set-other}
+use borrow.Author.Tests.{eq-eqb, ne-eqb, eqb-true, eqb-false}
+use Rattle.relation.specs.Mask.{Test, member, with-member, without-member, both, except, either}
+use Rattle.relation.proofs.Mask.{member-none, lowest-of, below-or-not}
+use Rattle.matrix.specs.Matrix.{cell, Adds}
+use Rattle.matrix.specs.Problem.{relates}
+use Rattle.matrix.specs.Masks.{put, MaskOf, Used, Noted}
+use Rattle.matrix.proofs.MatrixLaws.{adds-row, adds-column}
+
+and-true : (a b : Bool) → (a && b) ≡ true → (a ≡ true) × (b ≡ true)
+and-true true b e = (refl, e)
+and-true false b e = absurd (true≢false (sym e))
+
+and-not : (a b : Bool) → (a && not b) ≡ true → (a ≡ true) × (b ≡ false)
+and-not true true e = absurd (true≢false (sym e))
+and-not true false e = (refl, refl)
+and-not false b e = absurd (true≢false (sym e))
+
+not-and : (a b : Bool) → (a && not b) ≡ false → (b ≡ true) ⊎ (a ≡ false)
+not-and true true e = inl refl
+not-and true false e = absurd (true≢false e)
+not-and false b e = inr refl
+
+or-true : (a b : Bool) → (a || b) ≡ true → (a ≡ true) ⊎ (b ≡ true)
+or-true true b e = inl refl
+or-true false b e = inr e
+
+or-left : (a b : Bool) → a ≡ true → (a || b) ≡ true
+or-left a b e = ap (λ c. c || b) e
+
+or-right : (a b : Bool) → b ≡ true → (a || b) ≡ true
+or-right true b e = refl
+or-right false b e = e
+
+pub true-or-false : (b : Bool) → (b ≡ true) ⊎ (b ≡ false)
+true-or-false true = inl refl
+true-or-false false = inr refl
+
+pub neither : {b : Bool} → b ≡ true → b ≡ false → ⊥
+neither e f = true≢false (sym e ∙ f)
+
+-- a member of an intersection, a difference, a union
+module _ (X Y : Test) {Z : Test} (i : ℕ) where
+  pub both-at : Z ≡ both X Y → Z i ≡ true → (X i ≡ true) × (Y i ≡ true)
+  both-at e t = and-true (X i) (Y i) (sym (ap (λ (W : Test). W i) e) ∙ t)
+
+  pub both-out : Z ≡ both X Y → Z i ≡ false → X i ≡ true → Y i ≡ false
+  both-out e f t = ap (λ c. c && Y i) (sym t) ∙ sym (ap (λ (W : Test). W i) e) ∙ f
+
+  pub both-in : Z ≡ both X Y → X i ≡ true → Y i ≡ true → Z i ≡ true
+  both-in e t u = ap (λ (W : Test). W i) e ∙ ap (λ c. c && Y i) t ∙ u
+
+  pub except-at : Z ≡ except X Y → Z i ≡ true → (X i ≡ true) × (Y i ≡ false)
+  except-at e t = and-not (X i) (Y i) (sym (ap (λ (W : Test). W i) e) ∙ t)
+
+  pub except-out : Z ≡ except X Y → Z i ≡ false → (Y i ≡ true) ⊎ (X i ≡ false)
+  except-out e f = not-and (X i) (Y i) (sym (ap (λ (W : Test). W i) e) ∙ f)
+
+  pub either-at : Z ≡ either X Y → Z i ≡ true → (X i ≡ true) ⊎ (Y i ≡ true)
+  either-at e t = or-true (X i) (Y i) (sym (ap (λ (W : Test). W i) e) ∙ t)
+
+  pub either-left : Z ≡ either X Y → X i ≡ true → Z i ≡ true
+  either-left e t = ap (λ (W : Test). W i) e ∙ or-left (X i) (Y i) t
+
+  pub either-right : Z ≡ either X Y → Y i ≡ true → Z i ≡ true
+  either-right e t = ap (λ (W : Test). W i) e ∙ or-right (X i) (Y i) t
+
+-- what is left of a set without t
+module _ (X : Test) (t : ℕ) {Z : Test} (i : ℕ) where
+  pub drop-at : Z ≡ without-member t X → Z i ≡ true → (X i ≡ true) × (i ≢ t)
+  drop-at e h = let w = and-not (X i) (eqb i t) (sym (ap (λ (W : Test). W i) e) ∙ h) in (w .0, eqb-false i t (w .1))
+
+  pub drop-out : Z ≡ without-member t X → Z i ≡ false → (i ≡ t) ⊎ (X i ≡ false)
+  drop-out e h = elim (not-and (X i) (eqb i t) (sym (ap (λ (W : Test). W i) e) ∙ h)) [ inl c ↦ inl (eqb-true i t c) | inr f ↦ inr f ]
+
+-- a mask that is not 0 has a member
+pub some-member : (m : ℕ) → m < 2 ^ 64 → m ≢ 0 → (k : ℕ) × (member m k ≡ true)
+some-member m h n = let t = lowest-of 64 m h (omega arith) in (_, t .1 .here)
+
+pub no-members : {m : ℕ} → m ≡ 0 → (k : ℕ) → member m k ≡ false
+no-members e k = ap (λ (n : ℕ). member n k) e ∙ member-none k
+
+pub not-zero : {m : ℕ} (k : ℕ) → member m k ≡ true → 0 < m
+not-zero {m} k t = elim (ℕ-discrete m 0) [ yes e ↦ absurd (neither t (no-members e k)) | no o ↦ omega arith ]
+
+not-zero-test : (v : ℕ) → v ≢ 0 → not (eqb v 0) ≡ true
+not-zero-test v n = ap not (ne-eqb v 0 n)
+
+zero-test : (v : ℕ) → v ≡ 0 → not (eqb v 0) ≡ false
+zero-test v e = ap not (eq-eqb v 0 e)
+
+without-cases : (a b : Bool) → (a && not b) ≡ cond b false a
+without-cases true true = refl
+without-cases true false = refl
+without-cases false true = refl
+without-cases false false = refl
+
+with-cases : (a b : Bool) → (b || a) ≡ cond b true a
+with-cases a true = refl
+with-cases a false = refl
+
+-- the two ways of putting k
+module _ (X : Test) (k v : ℕ) {Z : Test} where
+  pub put-none : v ≡ 0 → Z ≡ without-member k X → Z ≡ put k v X
+  put-none z e = e ∙ fun-ext (λ i. without-cases (X i) (eqb i k) ∙ ap (λ b. cond (eqb i k) b (X i)) (sym (zero-test v z)))
+
+  pub put-some : v ≢ 0 → Z ≡ with-member k X → Z ≡ put k v X
+  put-some n e = e ∙ fun-ext (λ i. with-cases (X i) (eqb i k) ∙ ap (λ b. cond (eqb i k) b (X i)) (sym (not-zero-test v n)))
+
+  pub put-here : (i : ℕ) → Z ≡ put k v X → i ≡ k → Z i ≡ not (eqb v 0)
+  put-here i e c = ap (λ (W : Test). W i) e ∙ ap (λ b. cond b (not (eqb v 0)) (X i)) (eq-eqb i k c)
+
+  pub put-there : (i : ℕ) → Z ≡ put k v X → i ≢ k → Z i ≡ X i
+  put-there i e o = ap (λ (W : Test). W i) e ∙ ap (λ b. cond b (not (eqb v 0)) (X i)) (ne-eqb i k o)
+
+-- the number at one place changes
+pub mask-put : {n k v m : ℕ} (m′ : ℕ) {f g : ℕ → ℕ} → MaskOf n f m → k < n → g k ≡ v → ((i : ℕ) → i ≢ k → g i ≡ f i) → member m′ ≡ put k v (member m) → MaskOf n g m′
+mask-put {n} {k} {v} {m} m′ {f} {g} s h c o e = record {
+  there = λ i l d. elim (ℕ-discrete i k) [
+    | yes w ↦ put-here (member m) k v i e w ∙ not-zero-test v (λ z. d (ap g w ∙ c ∙ z))
+    | no w ↦ put-there (member m) k v i e w ∙ s .there i l (λ z. d (o i w ∙ z))
+  ];
+  below = λ i t. elim (ℕ-discrete i k) [ yes w ↦ omega arith | no w ↦ s .below i (sym (put-there (member m) k v i e w) ∙ t) ];
+  some = λ i t. elim (ℕ-discrete i k) [
+    | yes w ↦ λ z. neither (sym (put-here (member m) k v i e w) ∙ t) (zero-test v (sym c ∙ ap g (sym w) ∙ z))
+    | no w ↦ λ z. s .some i (sym (put-there (member m) k v i e w) ∙ t) (sym (o i w) ∙ z)
+  ];
+}
+
+-- one place more
+pub mask-next : {n v m m′ : ℕ} {f : ℕ → ℕ} → MaskOf n f m → f n ≡ v → member m′ ≡ put n v (member m) → MaskOf (n + 1) f m′
+mask-next {n} {v} {m} {m′} {f} s c e = record {
+  there = λ i l d. elim (ℕ-discrete i n) [
+    | yes w ↦ put-here (member m) n v i e w ∙ not-zero-test v (λ z. d (ap f w ∙ c ∙ z))
+    | no w ↦ put-there (member m) n v i e w ∙ s .there i (omega arith) d
+  ];
+  below = λ i t. elim (ℕ-discrete i n) [ yes w ↦ omega arith | no w ↦ omega (arith, s .below i (sym (put-there (member m) n v i e w) ∙ t)) ];
+  some = λ i t. elim (ℕ-discrete i n) [
+    | yes w ↦ λ z. neither (sym (put-here (member m) n v i e w) ∙ t) (zero-test v (sym c ∙ ap f (sym w) ∙ z))
+    | no w ↦ s .some i (sym (put-there (member m) n v i e w) ∙ t)
+  ];
+}
+
+pub mask-none : {f : ℕ → ℕ} → MaskOf 0 f 0
+mask-none = record { there = λ i l. absurd (omega arith); below = λ i t. absurd (neither t (member-none i)); some = λ i t. absurd (neither t (member-none i)) }
+
+pub mask-is : {n n′ m : ℕ} {f : ℕ → ℕ} → n ≡ n′ → MaskOf n f m → MaskOf n′ f m
+mask-is {m = m} {f = f} e s = subst (λ (n : ℕ). MaskOf n f m) e s
+
+mask-same : {n m m′ : ℕ} {f g : ℕ → ℕ} → ((i : ℕ) → g i ≡ f i) → m′ ≡ m → MaskOf n f m → MaskOf n g m′
+mask-same {n} {m} {m′} {f} {g} o e s = subst⁻¹ (λ (m : ℕ). MaskOf n g m) e (record {
+  there = λ i l d. s .there i l (λ z. d (o i ∙ z));
+  below = s .below;
+  some = λ i t z. s .some i t (sym (o i) ∙ z);
+})
+
+-- a number elsewhere is 0 in all places
+pub mask-zero : {n m : ℕ} {f : ℕ → ℕ} → ((i : ℕ) → i < n → f i ≡ 0) → m ≡ 0 → MaskOf n f m
+mask-zero z e = record {
+  there = λ i l d. absurd (d (z i l));
+  below = λ i t. absurd (neither t (no-members e i));
+  some = λ i t. absurd (neither t (no-members e i));
+}
+
+-- one cell changes, and its column's users with it
+module _ {p q : ℕ} {x x′ users users′ : List ℕ} {i j : ℕ} (w : q ≤ 64) (hi : i < p) (hj : j < q)
+    (row : (k l : ℕ) → l < 64 → i ≢ k → cell x′ k l ≡ cell x k l) (column : (k l : ℕ) → l < 64 → j ≢ l → cell x′ k l ≡ cell x k l) where
+  pub used-kept : Used p q x users → Noted x′ users users′ i j → Used p q x′ users′
+  used-kept u n = record {
+    column = λ l h. elim (ℕ-discrete l j) [
+      | yes c ↦ subst⁻¹ (λ (l : ℕ). MaskOf p (λ k. cell x′ k l) (getD users′ l 0)) c (mask-put (getD users′ j 0) (u .column j hj) hi refl (λ k o. row k j (omega arith) (λ e. o (sym e))) (n .here))
+      | no o ↦ mask-same (λ k. column k l (omega arith) (λ e. o (sym e))) (n .other l o) (u .column l h)
+    ];
+    none = λ l h. n .other l (λ c. omega arith) ∙ u .none l h;
+  }
+
+pub used-adds : {p q : ℕ} {x x′ users users′ : List ℕ} {i j d : ℕ} → q ≤ 64 → i < p → j < q → Adds x x′ i j d → Used p q x users → Noted x′ users users′ i j → Used p q x′ users′
+used-adds w hi hj a = used-kept w hi hj (adds-row a) (adds-column a)
+
+pub used-takes : {p q : ℕ} {x x′ users users′ : List ℕ} {i j d : ℕ} → q ≤ 64 → i < p → j < q → Adds x′ x i j d → Used p q x users → Noted x′ users users′ i j → Used p q x′ users′
+used-takes w hi hj a = used-kept w hi hj (λ k l h o. sym (adds-row a k l h o)) (λ k l h o. sym (adds-column a k l h o))
+
+-- a cell and its column's mask are written
+pub noted : {x : List ℕ} (users : List ℕ) (m : ℕ) {i j v : ℕ} → j < length users → cell x i j ≡ v → member m ≡ put i v (member (getD users j 0)) → Noted x users (set users j m) i j
+noted {x} users m {i} {j} {v} h e c = record {
+  here = ap member (getD-set-same users j m 0 h) ∙ c ∙ ap (λ (n : ℕ). put i n (member (getD users j 0))) (sym e);
+  other = λ k o. getD-set-other users j k m 0 o;
+}
+
+-- a user is a row, and has a column
+pub user-column : {p q : ℕ} {x users : List ℕ} → Used p q x users → (i j : ℕ) → relates users j i ≡ true → j < q
+user-column {q = q} u i j m = ⊎-elim (λ l. l) (λ l. absurd (neither m (no-members (u .none j l) i))) (below-or-not j q)
+
+pub user-row : {p q : ℕ} {x users : List ℕ} → Used p q x users → (i j : ℕ) → relates users j i ≡ true → i < p
+user-row u i j m = u .column j (user-column u i j m) .below i m
+
+pub zeros-get : (n j : ℕ) → getD {A = ℕ} (replicate n 0) j 0 ≡ 0
+zeros-get n j = ⊎-elim (λ l. getD-replicate {A = ℕ} n j 0 0 l) (λ l. List·getD-eq-default {A = ℕ} (replicate n 0) 0 (omega (arith, length-replicate {A = ℕ} n 0))) (below-or-not j n)

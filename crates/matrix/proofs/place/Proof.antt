@@ -1,0 +1,74 @@
+-- `matrix::place` meets its contract. Assumes nothing.
+use mathlib.Core.Path.{refl}
+use native.Mathlib.Omega.{arith}
+use lib.Seq.{getD-set-same}
+use Rattle.matrix.proofs.MatrixLaws.{adds, set-adds-at}
+use Rattle.matrix.proofs.MaskedLaws.{noted}
+use borrow.Author.Needs.{needs}
+use Rattle.matrix.proofs.place.Statement.{statement}
+use Rattle.matrix.proofs.place.Tie as tie
+
+mul-at : tie.Need-mul-at
+mul-at c = search needs
+
+add-at : tie.Need-add-at
+add-at c = search needs
+
+mul-v : tie.Need-mul-v
+mul-v c = search needs
+
+slice-read-v : tie.Need-slice-read-v
+slice-read-v c = search needs
+
+add-v : tie.Need-add-v
+add-v c = search needs
+
+mul-x : tie.Need-mul-x
+mul-x c = search needs
+
+slice-write-x : tie.Need-slice-write-x
+slice-write-x c = search needs
+
+mul-old : tie.Need-mul-old
+mul-old c = search needs
+
+slice-read-old : tie.Need-slice-read-old
+slice-read-old c = search needs
+
+marked-requires : tie.Need-marked-requires
+marked-requires c κs = search needs
+
+mul-users : tie.Need-mul-users
+mul-users c = search needs
+
+slice-write-users : tie.Need-slice-write-users
+slice-write-users c = search needs
+
+same-length : tie.Need-same-length
+same-length c = search needs
+
+same-length-2 : tie.Need-same-length-2
+same-length-2 c = search needs
+
+returns : tie.Need-returns
+returns c = let s = c .before .before .before .before .before .args in (adds _ _ (omega arith) (set-adds-at (s .x .now) _ _ (s .d) (omega arith) (refl)), noted (s .users .now) (c .marked .result) (omega arith) (getD-set-same (s .x .now) _ _ 0 (omega arith)) (c .marked .ensures))
+
+pub place-spec : {M : Type 1} → statement M
+place-spec =
+    tie.close
+    (tie.spec
+    mul-at
+    add-at
+    mul-v
+    slice-read-v
+    add-v
+    mul-x
+    slice-write-x
+    mul-old
+    slice-read-old
+    marked-requires
+    mul-users
+    slice-write-users
+    same-length
+    same-length-2
+    returns)

@@ -1,0 +1,80 @@
+-- The bytes of a tree, counted from its root down: how often the transition of each pair still has to be counted.
+-- Assumes nothing.
+use mathlib.Core.Path.{_≡_}
+use mathlib.Core.Bool.{Bool, _&&_}
+use mathlib.Core.List.{List}
+use Prim.Native.Nat.{ℕ, _+_, _*_, _^_, _≤_, _<_}
+use lib.Dec.{T, eqb}
+use lib.ListN.{length, getD}
+use Rattle.simulation.specs.Sum.{sum, when}
+use Rattle.simulation.specs.Table.{Table, states-of}
+use Rattle.simulation.specs.Round.{pairs}
+use Rattle.simulation.specs.Length.{pair-length}
+use Rattle.form.specs.Form.{Loaded, table-of}
+use Rattle.relation.specs.Mask.{member}
+use Rattle.choice.specs.Choice.{Lost, Choice, Sets}
+
+-- the bytes of the transitions that still have to be counted, each with all below it
+unfoldable pub owed : Table → Table → (counts : List ℕ) → ℕ
+unfolding sum pair-length
+owed M N counts = sum (states-of M) (λ s. sum (states-of N) (λ t. getD counts (s * states-of N + t) 0 * pair-length M N s t))
+
+-- the members of a row, each of which is to be counted c times more
+pub record Within (counts : List ℕ) (width s members c : ℕ) : Type 0 where
+  pub narrow : width ≤ 64
+  pub low : s < 64
+  pub inside : (t : ℕ) → T (member members t) → t < width
+  pub room : s * width + width ≤ length counts
+  pub small : (t : ℕ) → t < width → getD counts (s * width + t) 0 + c < 2 ^ 32
+
+pub record RowAdded (width s members c : ℕ) (counts counts′ : List ℕ) : Type 0 where
+  pub at : (u v : ℕ) → v < width → getD counts′ (u * width + v) 0 ≡ getD counts (u * width + v) 0 + when (eqb s u && member members v) c
+
+-- the pair (u, v) is one of target i and a member of its set
+abbrev pub child : (targets sets : List ℕ) (u v i : ℕ) → Bool
+child targets sets u v i = eqb (getD targets i 0) u && member (getD sets i 0) v
+
+-- what adding to the counts of targets and members of their sets rests on
+pub record CountsGiven (targets sets : List ℕ) (width c : ℕ) (counts : List ℕ) : Type 0 where
+  pub few : length targets ≤ 64
+  pub words : length targets ≤ length sets
+  pub narrow : width ≤ 64
+  pub low : (i : ℕ) → i < length targets → getD targets i 0 < 64
+  pub room : (i : ℕ) → i < length targets → getD targets i 0 * width + width ≤ length counts
+  pub inside : (i t : ℕ) → i < length targets → T (member (getD sets i 0) t) → t < width
+  pub small : (i t : ℕ) → i < length targets → t < width → getD counts (getD targets i 0 * width + t) 0 + 64 * c < 2 ^ 32
+
+-- the counts of the first n targets are raised
+pub record CountsAdded (targets sets : List ℕ) (width c n : ℕ) (counts counts′ : List ℕ) : Type 0 where
+  pub at : (u v : ℕ) → v < width → getD counts′ (u * width + v) 0 ≡ getD counts (u * width + v) 0 + sum n (λ i. when (child targets sets u v i) c)
+
+-- the most bytes that a tree may have
+abbrev pub longest : ℕ
+longest = 65535
+
+module _ (first second : List ℕ) where
+  -- a count for each pair, none above the bytes so far
+  pub record Tally (counts : List ℕ) (bytes : ℕ) : Type 0 where
+    pub room : pairs (table-of first) (table-of second) ≤ length counts
+    pub few : (u v : ℕ) → u < states-of (table-of first) → v < states-of (table-of second) → getD counts (u * states-of (table-of second) + v) 0 ≤ bytes
+    pub small : bytes < 2 ^ 30
+
+  -- some transitions are counted: the bytes so far and those owed are as many as before
+  pub record Tallied (counts : List ℕ) (bytes : ℕ) (counts′ : List ℕ) (bytes′ : ℕ) : Type 0 where
+    pub tally : Tally counts′ bytes′
+    pub total : bytes′ + owed (table-of first) (table-of second) counts′ ≡ bytes + owed (table-of first) (table-of second) counts
+
+  -- every count is 0 but that of the pair (s, t), which is 1
+  pub record OneCounted (s t : ℕ) (counts : List ℕ) : Type 0 where
+    pub tally : Tally counts 1
+    pub total : owed (table-of first) (table-of second) counts ≡ pair-length (table-of first) (table-of second) s t
+
+  -- a pair that is not kept, with its transition and the sets of its targets
+  pub record HandGiven (s t j : ℕ) (sets counts : List ℕ) (bytes : ℕ) : Type 0 where
+    pub first-loaded : Loaded first
+    pub second-loaded : Loaded second
+    pub lost : Lost first second s t
+    pub choice : Choice first second s t j
+    pub words : 64 ≤ length sets
+    pub told : Sets first second s t sets
+    pub tally : Tally counts bytes

@@ -1,0 +1,73 @@
+-- From the bytes of two tables, by what reading them told, to what a call does.
+-- Assumes nothing.
+use mathlib.Core.Path.{_≡_, sym, ap, _∙_, subst}
+use mathlib.Core.List.{List}
+use mathlib.Core.Logic.{_≢_}
+use Prim.Native.Nat.{ℕ}
+use Rattle.simulation.specs.Table.{Table}
+use Rattle.form.specs.Form.{table-of, Loaded}
+use Rattle.layout.specs.Bytes.{Decoded, refused, accepted, decode, table, refusal as refused-by}
+use Rattle.loading.specs.Fill.{Reads}
+use Rattle.layout.proofs.DecodeLaws.{decode-accepted}
+use Rattle.compare.specs.Outcome.{Buffers, Result, left}
+use Rattle.answer.specs.Numbers.{refusal}
+use Rattle.pod.specs.Check.{checked, RightFor, Checked}
+use Rattle.compare.specs.Steps.{Compared}
+use Rattle.compare.proofs.Comparing.{nothing}
+use Rattle.answer.specs.declared.answer.Answer.{Answer}
+use Rattle.pod.proofs.TableLaws.{decodes-refused}
+
+-- a refusal of one of the tables
+module _ (first second : List ℕ) (s t : ℕ) (b : Buffers) where
+  pub first-is-refused : {k : ℕ} → decode first ≡ refused k → Checked first second s t b (left (refusal k 1 0) b)
+  unfolding checked RightFor
+  first-is-refused {k} e =
+      record {
+        amounts = nothing;
+        right = subst (λ (d : Decoded). RightFor d (decode second) s t nothing) (sym e) tt;
+        result = sym (ap (λ (d : Decoded). checked d (decode second) s t b nothing) e);
+      }
+
+  module _ {M : Table} (e : decode first ≡ accepted M) where
+    pub second-is-refused : {k : ℕ} → decode second ≡ refused k → Checked first second s t b (left (refusal k 2 0) b)
+    unfolding checked RightFor
+    second-is-refused f =
+        record {
+          amounts = nothing;
+          right = subst (λ (d : Decoded). RightFor d (decode second) s t nothing) (sym e) (subst (λ (d : Decoded). RightFor (accepted M) d s t nothing) (sym f) tt);
+          result = sym (ap (λ (d : Decoded). checked d (decode second) s t b nothing) e ∙ ap (λ (d : Decoded). checked (accepted M) d s t b nothing) f);
+        }
+
+    -- two accepted tables
+    pub both-compared : {N : Table} {r : Result} → decode second ≡ accepted N → Compared M N s t b r → Checked first second s t b r
+    unfolding checked RightFor
+    both-compared {N} f h =
+        record {
+          amounts = h .amounts;
+          right = subst (λ (d : Decoded). RightFor d (decode second) s t (h .amounts)) (sym e) (subst (λ (d : Decoded). RightFor (accepted M) d s t (h .amounts)) (sym f) (h .right));
+          result = h .result ∙ sym (ap (λ (d : Decoded). checked d (decode second) s t b (h .amounts)) e ∙ ap (λ (d : Decoded). checked (accepted M) d s t b (h .amounts)) f);
+        }
+
+-- by what reading the tables into forms told
+pub loaded-by : {bytes f f′ : List ℕ} {m : ℕ} → Reads bytes f m f′ → m ≡ 0 → Loaded f′
+loaded-by p z = p .accepted (sym (p .number) ∙ z) .loaded
+
+module _ (first second : List ℕ) (s t : ℕ) (b : Buffers) {f f′ : List ℕ} {m : ℕ} (p : Reads first f m f′) where
+  pub read-first-refused : {r : Answer} → m ≢ 0 → r ≡ refusal m 1 0 → Checked first second s t b (left r b)
+  read-first-refused d e = subst (λ (q : Answer). Checked first second s t b (left q b)) (sym e) (first-is-refused first second s t b (decodes-refused first m (p .number) d))
+
+  module _ (accepted-first : m ≡ 0) {g g′ : List ℕ} {n : ℕ} (q : Reads second g n g′) where
+    first-passed : refused-by first ≡ 0
+    first-passed = sym (p .number) ∙ accepted-first
+
+    pub read-second-refused : {r : Answer} → n ≢ 0 → r ≡ refusal n 2 0 → Checked first second s t b (left r b)
+    read-second-refused d e =
+        subst (λ (q : Answer). Checked first second s t b (left q b)) (sym e)
+        (second-is-refused first second s t b (decode-accepted first first-passed) (decodes-refused second n (q .number) d))
+
+    pub read-compared : n ≡ 0 → {r : Result} → Compared (table-of f′) (table-of g′) s t b r → Checked first second s t b r
+    read-compared z {r} h =
+        let passed : refused-by second ≡ 0 = sym (q .number) ∙ z in
+        both-compared first second s t b (decode-accepted first first-passed) (decode-accepted second passed)
+        (subst (λ (N : Table). Compared (table first) N s t b r) (q .accepted passed .same)
+        (subst (λ (M : Table). Compared M (table-of g′) s t b r) (p .accepted first-passed .same) h))

@@ -1,3 +1,0 @@
--- Laws of the answer buffer.
--- Assumes nothing.
-pub mod Into

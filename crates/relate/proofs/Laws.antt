@@ -1,0 +1,110 @@
+-- Rows one by one, and what they are of a round.
+-- Assumes nothing.
+use mathlib.Core.Path.{_≡_, refl, sym, _∙_, ap}
+use mathlib.Core.Bool.{Bool, true, false, _||_, _&&_}
+use mathlib.Core.List.{List}
+use mathlib.Core.Logic.{_⊎_, inl, inr, ⊎-elim}
+use Prim.Native.Nat.{ℕ, suc, _+_, _*_, _<_, _≤_}
+use native.Mathlib.Nat.{not-suc-le-zero, suc-mul, mul-le-mul-right}
+use native.Mathlib.Decide.{ℕ-discrete}
+use native.Mathlib.Omega.{arith}
+use lib.Dec.{eqb, leb, eqb→eq, leb→le, le→leb}
+use borrow.Author.Tests.{lt-ltb, le-ltb, lt-leb, eq-eqb, ne-eqb}
+use lib.ListN.{length, getD, set, length-set}
+use lib.Seq.{getD-set-same, getD-set-other}
+use Rattle.simulation.specs.Table.{Table, states-of}
+use Rattle.simulation.specs.Round.{related, round, rank, pairs}
+use Rattle.simulation.proofs.Finite.Tests.{same-test, or-left, or-right, or-cases, same-eqb}
+use Rattle.simulation.proofs.Simulation.Ranks.{rank-law}
+use Rattle.relation.specs.Mask.{member, part}
+use Rattle.relation.proofs.Mask.{part-take, part-skip}
+use Rattle.relate.specs.Rows.{lasts, row, Indexed, Placed, Rows}
+
+-- the test as the code makes it
+pub lasts-zero : (r rank : ℕ) → rank ≡ 0 → eqb rank 0 ≡ lasts r rank
+lasts-zero r rank e = eq-eqb rank 0 e ∙ ap (λ b. b || leb r rank) (sym (eq-eqb rank 0 e))
+
+pub lasts-other : (r rank : ℕ) → (rank ≡ 0 → ⊥) → leb r rank ≡ lasts r rank
+lasts-other r rank n = ap (λ b. b || leb r rank) (sym (ne-eqb rank 0 n))
+
+-- a row, position by position
+pub row-next : (ranks : List ℕ) (width r s : ℕ) (nt : List ℕ) (j set set′ : ℕ) → member set ≡ part j (row ranks width r s nt)
+    → Placed r (getD ranks (s * width + getD nt j 0) 0) j set set′ → member set′ ≡ part (j + 1) (row ranks width r s nt)
+row-next ranks width r s nt j set set′ e p = at (row ranks width r s nt j) refl
+  where
+    at : (b : Bool) → row ranks width r s nt j ≡ b → member set′ ≡ part (j + 1) (row ranks width r s nt)
+    at true h = part-take (row ranks width r s nt) j set set′ e h (p .joins h)
+    at false h = ap member (p .stays h) ∙ part-skip (row ranks width r s nt) j set e h
+
+-- a loop that writes the rows
+module _ (ranks : List ℕ) (width r : ℕ) (mt nt rel : List ℕ) where
+  -- the rows of the first n targets are written
+  pub record Done (n : ℕ) (rel′ : List ℕ) : Type 0 where
+    pub size : length rel′ ≡ length rel
+    pub masks : (i : ℕ) → i < n → member (getD rel′ i 0) ≡ part (length nt) (row ranks width r (getD mt i 0) nt)
+    pub rest : (i : ℕ) → n ≤ i → getD rel′ i 0 ≡ getD rel i 0
+
+  pub done-start : Done 0 rel
+  done-start = record { size = refl; masks = λ i lt. absurd (not-suc-le-zero lt); rest = λ i _. refl }
+
+  pub done-next : (n x : ℕ) (rel′ : List ℕ) → n < length rel → Done n rel′
+      → member x ≡ part (length nt) (row ranks width r (getD mt n 0) nt) → Done (n + 1) (set rel′ n x)
+  done-next n x rel′ room d e = record {
+    size = length-set rel′ n x ∙ d .size;
+    masks = λ i lt. at i lt (ℕ-discrete i n);
+    rest = λ i le. getD-set-other rel′ n i x 0 (λ q. omega arith) ∙ d .rest i (omega arith);
+  }
+    where
+      at : (i : ℕ) → i < n + 1 → Dec (i ≡ n) → member (getD (set rel′ n x) i 0) ≡ part (length nt) (row ranks width r (getD mt i 0) nt)
+      at i lt (yes q) =
+          ap (λ (k : ℕ). member (getD (set rel′ n x) k 0)) q ∙ ap member (getD-set-same rel′ n x 0 (omega (arith, d .size))) ∙ e
+          ∙ ap (λ (k : ℕ). part (length nt) (row ranks width r (getD mt k 0) nt)) (sym q)
+      at i lt (no q) = ap member (getD-set-other rel′ n i x 0 q) ∙ d .masks i (omega arith)
+
+  pub done-rows : (rel′ : List ℕ) → Done (length mt) rel′ → Rows ranks width r mt nt rel rel′
+  done-rows rel′ d = record { size = d .size; masks = d .masks; rest = d .rest }
+
+-- what the test says of the rounds
+module _ (M N : Table) (s t : ℕ) (a : s < states-of M) (b : t < states-of N) where
+  pub lasts-round : (r : ℕ) → lasts (suc r) (rank M N s t) ≡ related (round M N r) s t
+  lasts-round r = same-test (lasts (suc r) (rank M N s t)) (related (round M N r) s t)
+      (λ x. rank-law M N s t a b .within r .1 (⊎-elim (λ z. inl (eqb→eq (rank M N s t) 0 z)) (λ l. inr (leb→le (suc r) (rank M N s t) l)) (or-cases (eqb (rank M N s t) 0) (leb (suc r) (rank M N s t)) x)))
+      (λ x. ⊎-elim
+      (λ z. or-left (eqb (rank M N s t) 0) (leb (suc r) (rank M N s t)) (same-eqb z))
+      (λ l. or-right (eqb (rank M N s t) 0) (leb (suc r) (rank M N s t)) (le→leb (suc r) (rank M N s t) l))
+      (rank-law M N s t a b .within r .0 x))
+
+  -- an r above every rank gives the relation of kept pairs
+  pub lasts-kept : (r : ℕ) → pairs M N < r → lasts r (rank M N s t) ≡ related (round M N (pairs M N)) s t
+  lasts-kept r lt = ap (λ b. eqb (rank M N s t) 0 || b) (lt-leb r (rank M N s t) (omega (arith, bound)) ∙ sym (lt-leb (suc (pairs M N)) (rank M N s t) (omega (arith, bound)))) ∙ lasts-round (pairs M N)
+    where
+      bound : rank M N s t ≤ pairs M N
+      bound = rank-law M N s t a b .bound
+
+-- the rows of targets that are states, out of the ranks of two tables
+module _ (M N : Table) (ranks : List ℕ) (right : (s t : ℕ) → s < states-of M → t < states-of N → getD ranks (s * states-of N + t) 0 ≡ rank M N s t) where
+  pub indexed : pairs M N ≤ length ranks → (s : ℕ) (nt : List ℕ) → s < states-of M → ((j : ℕ) → j < length nt → getD nt j 0 < states-of N)
+      → Indexed ranks (states-of N) s nt
+  indexed room s nt a b j lt =
+      let row : suc s * states-of N ≤ states-of M * states-of N = mul-le-mul-right (states-of N) a in
+      omega (arith, row, suc-mul s (states-of N), b j lt)
+
+  module _ (mt nt rel rel′ : List ℕ) (a : (i : ℕ) → i < length mt → getD mt i 0 < states-of M) (b : (j : ℕ) → j < length nt → getD nt j 0 < states-of N) where
+    row-test : (r : ℕ) → Rows ranks (states-of N) r mt nt rel rel′ → (i j : ℕ) → i < length mt → j < length nt
+        → member (getD rel′ i 0) j ≡ lasts r (rank M N (getD mt i 0) (getD nt j 0))
+    row-test r w i j li lj =
+        ap (λ X. X j) (w .masks i li) ∙ ap (λ c. c && row ranks (states-of N) r (getD mt i 0) nt j) (lt-ltb j (length nt) lj)
+        ∙ ap (lasts r) (right (getD mt i 0) (getD nt j 0) (a i li) (b j lj))
+
+    pub rows-round : (r : ℕ) → Rows ranks (states-of N) (suc r) mt nt rel rel′ → (i j : ℕ) → i < length mt → j < length nt
+        → member (getD rel′ i 0) j ≡ related (round M N r) (getD mt i 0) (getD nt j 0)
+    rows-round r w i j li lj = row-test (suc r) w i j li lj ∙ lasts-round M N (getD mt i 0) (getD nt j 0) (a i li) (b j lj) r
+
+    pub rows-kept : (r : ℕ) → pairs M N < r → Rows ranks (states-of N) r mt nt rel rel′ → (i j : ℕ) → i < length mt → j < length nt
+        → member (getD rel′ i 0) j ≡ related (round M N (pairs M N)) (getD mt i 0) (getD nt j 0)
+    rows-kept r lt w i j li lj = row-test r w i j li lj ∙ lasts-kept M N (getD mt i 0) (getD nt j 0) (a i li) (b j lj) r lt
+
+-- no row has a member past the targets
+pub rows-past : {ranks mt nt rel rel′ : List ℕ} {width r : ℕ} → Rows ranks width r mt nt rel rel′ → (i j : ℕ) → i < length mt → length nt ≤ j → member (getD rel′ i 0) j ≡ false
+rows-past {ranks} {mt} {nt} {width = width} {r = r} w i j li le =
+    ap (λ X. X j) (w .masks i li) ∙ ap (λ c. c && row ranks width r (getD mt i 0) nt j) (le-ltb j (length nt) le)

@@ -1,0 +1,5 @@
+-- What the proofs of several functions use.
+-- Assumes nothing.
+pub mod Laws
+pub mod Places
+pub mod Relating

@@ -1,0 +1,4 @@
+-- What the contracts of this crate cite.
+-- Assumes nothing.
+pub mod Rows
+pub mod Ranked

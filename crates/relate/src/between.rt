@@ -1,0 +1,52 @@
+// The relation of a round between the targets of two transitions, a mask to a target, out of the ranks of all pairs.
+use relation::set;
+ghost use mathlib.Core.Path.{_≡_};
+ghost use Prim.Native.Nat.{ℕ, _+_, _*_, _<_, _≤_};
+ghost use lib.ListN.{length, getD};
+ghost use Rattle.relation.specs.Mask.{member, part};
+ghost use Rattle.relate.specs.Rows.{lasts, row, Indexed, Placed, Rows};
+
+// A pair of this rank is kept by the round before round r.
+pub fn lasts(rank: u16, r: u16) -> bool
+    ensures { λ b. ⌜ b ≡ lasts r rank ⌝ }
+{
+    rank == 0 || r <= rank
+}
+
+// The members below j of a row, and j where the rank says so.
+fn place(set: u64, j: usize, rank: u16, r: u16) -> u64
+    requires { ⌜ j < 64 ⌝ }
+    ensures { λ s. ⌜ Placed r rank j set s ⌝ }
+{
+    if lasts(rank, r) {
+        return set::insert(set, j);
+    }
+    set
+}
+
+// The targets of nt that the state s is related to, by position.
+pub fn row(ranks: &[u16], width: usize, r: u16, s: usize, nt: &[u16]) -> u64
+    requires { ⌜ (length (now nt) ≤ 64) × Indexed (now ranks) width s (now nt) ⌝ }
+    ensures { λ b. ⌜ member b ≡ part (length (now (nt .entry))) (row (now (ranks .entry)) width r s (now (nt .entry))) ⌝ }
+{
+    let mut set: u64 = 0;
+    for j in 0..nt.len() {
+        let t = nt[j] as usize;
+        let rank = ranks[s * width + t];
+        set = place(set, j, rank, r);
+    }
+    set
+}
+
+// Row i of rel becomes the row of the target at position i of mt.
+pub fn rows(ranks: &[u16], width: usize, r: u16, mt: &[u16], nt: &[u16], rel: &mut [u64])
+    requires { ⌜ (length (now nt) ≤ 64) × (length (now mt) ≤ length (now rel))
+        × ((i : ℕ) → i < length (now mt) → Indexed (now ranks) width (getD (now mt) i 0) (now nt)) ⌝ }
+    ensures { λ _. ⌜ Rows (now (ranks .entry)) width r (now (mt .entry)) (now (nt .entry)) (now (rel .entry)) (now (rel .exit)) ⌝ }
+{
+    for i in 0..mt.len() {
+        let s = mt[i] as usize;
+        let mask = row(ranks, width, r, s, nt);
+        rel[i] = mask;
+    }
+}

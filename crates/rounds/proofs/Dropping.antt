@@ -1,0 +1,197 @@
+-- The pairs that a round drops, gathered member by member from a row, and row by row.
+-- Assumes nothing.
+use mathlib.Core.Path.{_≡_, refl, sym, ap, ap₂, _∙_, subst, fun-ext}
+use mathlib.Core.Bool.{Bool, true, false, not, _&&_, _||_, and-true, and-false, true≢false}
+use mathlib.Core.List.{List}
+use mathlib.Core.Logic.{_≢_, _⊎_, inl, inr}
+use Prim.Native.Nat.{ℕ, _^_, _<_}
+use native.Mathlib.Decide.{ℕ-discrete, decLt}
+use borrow.Author.Tests.{eq-eqb, ne-eqb}
+use lib.Dec.{T, T-not, eqb}
+use lib.ListN.{length, getD, set}
+use lib.Seq.{getD-set-same, getD-set-other}
+use Rattle.simulation.specs.Table.{Table, states-of}
+use Rattle.simulation.specs.Round.{Relation, related, survives}
+use Rattle.simulation.proofs.Finite.Tests.{either, both as both-of, and-left, and-right, is-false}
+use Rattle.simulation.proofs.Simulation.Relation.{relation-at, relation-right}
+use Rattle.relation.specs.Mask.{Test, member, with-member, without-member, both, Lowest}
+use Rattle.relation.proofs.Mask.{member-none}
+use Rattle.matching.specs.Held.{holds, held, matched}
+use Rattle.rounds.specs.Rounds.{falls, Doubtless, Judged, Fallen, Columns, Lost, Ready}
+use Rattle.links.specs.Links.{Empty}
+use Rattle.links.proofs.Walks.{some-member, left-self, left-other}
+use Rattle.links.proofs.Growing.{with-old, with-new}
+
+-- a set of those that fall, but for what is left to be judged
+pub record Dropped (F : Test) (left fallen : ℕ) : Type 0 where
+  pub at : (u : ℕ) → member fallen u ≡ (F u && not (member left u))
+
+-- the test's outcome decides
+pub judged-pass : {t x : ℕ} (pass : Bool) → pass ≡ true → Judged pass t x x
+judged-pass pass e = record { kept = λ _. refl; fell = λ f. absurd (true≢false (sym e ∙ f)) }
+
+pub judged-fail : {t x y : ℕ} (pass : Bool) → pass ≡ false → member y ≡ with-member t (member x) → Judged pass t x y
+judged-fail pass e h = record { kept = λ f. absurd (true≢false (sym f ∙ e)); fell = λ _. h }
+
+judged-here : {pass : Bool} {t f g : ℕ} → Judged pass t f g → member f t ≡ false → member g t ≡ not pass
+judged-here {pass = true} {t} {f} j e = ap (λ (n : ℕ). member n t) (j .kept refl) ∙ e
+judged-here {pass = false} {t} {f} j e = ap (λ (X : Test). X t) (j .fell refl) ∙ ap (λ (b : Bool). b || member f t) (eq-eqb t t refl)
+
+judged-there : {pass : Bool} {t f g : ℕ} → Judged pass t f g → (u : ℕ) → u ≢ t → member g u ≡ member f u
+judged-there {pass = true} j u d = ap (λ (n : ℕ). member n u) (j .kept refl)
+judged-there {pass = false} {t} {f} j u d = ap (λ (X : Test). X u) (j .fell refl) ∙ ap (λ (b : Bool). b || member f u) (ne-eqb u t d)
+
+-- the lowest member is judged
+pub drop-next : {F : Test} {x y t f g : ℕ} {pass : Bool} → Lowest (member x) t → member y ≡ without-member t (member x) → Judged pass t f g → F t ≡ not pass → Dropped F x f → Dropped F y g
+drop-next {F} {x} {y} {t} {f} {g} {pass} low rest judged e h = record { at = λ u. go u (ℕ-discrete u t) }
+  where
+    here : member g t ≡ (F t && not (member y t))
+    here =
+        judged-here judged (h .at t ∙ ap (λ (b : Bool). F t && not b) (low .here) ∙ and-false (F t))
+        ∙ sym e
+        ∙ sym (and-true (F t))
+        ∙ ap (λ (b : Bool). F t && not b) (sym (left-self x y t rest))
+
+    go : (u : ℕ) → Dec (u ≡ t) → member g u ≡ (F u && not (member y u))
+    go u (yes q) = subst (λ (u : ℕ). member g u ≡ (F u && not (member y u))) (sym q) here
+    go u (no d) = judged-there judged u d ∙ h .at u ∙ ap (λ (b : Bool). F u && not b) (sym (left-other x y t rest u d))
+
+pub drop-end : {F : Test} {x f : ℕ} → x ≡ 0 → Dropped F x f → member f ≡ F
+drop-end {F} {x} e h = fun-ext (λ u. h .at u ∙ ap (λ (n : ℕ). F u && not (member n u)) e ∙ ap (λ (b : Bool). F u && not b) (member-none u) ∙ and-true (F u))
+
+pub both-first : (x y z t : ℕ) → member z ≡ both (member x) (member y) → member z t ≡ true → member x t ≡ true
+both-first x y z t e h = first (member x t) (member y t) (ap (λ (X : Test). X t) (sym e) ∙ h)
+  where
+    first : (a b : Bool) → (a && b) ≡ true → a ≡ true
+    first true b h = refl
+    first false b h = h
+
+-- both tests, or the one that decides
+with-both : (a b : Bool) → (a && not (a && b)) ≡ (a && not b)
+with-both true b = refl
+with-both false b = refl
+
+module _ (M N : Table) (rows : List ℕ) (s : ℕ) (a : s < states-of M) (columns : Columns N (getD rows s 0)) where
+  -- a row of the relation is the mask
+  related-row : (t : ℕ) → related (held M N rows) s t ≡ holds rows s t
+  related-row t = go (decLt t (states-of N))
+    where
+      go : Dec (t < states-of N) → related (held M N rows) s t ≡ holds rows s t
+      go (yes b) = relation-at (states-of M) (states-of N) (holds rows) a b
+      go (no b) =
+          is-false (related (held M N rows) s t) (λ h. b (relation-right (states-of M) (states-of N) (holds rows) s t h))
+          ∙ sym (is-false (holds rows s t) (λ h. b (columns t h)))
+
+  falls-is : (t : ℕ) → falls M N (held M N rows) s t ≡ (holds rows s t && not (matched M N (held M N rows) s t))
+  unfolding survives
+  falls-is t = with-both (related (held M N rows) s t) (matched M N (held M N rows) s t) ∙ ap (λ (b : Bool). b && not (matched M N (held M N rows) s t)) (related-row t)
+
+  -- of a pair that is there, the match decides
+  pub falls-here : (t : ℕ) → holds rows s t ≡ true → falls M N (held M N rows) s t ≡ not (matched M N (held M N rows) s t)
+  falls-here t e = falls-is t ∙ ap (λ (b : Bool). b && not (matched M N (held M N rows) s t)) e
+
+  -- no pair falls but those in doubt
+  pub drop-start : (doubt : ℕ) {x f : ℕ} → member x ≡ both (holds rows s) (member doubt) → f ≡ 0 → Doubtless M N (held M N rows) s (member doubt) → Dropped (falls M N (held M N rows) s) x f
+  drop-start doubt {x} {f} e z sure =
+      record { at = λ u. ap (λ (n : ℕ). member n u) z ∙ member-none u ∙ sym (is-false (falls M N (held M N rows) s u && not (member x u)) (go u (either (member doubt u)))) }
+    where
+      out : (a b c : Bool) → T ((a && not b) && not (a && c)) → T c → ⊥
+      out true b true h _ = absurd (subst T (and-false (not b)) h)
+      out true b false h c = c
+      out false b c h _ = h
+
+      sure-of : (a b c : Bool) → T ((a && not b) && not c) → T a × T (not b)
+      sure-of true true c h = absurd h
+      sure-of true false c h = (tt, tt)
+      sure-of false b c h = absurd h
+
+      go : (u : ℕ) → T (member doubt u) ⊎ T (not (member doubt u)) → T (falls M N (held M N rows) s u && not (member x u)) → ⊥
+      go u (inl d) h =
+          out (holds rows s u) (matched M N (held M N rows) s u) (member doubt u)
+          (subst T (ap₂ (λ (a b : Bool). a && not b) (falls-is u) (ap (λ (X : Test). X u) e)) h) d
+      go u (inr d) h =
+          let y = sure-of (holds rows s u) (matched M N (held M N rows) s u) (member x u) (subst T (ap (λ (a : Bool). a && not (member x u)) (falls-is u)) h) in
+          T-not (matched M N (held M N rows) s u) (y .1) (sure u (is-false (member doubt u) (T-not (member doubt u) d)) (subst T (sym (related-row u)) (y .0)))
+
+-- the rows of `left` wait, with what is in doubt of each; of the others, those that have a pair that falls are in `fell`, and that pair in `lost`
+pub record Dropping (M N : Table) (R : Relation) (left : ℕ) (doubt lost : List ℕ) (fell : ℕ) : Type 0 where
+  pub waits : (s : ℕ) → member left s ≡ true → (s < states-of M) × Doubtless M N R s (member (getD doubt s 0))
+  pub exact : (s t : ℕ) → s < states-of M → member left s ≡ false → holds lost s t ≡ falls M N R s t
+  pub within : (s t : ℕ) → holds lost s t ≡ true → (s < states-of M) × (member fell s ≡ true)
+  pub some : fell ≢ 0 → (s : ℕ) × (t : ℕ) × (s < states-of M) × T (falls M N R s t)
+
+-- at first the rows with a pair in doubt wait, and in no other a pair falls
+pub dropping-start : {M N : Table} {rows doubt lost : List ℕ} {doubtful : ℕ} → Ready M N rows doubtful doubt → Empty lost → Dropping M N (held M N rows) doubtful doubt lost 0
+unfolding survives
+dropping-start {M} {N} {rows} {doubt} {lost} {doubtful} ready empty =
+    record {
+      waits = λ s m. (ready .states s m, λ t d h. ready .sure s (ready .states s m) t (ap (λ (b : Bool). b && holds doubt s t) m ∙ d) h);
+      exact = λ s t a m. empty s t ∙ sym (is-false (falls M N (held M N rows) s t) (kept s t a m));
+      within = λ s t h. absurd (true≢false (sym h ∙ empty s t));
+      some = λ d. absurd (d refl);
+    }
+  where
+    kept : (s t : ℕ) → s < states-of M → member doubtful s ≡ false → T (falls M N (held M N rows) s t) → ⊥
+    kept s t a m h =
+        let x : T (related (held M N rows) s t) = and-left (related (held M N rows) s t) (not (survives M N (held M N rows) s t)) h in
+        T-not (survives M N (held M N rows) s t) (and-right (related (held M N rows) s t) (not (survives M N (held M N rows) s t)) h)
+        (both-of (related (held M N rows) s t) (matched M N (held M N rows) s t) x (ready .sure s a t (ap (λ (b : Bool). b && holds doubt s t) m) x))
+
+-- one row more is judged
+pub dropping-next : {M N : Table} {R : Relation} {left rest s row fell fell′ : ℕ} {doubt lost : List ℕ} → s < length doubt → s < length lost → row < 2 ^ 64
+    → member left s ≡ true → member rest ≡ without-member s (member left) → member row ≡ falls M N R s → Judged (eqb row 0) s fell fell′
+    → Dropping M N R left doubt lost fell → Dropping M N R rest (set doubt s 0) (set lost s row) fell′
+dropping-next {M} {N} {R} {left} {rest} {s} {row} {fell} {fell′} {doubt} {lost} room room′ small has e d judged h =
+    record {
+      waits = λ u m. wait u m (ℕ-discrete u s);
+      exact = λ u t a m. at u t a m (ℕ-discrete u s);
+      within = λ u t m. inside u t m (ℕ-discrete u s);
+      some = found (ℕ-discrete row 0);
+    }
+  where
+    a : s < states-of M
+    a = h .waits s has .0
+
+    wait : (u : ℕ) → member rest u ≡ true → Dec (u ≡ s) → (u < states-of M) × Doubtless M N R u (member (getD (set doubt s 0) u 0))
+    wait u m (yes c) = absurd (true≢false (sym m ∙ ap (member rest) c ∙ left-self left rest s e))
+    wait u m (no c) =
+        subst (λ (x : ℕ). (u < states-of M) × Doubtless M N R u (member x)) (sym (getD-set-other doubt s u 0 0 c)) (h .waits u (sym (left-other left rest s e u c) ∙ m))
+
+    here : (t : ℕ) → holds (set lost s row) s t ≡ member row t
+    here t = ap (λ (y : ℕ). member y t) (getD-set-same lost s row 0 room′)
+
+    at : (u t : ℕ) → u < states-of M → member rest u ≡ false → Dec (u ≡ s) → holds (set lost s row) u t ≡ falls M N R u t
+    at u t b m (yes c) = subst (λ (u : ℕ). holds (set lost s row) u t ≡ falls M N R u t) (sym c) (here t ∙ ap (λ (X : Test). X t) d)
+    at u t b m (no c) = ap (λ (y : ℕ). member y t) (getD-set-other lost s u row 0 c) ∙ h .exact u t b (sym (left-other left rest s e u c) ∙ m)
+
+    joined : row ≢ 0 → member fell′ s ≡ true
+    joined n = with-new fell fell′ s (judged .fell (ne-eqb row 0 n))
+
+    still : (u : ℕ) → member fell u ≡ true → Dec (row ≡ 0) → member fell′ u ≡ true
+    still u m (yes z) = ap (λ (n : ℕ). member n u) (judged .kept (eq-eqb row 0 z)) ∙ m
+    still u m (no n) = with-old fell fell′ s u (judged .fell (ne-eqb row 0 n)) m
+
+    inside : (u t : ℕ) → holds (set lost s row) u t ≡ true → Dec (u ≡ s) → (u < states-of M) × (member fell′ u ≡ true)
+    inside u t m (yes c) =
+        let x : member row t ≡ true = sym (here t) ∙ ap (λ (u : ℕ). holds (set lost s row) u t) (sym c) ∙ m in
+        subst (λ (u : ℕ). (u < states-of M) × (member fell′ u ≡ true)) (sym c)
+        (a, joined (λ z. true≢false (sym x ∙ ap (λ (n : ℕ). member n t) z ∙ member-none t)))
+    inside u t m (no c) =
+        let x = h .within u t (ap (λ (y : ℕ). member y t) (sym (getD-set-other lost s u row 0 c)) ∙ m) in
+        (x .0, still u (x .1) (ℕ-discrete row 0))
+
+    found : Dec (row ≡ 0) → fell′ ≢ 0 → (s : ℕ) × (t : ℕ) × (s < states-of M) × T (falls M N R s t)
+    found (yes z) n = h .some (λ q. n (judged .kept (eq-eqb row 0 z) ∙ q))
+    found (no z) n = let x = some-member row small z in (s, x .0, a, subst (λ (X : Test). T (X (x .0))) d (x .1))
+
+-- no row waits
+pub dropping-end : {M N : Table} {R : Relation} {left fell : ℕ} {doubt lost : List ℕ} → left ≡ 0 → Dropping M N R left doubt lost fell → Fallen M N R lost fell
+dropping-end {M} {N} {R} {left} {fell} {doubt} {lost} e h =
+    record {
+      exact = exact;
+      within = h .within;
+      some = λ d. let x = h .some d in (x .0, x .1, x .2, subst T (sym (exact (x .0) (x .1) (x .2))) (x .3));
+    }
+  where
+    exact : Lost M N R lost
+    exact s t a = h .exact s t a (ap (λ (n : ℕ). member n s) e ∙ member-none s)

@@ -1,0 +1,3 @@
+-- The definitions, in reading order.
+-- Assumes nothing.
+pub mod Rounds

@@ -1,0 +1,3 @@
+-- Laws of the search.
+-- Assumes nothing.
+pub mod SearchLaws

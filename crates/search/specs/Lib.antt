@@ -1,0 +1,3 @@
+-- What a search for a path reaches.
+-- Assumes nothing.
+pub mod Search

@@ -1,0 +1,73 @@
+-- What is shown of a pair, by what the functions below give.
+-- Assumes nothing.
+use mathlib.Core.Path.{_≡_, refl, ap, _∙_}
+use mathlib.Core.List.{List}
+use Prim.Native.Nat.{ℕ, _≤_, _<_, min}
+use native.Mathlib.Omega.{arith}
+use lib.ListN.{length}
+use Rattle.simulation.specs.Table.{Table, states-of}
+use Rattle.simulation.specs.Demands.{Kept}
+use Rattle.simulation.specs.Length.{tree-length}
+use Rattle.simulation.proofs.Trees.Length.{tree-bytes as bytes-length}
+use Rattle.flows.specs.Flow.{flow-room}
+use Rattle.flows.specs.FlowSteps.{Flowed}
+use Rattle.flows.proofs.FlowPlace.{right-amounts}
+use Rattle.buffer.specs.Buffer.{over}
+use Rattle.order.specs.Count.{longest}
+use Rattle.answer.specs.Numbers.{refusal, with-written}
+use Rattle.answer.specs.declared.answer.Answer.{Answer}
+use Rattle.witness.specs.Shown.{tree-bytes, FlowShown, TreeShown}
+
+-- what is shown of a kept pair
+module _ (M N : Table) (s t : ℕ) (a : Answer) (flow : List ℕ) where
+  pub flow-refused : {r : Answer} {n : ℕ} → s < states-of M → t < states-of N → Kept M N s t → n ≡ flow-room M N s → length flow < n → r ≡ refusal 21 0 n → FlowShown M N s t a r flow flow
+  flow-refused x y k e h er =
+      let w = right-amounts M N s t x y k in
+      record {
+        amounts = w .0;
+        right = w .1;
+        refused = λ _. (er ∙ ap (refusal 21 0) e, refl);
+        written = λ g. absurd (omega arith);
+      }
+
+  pub flow-shown : {r : Answer} {n w : ℕ} {flow′ : List ℕ} → n ≡ flow-room M N s → n ≤ length flow → Flowed M N s t w flow flow′ → r ≡ with-written w a → FlowShown M N s t a r flow flow′
+  flow-shown e h f er =
+      record {
+        amounts = f .amounts;
+        right = f .right;
+        refused = λ g. absurd (omega arith);
+        written = λ _. (er ∙ ap (λ (n : ℕ). with-written n a) (f .filled .count), f .filled .bytes);
+      }
+
+-- what is shown of a pair that is not kept
+module _ (M N : Table) (s t : ℕ) (b : t < states-of N) (a : Answer) (tree : List ℕ) {len : ℕ} (e : len ≡ min 65536 (tree-length M N s t)) where
+  bytes-long : length (tree-bytes M N s t) ≡ tree-length M N s t
+  bytes-long = bytes-length M N s t b
+
+  pub tree-long : {r : Answer} → longest < len → r ≡ refusal 23 0 0 → TreeShown M N s t a r tree tree
+  tree-long h er =
+      record {
+        long = λ _. (er, refl);
+        refused = λ g _. absurd (omega (arith, bytes-long));
+        written = λ g _. absurd (omega (arith, bytes-long));
+      }
+
+  module _ (short : len ≤ longest) where
+    pub length-is : len ≡ length (tree-bytes M N s t)
+    length-is = omega (arith, bytes-long)
+
+    pub tree-refused : {r : Answer} → length tree < len → r ≡ refusal 22 0 len → TreeShown M N s t a r tree tree
+    tree-refused h er =
+        record {
+          long = λ g. absurd (omega (arith, bytes-long));
+          refused = λ _ _. (er ∙ ap (refusal 22 0) length-is, refl);
+          written = λ _ g. absurd (omega (arith, bytes-long));
+        }
+
+    pub tree-shown : {r : Answer} {tree′ : List ℕ} → len ≤ length tree → tree′ ≡ over (tree-bytes M N s t) tree → r ≡ with-written len a → TreeShown M N s t a r tree tree′
+    tree-shown h w er =
+        record {
+          long = λ g. absurd (omega (arith, bytes-long));
+          refused = λ _ g. absurd (omega (arith, bytes-long));
+          written = λ _ _. (er ∙ ap (λ (n : ℕ). with-written n a) length-is, w);
+        }

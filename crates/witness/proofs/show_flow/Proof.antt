@@ -1,0 +1,63 @@
+-- `witness::show_flow` meets its contract.
+-- Assumes nothing.
+use native.Mathlib.Omega.{arith}
+use borrow.Author.Needs.{needs}
+use Rattle.flows.proofs.FlowRoom.{flow-within}
+use Rattle.witness.proofs.Showing.{flow-refused, flow-shown}
+use Rattle.witness.proofs.Room.{room-limit}
+use Rattle.witness.proofs.show_flow.Statement.{statement}
+use Rattle.witness.proofs.show_flow.Tie as tie
+
+flow-room-requires : tie.Need-flow-room-requires
+flow-room-requires c κs = search needs
+
+cast-refused : tie.Need-cast-refused
+cast-refused c =
+    let p = c .before .before .before .before .before .before .before .pre in
+    omega (arith, c .before .flow-room .ensures, room-limit _ _ (p .ready .ranked .first-loaded) (p .ready .ranked .second-loaded) _ (p .first))
+
+refused-requires : tie.Need-refused-requires
+refused-requires c κs = search needs
+
+returns : tie.Need-returns
+returns c =
+    let p = c .before .before .before .before .before .before .before .before .pre in
+    flow-refused _ _ _ _ _ _ (p .first) (p .second) (p .kept) (c .before .before .flow-room .ensures) (c .before .if1 .taken) (c .refused .ensures)
+
+flow-requires : tie.Need-flow-requires
+flow-requires c κs = let p = c .before .before .before .before .before .before .before .before .before .pre in (p, omega (arith, c .before .before .before .flow-room .ensures))
+
+cast-with-written : tie.Need-cast-with-written
+cast-with-written c =
+    let p = c .before .before .before .before .before .before .before .before .before .before .before .before .before .before .pre in
+    let f = c .before .before .before .before .flow .ensures .0 in
+    omega (arith, f .filled .count, flow-within p (f .amounts), room-limit _ _ (p .ready .ranked .first-loaded) (p .ready .ranked .second-loaded) _ (p .first))
+
+with-written-requires : tie.Need-with-written-requires
+with-written-requires c κs = search needs
+
+same-length : tie.Need-same-length
+same-length c = search needs
+
+same-length-2 : tie.Need-same-length-2
+same-length-2 c = search needs
+
+returns-2 : tie.Need-returns-2
+returns-2 c =
+    let d = c .before .before .before .before .before in
+    flow-shown _ _ _ _ _ _ (d .before .before .before .before .flow-room .ensures) (omega arith) (d .flow .ensures .0) (c .with-written .ensures)
+
+pub show-flow-spec : {M : Type 1} → statement M
+show-flow-spec =
+    tie.close
+    (tie.spec
+    flow-room-requires
+    cast-refused
+    refused-requires
+    returns
+    flow-requires
+    cast-with-written
+    with-written-requires
+    same-length
+    same-length-2
+    returns-2)

@@ -1,0 +1,42 @@
+-- What is shown of a pair: its flow or its tree, and the answer for it.
+-- Assumes nothing.
+use mathlib.Core.Path.{_≡_}
+use mathlib.Core.List.{List}
+use Prim.Native.Nat.{ℕ, _≤_, _<_}
+use lib.ListN.{length}
+use Rattle.simulation.specs.Fit.{Amounts}
+use Rattle.simulation.specs.Table.{Table}
+use Rattle.simulation.specs.Tree.{tree, node-bytes}
+use Rattle.simulation.specs.Length.{tree-length}
+use Rattle.form.specs.Form.{table-of}
+use Rattle.tree.specs.Parts.{Given}
+use Rattle.measure.specs.Lengths.{Measured}
+use Rattle.flows.specs.Flow.{Right, flow-bytes, flow-room}
+use Rattle.buffer.specs.Buffer.{over}
+use Rattle.order.specs.Count.{longest}
+use Rattle.answer.specs.Numbers.{refusal, with-written}
+use Rattle.answer.specs.declared.answer.Answer.{Answer}
+
+abbrev pub tree-bytes : (M N : Table) (s t : ℕ) → List ℕ
+tree-bytes M N s t = node-bytes (tree M N s t)
+
+-- a kept pair: the flow is written if there is room for it, and the answer a then says how long it is
+pub record FlowShown (M N : Table) (s t : ℕ) (a r : Answer) (flow flow′ : List ℕ) : Type 0 where
+  pub amounts : ℕ → Amounts
+  pub right : Right M N s t amounts
+  pub refused : length flow < flow-room M N s → (r ≡ refusal 21 0 (flow-room M N s)) × (flow′ ≡ flow)
+  pub written : flow-room M N s ≤ length flow → (r ≡ with-written (length (flow-bytes M N s t amounts)) a) × (flow′ ≡ over (flow-bytes M N s t amounts) flow)
+
+-- what the writing of a pair's tree rests on
+pub record TreeReady (first second ranks choices lengths : List ℕ) (s t : ℕ) (rel x tree : List ℕ) : Type 0 where
+  pub given : Given first second ranks choices lengths rel x
+  pub measured : Measured first second choices lengths s t
+  pub short : tree-length (table-of first) (table-of second) s t ≤ longest
+  pub room : tree-length (table-of first) (table-of second) s t ≤ length tree
+
+-- a pair that is not kept: the tree is written if it is short enough and there is room for it
+pub record TreeShown (M N : Table) (s t : ℕ) (a r : Answer) (tree tree′ : List ℕ) : Type 0 where
+  pub long : longest < length (tree-bytes M N s t) → (r ≡ refusal 23 0 0) × (tree′ ≡ tree)
+  pub refused : length (tree-bytes M N s t) ≤ longest → length tree < length (tree-bytes M N s t) → (r ≡ refusal 22 0 (length (tree-bytes M N s t))) × (tree′ ≡ tree)
+  pub written : length (tree-bytes M N s t) ≤ longest → length (tree-bytes M N s t) ≤ length tree
+      → (r ≡ with-written (length (tree-bytes M N s t)) a) × (tree′ ≡ over (tree-bytes M N s t) tree)
