@@ -2,10 +2,11 @@
 // What the array lent as room holds is free. It is made of ones, which the compiler writes in words, where zeros become a call of memset.
 use answer::Answer;
 use ranking;
+use relation::ranks;
 ghost use mathlib.Core.Path.{_≡_};
-ghost use mathlib.Core.Bool.{cond, _||_};
+ghost use mathlib.Core.Bool.{_||_};
 ghost use Prim.Native.Nat.{_*_, _≤_, _<_};
-ghost use lib.Dec.{eqb, leb};
+ghost use lib.Dec.{leb};
 ghost use lib.ListN.{length};
 ghost use Rattle.simulation.specs.Table.{states-of};
 ghost use Rattle.simulation.specs.Round.{pairs};
@@ -24,16 +25,10 @@ fn found(ranks: &[u16], place: usize, rounds: u16, kept: u16) -> Answer
         needed: 0,
         rounds: rounds as u32,
         kept: kept as u32,
-        verdict: one_if_zero(ranks[0]),
+        verdict: ranks::kept(ranks[0]),
         rank: ranks[place] as u32,
         written: 0,
     }
-}
-
-fn one_if_zero(rank: u16) -> u32
-    ensures { λ r. ⌜ r ≡ cond (eqb rank 0) 1 0 ⌝ }
-{
-    if rank == 0 { 1 } else { 0 }
 }
 
 // Ranks for all pairs, then what there is to show of (s, t).

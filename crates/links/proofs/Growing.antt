@@ -16,7 +16,7 @@ use Rattle.simulation.specs.Table.{targets}
 use Rattle.form.specs.Form.{transition-at}
 use Rattle.relation.specs.Mask.{Test, member, with-member, without-member, either}
 use Rattle.relation.proofs.Mask.{member-none}
-use Rattle.matching.specs.Held.{holds}
+use Rattle.relation.specs.Related.{holds}
 use Rattle.links.specs.Links.{Covered, Within, Grown, Joins, Doubted}
 use Rattle.links.proofs.Walks.{left-self, left-other}
 

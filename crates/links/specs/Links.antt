@@ -7,7 +7,7 @@ use Prim.Native.Nat.{ℕ, _+_, _≤_, _<_}
 use lib.ListN.{length, getD}
 use Rattle.relation.specs.Mask.{member}
 use Rattle.form.specs.Form.{start-of, transition-at, table-of}
-use Rattle.matching.specs.Held.{holds}
+use Rattle.relation.specs.Related.{holds}
 use Rattle.simulation.specs.Table.{targets, states-of}
 
 -- the rows have no pair

@@ -7,7 +7,8 @@ ghost use lib.ListN.{length, getD};
 ghost use Rattle.relation.specs.Mask.{member};
 ghost use Rattle.simulation.specs.Table.{states-of};
 ghost use Rattle.form.specs.Form.{Loaded, table-of};
-ghost use Rattle.matching.specs.Held.{holds, Places};
+ghost use Rattle.relation.specs.Related.{holds};
+ghost use Rattle.matching.specs.Held.{Places};
 ghost use Rattle.links.specs.Links.{Empty, Linked, Covered, Links, Joins, Grown, Doubted};
 
 fn wide(t: u16) -> usize

@@ -12,7 +12,7 @@ use lib.ListN.{length, getD}
 use Rattle.simulation.proofs.Finite.Tests.{last-or-below}
 use Rattle.relation.specs.Mask.{Test, member, either, both, except}
 use Rattle.relation.proofs.Mask.{member-none, lowest-of}
-use Rattle.matching.specs.Held.{holds}
+use Rattle.relation.specs.Related.{holds}
 use Rattle.matching.specs.Quick.{RowMissing, Scanned, Covers}
 use Rattle.matching.specs.declared.Settled.{Settled}
 use Rattle.matching.specs.declared.Settled.the-variants.{Fits, Misfits, Open}

@@ -20,7 +20,8 @@ use Rattle.relation.specs.Mask.{member}
 use Rattle.form.specs.Form.{Loaded, transitions-of, transition-at, table-of}
 use Rattle.form.proofs.FormLaws.{limits, limited-at, distribution-at, weights-length, targets-length}
 use Rattle.transport.specs.Answer.{Answered}
-use Rattle.matching.specs.Held.{Ascending, holds, Places, Gathered, relation-of, fitting}
+use Rattle.relation.specs.Related.{holds}
+use Rattle.matching.specs.Held.{Ascending, Places, Gathered, relation-of, fitting}
 use Rattle.matching.specs.Known.{SetOf}
 use Rattle.matching.specs.Quick.{AllRelated, RowMissing, ColumnMissing, Scanned}
 use Rattle.matching.specs.declared.Settled.{Settled}

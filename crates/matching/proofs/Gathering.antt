@@ -14,7 +14,8 @@ use lib.Seq.{getD-set-same, getD-set-other}
 use Rattle.simulation.proofs.Finite.Tests.{either, is-false, last-or-below}
 use Rattle.form.proofs.Sound.{ascending-above}
 use Rattle.relation.specs.Mask.{Test, member, part, both, up-to}
-use Rattle.matching.specs.Held.{holds, row-at, Ascending, Gathered}
+use Rattle.relation.specs.Related.{holds}
+use Rattle.matching.specs.Held.{row-at, Ascending, Gathered}
 
 pub gather-next : (rows ms ns rel : List ℕ) (i x : ℕ) → i < length rel → member x ≡ part (length ns) (row-at (getD rows (getD ms i 0) 0) ns)
     → Gathered rows ms ns i rel → Gathered rows ms ns (i + 1) (set rel i x)

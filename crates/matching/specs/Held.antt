@@ -6,15 +6,12 @@ use mathlib.Core.List.{List}
 use Prim.Native.Nat.{ℕ, _+_, _≤_, _<_}
 use lib.ListN.{length, getD}
 use Rattle.relation.specs.Mask.{Test, member}
+use Rattle.relation.specs.Related.{holds}
 use Rattle.form.specs.Form.{transition-at, table-of}
 use Rattle.simulation.specs.Sum.{all-of, any-of}
 use Rattle.simulation.specs.Fit.{fits?}
 use Rattle.simulation.specs.Table.{Transition, Table, weights, states-of, steps}
 use Rattle.simulation.specs.Round.{Relation, between, relation, fits-step}
-
--- the rows have the pair (s, t)
-abbrev pub holds : List ℕ → ℕ → ℕ → Bool
-holds rows s t = member (getD rows s 0) t
 
 -- the relation that the rows hold between the states of two tables
 abbrev pub held : Table → Table → List ℕ → Relation

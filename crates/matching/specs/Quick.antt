@@ -7,7 +7,7 @@ use mathlib.Core.Logic.{_⊎_}
 use Prim.Native.Nat.{ℕ, _<_}
 use lib.ListN.{length, getD}
 use Rattle.relation.specs.Mask.{member}
-use Rattle.matching.specs.Held.{holds}
+use Rattle.relation.specs.Related.{holds}
 use Rattle.matching.specs.declared.Settled.{Settled}
 use Rattle.matching.specs.declared.Settled.the-variants.{Fits, Misfits, Open}
 

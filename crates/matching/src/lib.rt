@@ -1,8 +1,9 @@
 // Whether each transition of one state fits some transition of another that has the same code, in a relation held as rows.
+use relation::rows;
 use relation::set;
 ghost use mathlib.Core.Path.{_≡_};
 ghost use Prim.Native.Nat.{_<_, _≤_};
-ghost use lib.ListN.{length};
+ghost use lib.ListN.{length, getD};
 ghost use Rattle.relation.specs.Mask.{member, part};
 ghost use Rattle.simulation.specs.Table.{states-of};
 ghost use Rattle.simulation.specs.Round.{fits-step};
@@ -50,35 +51,33 @@ pub fn target_sets(f: &[u16], masks: &mut [u64])
     }
 }
 
-// A row by positions, place by place: place j is a member if the state there is one of the row.
-fn sparse_row(row: u64, to: &[u16]) -> u64
-    requires { ⌜ Places 64 (now to) ⌝ }
-    ensures { λ r. ⌜ member r ≡ part (length (now (to .entry))) (row-at row (now (to .entry))) ⌝ }
+// Row s by positions, place by place: place j has the bit of the state there.
+fn sparse_row(rows: &[u64], s: usize, to: &[u16]) -> u64
+    requires { ⌜ (s < length (now rows)) × Places 64 (now to) ⌝ }
+    ensures { λ r. ⌜ member r ≡ part (length (now (to .entry))) (row-at (getD (now (rows .entry)) s 0) (now (to .entry))) ⌝ }
 {
     let mut r = 0u64;
     let mut j = 0;
     while j < to.len() {
-        if set::test(row, wide(to[j])) {
-            r = set::insert(r, j);
-        }
+        r = set::with_bit(r, j, rows::bit(rows, s, wide(to[j])));
         j += 1;
     }
     r
 }
 
-// A row by positions. Targets that ascend to their number less one are all states in order, and positions are then states.
-fn gather_row(row: u64, to: &[u16]) -> u64
-    requires { ⌜ Places 64 (now to) × Ascending (now to) ⌝ }
-    ensures { λ r. ⌜ member r ≡ part (length (now (to .entry))) (row-at row (now (to .entry))) ⌝ }
+// Row s by positions. Targets that ascend to their number less one are all states in order, and positions are then states.
+fn gather_row(rows: &[u64], s: usize, to: &[u16]) -> u64
+    requires { ⌜ (s < length (now rows)) × Places 64 (now to) × Ascending (now to) ⌝ }
+    ensures { λ r. ⌜ member r ≡ part (length (now (to .entry))) (row-at (getD (now (rows .entry)) s 0) (now (to .entry))) ⌝ }
 {
     let n = to.len();
     if n == 0 {
         return 0;
     }
     if wide(to[n - 1]) + 1 == n {
-        return set::intersection(row, set::below(n));
+        return set::intersection(rows[s], set::below(n));
     }
-    sparse_row(row, to)
+    sparse_row(rows, s, to)
 }
 
 // The rows between the targets of two transitions, by positions.
@@ -88,7 +87,7 @@ fn gather(from: &[u16], to: &[u16], rows: &[u64], rel: &mut [u64])
 {
     let mut i = 0;
     while i < from.len() {
-        rel[i] = gather_row(rows[wide(from[i])], to);
+        rel[i] = gather_row(rows, wide(from[i]), to);
         i += 1;
     }
 }

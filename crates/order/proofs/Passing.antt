@@ -20,7 +20,7 @@ use Rattle.form.specs.Form.{table-of, transition-at}
 use Rattle.form.proofs.FormLaws.{few-pairs}
 use Rattle.relation.specs.Mask.{Test, member, without-member}
 use Rattle.relation.specs.Related.{related}
-use Rattle.relation.proofs.Rows.{removed}
+use Rattle.relation.proofs.Relations.{removed}
 use Rattle.choice.specs.Choice.{Lost, Choice, Sets}
 use Rattle.order.proofs.Pairs.{at-number, lost-place, lost-low, number-place}
 use Rattle.order.proofs.Targets.{ChoiceGiven, targets-are, count-is, few-targets, state-low, set-at, child-lost}

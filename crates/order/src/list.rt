@@ -19,11 +19,11 @@ ghost use Rattle.choice.specs.Choice.{Lost};
 ghost use Rattle.order.specs.Count.{longest, Tally, Tallied, OneCounted};
 ghost use Rattle.order.specs.Order.{Children, ChildrenAdded, OrderGiven, PassGiven, NoteGiven, Noted, Listed, Passing, PairPassed, RowPassed, RankPassed, RanksPassed};
 
-// How many pairs are passed, the rows with a pair that is still to be passed, and the bytes counted.
+// The bytes counted, how many pairs are passed, and the rows with a pair that is still to be passed.
 struct Progress {
+    bytes: u32,
     count: usize,
     rows: u64,
-    bytes: u32,
 }
 
 // Lists the pair (s, t) at place n, with the number of its transition.

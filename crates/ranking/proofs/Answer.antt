@@ -17,7 +17,7 @@ use Rattle.simulation.specs.Round.{pairs, rank, rank-list, zeros}
 use Rattle.simulation.proofs.Finite.Sums.{sum-ext, members}
 use Rattle.simulation.proofs.Simulation.RankList.{rank-list-length, rank-list-at, kept-count}
 use Rattle.buffer.specs.Buffer.{over}
-use Rattle.matching.specs.Held.{holds}
+use Rattle.relation.specs.Related.{holds}
 
 -- a place of a list of p rows of q numbers is a row and a column
 pub place : (p q i : ℕ) → i < p * q → (s : ℕ) × (t : ℕ) × (s < p) × (t < q) × (i ≡ s * q + t)

@@ -16,8 +16,8 @@ use Rattle.relation.specs.Mask.{Test, both, up-to, size}
 use Rattle.relation.specs.Related.{related, none, all-below, pairs-of}
 use Rattle.relation.specs.declared.Relation.{Relation}
 use Rattle.relation.proofs.Mask.{below-or-not}
-use Rattle.relation.proofs.Rows.{pairs-most}
-use Rattle.matching.specs.Held.{holds}
+use Rattle.relation.proofs.Relations.{pairs-most}
+use Rattle.relation.specs.Related.{holds}
 use Rattle.links.specs.Links.{Empty}
 use Rattle.rounds.specs.Rounds.{Cleared, Open, After, Refined}
 use Rattle.ranking.specs.Rows.{Filled}

@@ -7,7 +7,7 @@ ghost use lib.ListN.{length, getD};
 ghost use Rattle.relation.specs.Mask.{both, up-to};
 ghost use Rattle.simulation.specs.Table.{states-of};
 ghost use Rattle.form.specs.Form.{Loaded, table-of};
-ghost use Rattle.matching.specs.Held.{holds};
+ghost use Rattle.relation.specs.Related.{holds};
 ghost use Rattle.rounds.specs.Rounds.{Cleared, Refined};
 ghost use Rattle.ranking.specs.Rows.{Ample, Filled};
 

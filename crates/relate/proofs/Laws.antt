@@ -1,7 +1,7 @@
 -- Rows one by one, and what they are of a round.
 -- Assumes nothing.
 use mathlib.Core.Path.{_≡_, refl, sym, _∙_, ap}
-use mathlib.Core.Bool.{Bool, true, false, _||_, _&&_}
+use mathlib.Core.Bool.{false, _||_, _&&_}
 use mathlib.Core.List.{List}
 use mathlib.Core.Logic.{_⊎_, inl, inr, ⊎-elim}
 use Prim.Native.Nat.{ℕ, suc, _+_, _*_, _<_, _≤_}
@@ -9,7 +9,7 @@ use native.Mathlib.Nat.{not-suc-le-zero, suc-mul, mul-le-mul-right}
 use native.Mathlib.Decide.{ℕ-discrete}
 use native.Mathlib.Omega.{arith}
 use lib.Dec.{eqb, leb, eqb→eq, leb→le, le→leb}
-use borrow.Author.Tests.{lt-ltb, le-ltb, lt-leb, eq-eqb, ne-eqb}
+use borrow.Author.Tests.{lt-ltb, le-ltb, lt-leb}
 use lib.ListN.{length, getD, set, length-set}
 use lib.Seq.{getD-set-same, getD-set-other}
 use Rattle.simulation.specs.Table.{Table, states-of}
@@ -17,24 +17,8 @@ use Rattle.simulation.specs.Round.{related, round, rank, pairs}
 use Rattle.simulation.proofs.Finite.Tests.{same-test, or-left, or-right, or-cases, same-eqb}
 use Rattle.simulation.proofs.Simulation.Ranks.{rank-law}
 use Rattle.relation.specs.Mask.{member, part}
-use Rattle.relation.proofs.Mask.{part-take, part-skip}
-use Rattle.relate.specs.Rows.{lasts, row, Indexed, Placed, Rows}
-
--- the test as the code makes it
-pub lasts-zero : (r rank : ℕ) → rank ≡ 0 → eqb rank 0 ≡ lasts r rank
-lasts-zero r rank e = eq-eqb rank 0 e ∙ ap (λ b. b || leb r rank) (sym (eq-eqb rank 0 e))
-
-pub lasts-other : (r rank : ℕ) → (rank ≡ 0 → ⊥) → leb r rank ≡ lasts r rank
-lasts-other r rank n = ap (λ b. b || leb r rank) (sym (ne-eqb rank 0 n))
-
--- a row, position by position
-pub row-next : (ranks : List ℕ) (width r s : ℕ) (nt : List ℕ) (j set set′ : ℕ) → member set ≡ part j (row ranks width r s nt)
-    → Placed r (getD ranks (s * width + getD nt j 0) 0) j set set′ → member set′ ≡ part (j + 1) (row ranks width r s nt)
-row-next ranks width r s nt j set set′ e p = at (row ranks width r s nt j) refl
-  where
-    at : (b : Bool) → row ranks width r s nt j ≡ b → member set′ ≡ part (j + 1) (row ranks width r s nt)
-    at true h = part-take (row ranks width r s nt) j set set′ e h (p .joins h)
-    at false h = ap member (p .stays h) ∙ part-skip (row ranks width r s nt) j set e h
+use Rattle.relation.specs.Ranks.{lasts}
+use Rattle.relate.specs.Rows.{row, Indexed, Rows}
 
 -- a loop that writes the rows
 module _ (ranks : List ℕ) (width r : ℕ) (mt nt rel : List ℕ) where

@@ -1,16 +1,11 @@
 -- A round's relation between targets, out of the ranks of all pairs (01, "Keeping, ranking, sharing out").
 -- Assumes nothing.
 use mathlib.Core.Path.{_≡_}
-use mathlib.Core.Bool.{Bool, true, false, _||_}
 use mathlib.Core.List.{List}
 use Prim.Native.Nat.{ℕ, _+_, _*_, _<_, _≤_}
-use lib.Dec.{eqb, leb}
 use lib.ListN.{length, getD}
-use Rattle.relation.specs.Mask.{Test, member, part, with-member}
-
--- a pair of this rank is kept by the round before round r: it is never missing, or first missing in round r or later
-abbrev pub lasts : ℕ → ℕ → Bool
-lasts r rank = eqb rank 0 || leb r rank
+use Rattle.relation.specs.Mask.{Test, member, part}
+use Rattle.relation.specs.Ranks.{lasts}
 
 -- the state s is related to the target at position j
 abbrev pub row : List ℕ → (width r s : ℕ) → List ℕ → Test
@@ -19,11 +14,6 @@ row ranks width r s nt j = lasts r (getD ranks (s * width + getD nt j 0) 0)
 -- the ranks have a place for s and each target
 abbrev pub Indexed : List ℕ → (width s : ℕ) → List ℕ → Type 0
 Indexed ranks width s nt = (j : ℕ) → j < length nt → s * width + getD nt j 0 < length ranks
-
--- j joins the set where the rank says so
-pub record Placed (r rank j set set′ : ℕ) : Type 0 where
-  pub joins : lasts r rank ≡ true → member set′ ≡ with-member j (member set)
-  pub stays : lasts r rank ≡ false → set′ ≡ set
 
 -- row i is that of the target at position i of mt; nothing else changes
 pub record Rows (ranks : List ℕ) (width r : ℕ) (mt nt rel rel′ : List ℕ) : Type 0 where

@@ -1,28 +1,11 @@
 // The relation of a round between the targets of two transitions, a mask to a target, out of the ranks of all pairs.
+use relation::ranks::lasts;
 use relation::set;
 ghost use mathlib.Core.Path.{_≡_};
 ghost use Prim.Native.Nat.{ℕ, _+_, _*_, _<_, _≤_};
 ghost use lib.ListN.{length, getD};
 ghost use Rattle.relation.specs.Mask.{member, part};
-ghost use Rattle.relate.specs.Rows.{lasts, row, Indexed, Placed, Rows};
-
-// A pair of this rank is kept by the round before round r.
-pub fn lasts(rank: u16, r: u16) -> bool
-    ensures { λ b. ⌜ b ≡ lasts r rank ⌝ }
-{
-    rank == 0 || r <= rank
-}
-
-// The members below j of a row, and j where the rank says so.
-fn place(set: u64, j: usize, rank: u16, r: u16) -> u64
-    requires { ⌜ j < 64 ⌝ }
-    ensures { λ s. ⌜ Placed r rank j set s ⌝ }
-{
-    if lasts(rank, r) {
-        return set::insert(set, j);
-    }
-    set
-}
+ghost use Rattle.relate.specs.Rows.{row, Indexed, Rows};
 
 // The targets of nt that the state s is related to, by position.
 pub fn row(ranks: &[u16], width: usize, r: u16, s: usize, nt: &[u16]) -> u64
@@ -33,7 +16,7 @@ pub fn row(ranks: &[u16], width: usize, r: u16, s: usize, nt: &[u16]) -> u64
     for j in 0..nt.len() {
         let t = nt[j] as usize;
         let rank = ranks[s * width + t];
-        set = place(set, j, rank, r);
+        set = set::with_bit(set, j, lasts(rank, r));
     }
     set
 }

@@ -1,4 +1,5 @@
--- Laws of masks and of relations by rows.
+-- Laws of masks, of relations by rows, and of those by ranks.
 -- Assumes nothing.
 pub mod Mask
-pub mod Rows
+pub mod Relations
+pub mod Lasting

@@ -6,18 +6,19 @@ use mathlib.Core.Logic.{_⊎_, inl, inr, ⊎-elim, _≢_}
 use native.Mathlib.Decide.{decLt}
 use borrow.Author.Tests.{eqb-true, eqb-false, lt-ltb, le-ltb, le-leb, lt-leb, eq-eqb, ne-eqb}
 use Prim.Native.Nat.{ℕ, zero, suc, _+_, _-_, _*_, _/_, _%_, _^_, _≤_, _<_, zero-le, suc-le-suc, min, max}
-use native.Mathlib.Nat.{mod-lt, zero-lt-suc, le-of-suc-le-suc, not-suc-le-zero, one-mul, pow-suc, div-one, le-antisymm, lt-of-not-le, lt-irrefl, sub-zero, eq-or-lt-of-le}
+use native.Mathlib.Nat.{mod-lt, zero-lt-suc, le-of-suc-le-suc, not-suc-le-zero, one-mul, pow-suc, div-one, le-antisymm, lt-of-not-le, lt-irrefl, sub-zero, eq-or-lt-of-le, zero-mul}
 use native.Mathlib.Numerals.{one-add}
 use native.Mathlib.Omega.{arith}
 use lib.Dec.{eqb, ltb, leb, leb→le, T, eqb·zero-suc, eqb·suc-zero, eqb·suc-suc, lit<}
 use lib.Arith.{digits-div, digits-mod, lt-one}
 use lib.Pow.{shr-shr, shl-exact, pow-pos, ones-lt}
-use lib.Bits.{bitAnd, bitOr, and-step, or-step, and-self, and-le-r, and-mask}
+use lib.Bits.{bitAnd, bitOr, and-step, or-step, and-self, and-le-r}
+use mir.Val.{boolByte}
 use lib.Count.{ones, ones-step, trailingZeros}
 use Rattle.simulation.specs.Sum.{sum, when}
 use Rattle.simulation.proofs.Finite.Tests.{is-true, and-left, and-right}
 use Rattle.simulation.proofs.Finite.Sums.{sum-first, sum-ext, sum-zero, sum-change}
-use Rattle.relation.specs.Mask.{Test, member, only, up-to, with-member, without-member, either, both, except, part, from, size, Lowest}
+use Rattle.relation.specs.Mask.{Test, member, only, up-to, without-member, with-bit, either, both, except, bit, part, from, size, Lowest}
 
 two-pos : zero < 2
 two-pos = zero-lt-suc 1
@@ -249,9 +250,35 @@ except-is x y hx hy = fun-ext (λ k. member-and x ((2 ^ 64 - 1) - y) k ∙ at k)
 pub without-is : (x y t : ℕ) → x < 2 ^ 64 → y < 2 ^ 64 → member y ≡ only t → member (bitAnd x ((2 ^ 64 - 1) - y)) ≡ without-member t (member x)
 without-is x y t hx hy e = except-is x y hx hy ∙ ap (λ X. except (member x) X) e
 
--- the test of a digit, as the code has it
-pub test-is : (x t : ℕ) → eqb (bitAnd (x / 2 ^ t) 1) 1 ≡ member x t
-test-is x t = ap (λ (n : ℕ). eqb n 1) (and-mask (x / 2 ^ t) 1) ∙ member-shift x t
+-- a digit as a number, as the code takes it
+pub bit-is : (x t : ℕ) → x / 2 ^ t % 2 ≡ bit (member x) t
+bit-is x t = one-or-none (x / 2 ^ t % 2) (digit (x / 2 ^ t)) ∙ ap (λ b. when b 1) (member-shift x t)
+
+pub bit-small : (X : Test) (t : ℕ) → bit X t < 2
+bit-small X t = at (X t)
+  where
+    at : (b : Bool) → when b 1 < 2
+    at true = lit< tt
+    at false = lit< tt
+
+-- a test's outcome as a number, as a cast makes it
+pub flag-is : (b : Bool) → boolByte b ≡ when b 1
+flag-is true = refl
+flag-is false = refl
+
+-- a number joins where its digit says so
+pub with-bit-is : (x t b : ℕ) → t < 64 → b < 2 → member (bitOr (b * 2 ^ t % 2 ^ 64) x) ≡ with-bit t b (member x)
+with-bit-is x t zero lt h =
+    either-is (0 * 2 ^ t % 2 ^ 64) x
+    ∙ fun-ext (λ k. ap (λ (n : ℕ). member (n % 2 ^ 64) k || member x k) (zero-mul (2 ^ t)) ∙ ap (λ c. c || member x k) (member-none k ∙ sym (and-false (eqb k t))))
+with-bit-is x t (suc zero) lt h =
+    either-is (1 * 2 ^ t % 2 ^ 64) x
+    ∙ fun-ext (λ k. ap (λ c. c || member x k) (ap (λ X. X k) (only-is t lt) ∙ sym (and-true (eqb k t))))
+with-bit-is x t (suc (suc b)) lt h = absurd (not-suc-le-zero (le-of-suc-le-suc (le-of-suc-le-suc h)))
+
+pub one-is : (c : Bool) → eqb (when c 1) 1 ≡ c
+one-is true = refl
+one-is false = refl
 
 -- masks with the same members are equal
 same-digit : (a b : ℕ) → a < 2 → b < 2 → eqb a 1 ≡ eqb b 1 → a ≡ b
@@ -302,12 +329,9 @@ part-next X n k = at (order k n)
 pub part-start : (X : Test) → member 0 ≡ part 0 X
 part-start X = fun-ext (λ k. member-none k ∙ ap (λ b. b && X k) (sym (le-ltb k 0 zero-le)))
 
-pub part-skip : (X : Test) (n x : ℕ) → member x ≡ part n X → X n ≡ false → member x ≡ part (n + 1) X
-part-skip X n x e fails = e ∙ fun-ext (λ k. sym (part-next X n k ∙ ap (λ b. b || part n X k) (ap (λ b. eqb k n && b) fails ∙ and-false (eqb k n))))
-
-pub part-take : (X : Test) (n x y : ℕ) → member x ≡ part n X → X n ≡ true → member y ≡ with-member n (member x) → member y ≡ part (n + 1) X
-part-take X n x y e passes f =
-    f ∙ ap (λ Y. with-member n Y) e ∙ fun-ext (λ k. sym (part-next X n k ∙ ap (λ b. b || part n X k) (ap (λ b. eqb k n && b) passes ∙ and-true (eqb k n))))
+pub part-bit : (X : Test) (n x y b : ℕ) → member x ≡ part n X → b ≡ bit X n → member y ≡ with-bit n b (member x) → member y ≡ part (n + 1) X
+part-bit X n x y b e h f =
+    f ∙ ap (λ Y. with-bit n b Y) e ∙ fun-ext (λ k. sym (part-next X n k ∙ ap (λ c. (eqb k n && c) || part n X k) (sym (ap (λ (m : ℕ). eqb m 1) h ∙ one-is (X n)))))
 
 -- a walk over the members, lowest first: what is left has the members from n on
 pub walk-start : (X : Test) → X ≡ from 0 X

@@ -2,3 +2,4 @@
 -- Assumes nothing.
 pub mod Mask
 pub mod Related
+pub mod Ranks

@@ -1,6 +1,7 @@
 -- A relation as a test on pairs.
 -- Assumes nothing.
-use mathlib.Core.Bool.{false, not, _&&_}
+use mathlib.Core.Bool.{Bool, false, not, _&&_}
+use mathlib.Core.List.{List}
 use Prim.Native.Nat.{ℕ}
 use lib.Dec.{eqb, ltb}
 use lib.ListN.{getD}
@@ -8,9 +9,13 @@ use Rattle.simulation.specs.Sum.{sum}
 use Rattle.relation.specs.Mask.{Test, member, size}
 use Rattle.relation.specs.declared.Relation.{Relation}
 
+-- the rows have the pair (s, t)
+abbrev pub holds : List ℕ → ℕ → ℕ → Bool
+holds rows s t = member (getD rows s 0) t
+
 unfoldable pub related : Relation → ℕ → Test
 unfolding member
-related r s = member (getD (r .rows) s 0)
+related r s = holds (r .rows) s
 
 abbrev pub none : ℕ → Test
 none s t = false

@@ -1,4 +1,7 @@
-// Sets of states as masks, and relations between the states of two tables, a mask to a row.
+// Sets of states as masks, and relations between the states of two tables, a mask to a row. Whether a pair is related is a number,
+// 1 or 0, so that no caller has to branch on it.
+pub mod ranks;
+pub mod rows;
 pub mod set;
 
 ghost use mathlib.Core.Path.{_≡_};

@@ -7,18 +7,21 @@ ghost use Rattle.relation.specs.Mask.{
   only,
   «with-member»,
   «without-member»,
+  «with-bit»,
   either,
   both,
   except,
+  bit,
   size,
   Lowest,
 };
 
-pub fn test(set: u64, t: usize) -> bool
+// 1 for a member, else 0: the shift brings its digit to the lowest place, and the remainder is that digit.
+pub fn bit(set: u64, t: usize) -> u64
     requires { ⌜ t < 64 ⌝ }
-    ensures { λ r. ⌜ r ≡ member set t ⌝ }
+    ensures { λ r. ⌜ r ≡ bit (member set) t ⌝ }
 {
-    (set >> t) & 1 == 1
+    (set >> t) % 2
 }
 
 pub fn single(t: usize) -> u64
@@ -44,6 +47,14 @@ pub fn insert(set: u64, t: usize) -> u64
     ensures { λ r. ⌜ member r ≡ with-member t (member set) ⌝ }
 {
     single(t) | set
+}
+
+// t too where b is 1. Nothing branches on b.
+pub fn with_bit(set: u64, t: usize, b: u64) -> u64
+    requires { ⌜ (t < 64) × (b < 2) ⌝ }
+    ensures { λ r. ⌜ member r ≡ with-bit t b (member set) ⌝ }
+{
+    (b << t) | set
 }
 
 pub fn remove(set: u64, t: usize) -> u64

@@ -1,8 +1,7 @@
 // Rounds and kept pairs, counted from the ranks.
+use relation::ranks;
 ghost use mathlib.Core.Path.{_≡_};
-ghost use mathlib.Core.Bool.{cond};
 ghost use Prim.Native.Nat.{max};
-ghost use lib.Dec.{eqb};
 ghost use Rattle.report.specs.Text.{yes?};
 ghost use Rattle.simulation.specs.Round.{maximum, zeros};
 
@@ -26,7 +25,7 @@ pub fn kept_of(ranks: &[u16]) -> usize
     let mut kept = 0;
     let mut i = 0;
     while i < ranks.len() {
-        kept += one_if_zero(ranks[i]);
+        kept += ranks::kept(ranks[i]) as usize;
         i += 1;
     }
     kept
@@ -46,10 +45,4 @@ fn larger(a: u16, b: u16) -> u16
     ensures { λ r. ⌜ r ≡ max a b ⌝ }
 {
     if a < b { b } else { a }
-}
-
-fn one_if_zero(rank: u16) -> usize
-    ensures { λ r. ⌜ r ≡ cond (eqb rank 0) 1 0 ⌝ }
-{
-    if rank == 0 { 1 } else { 0 }
 }

@@ -1,7 +1,7 @@
 -- The pairs that a round drops, gathered member by member from a row, and row by row.
 -- Assumes nothing.
 use mathlib.Core.Path.{_≡_, refl, sym, ap, ap₂, _∙_, subst, fun-ext}
-use mathlib.Core.Bool.{Bool, true, false, not, _&&_, _||_, and-true, and-false, true≢false}
+use mathlib.Core.Bool.{Bool, true, false, not, _&&_, _||_, and-true, and-false, or-true, or-false, true≢false}
 use mathlib.Core.List.{List}
 use mathlib.Core.Logic.{_≢_, _⊎_, inl, inr}
 use Prim.Native.Nat.{ℕ, _^_, _<_}
@@ -10,17 +10,18 @@ use borrow.Author.Tests.{eq-eqb, ne-eqb}
 use lib.Dec.{T, T-not, eqb}
 use lib.ListN.{length, getD, set}
 use lib.Seq.{getD-set-same, getD-set-other}
+use Rattle.simulation.specs.Sum.{when}
 use Rattle.simulation.specs.Table.{Table, states-of}
 use Rattle.simulation.specs.Round.{Relation, related, survives}
 use Rattle.simulation.proofs.Finite.Tests.{either, both as both-of, and-left, and-right, is-false}
 use Rattle.simulation.proofs.Simulation.Relation.{relation-at, relation-right}
 use Rattle.relation.specs.Mask.{Test, member, with-member, without-member, both, Lowest}
-use Rattle.relation.proofs.Mask.{member-none}
-use Rattle.matching.specs.Held.{holds, held, matched}
+use Rattle.relation.proofs.Mask.{member-none, no-member, one-is}
+use Rattle.relation.specs.Related.{holds}
+use Rattle.matching.specs.Held.{held, matched}
 use Rattle.rounds.specs.Rounds.{falls, Doubtless, Judged, Fallen, Columns, Lost, Ready}
 use Rattle.links.specs.Links.{Empty}
 use Rattle.links.proofs.Walks.{some-member, left-self, left-other}
-use Rattle.links.proofs.Growing.{with-old, with-new}
 
 -- a set of those that fall, but for what is left to be judged
 pub record Dropped (F : Test) (left fallen : ℕ) : Type 0 where
@@ -28,18 +29,28 @@ pub record Dropped (F : Test) (left fallen : ℕ) : Type 0 where
 
 -- the test's outcome decides
 pub judged-pass : {t x : ℕ} (pass : Bool) → pass ≡ true → Judged pass t x x
-judged-pass pass e = record { kept = λ _. refl; fell = λ f. absurd (true≢false (sym e ∙ f)) }
+judged-pass {t} {x} pass e =
+    record { joins = fun-ext (λ k. sym (ap (λ (b : Bool). (eqb k t && eqb (when (not b) 1) 1) || member x k) e ∙ ap (λ (b : Bool). b || member x k) (and-false (eqb k t)))) }
 
 pub judged-fail : {t x y : ℕ} (pass : Bool) → pass ≡ false → member y ≡ with-member t (member x) → Judged pass t x y
-judged-fail pass e h = record { kept = λ f. absurd (true≢false (sym f ∙ e)); fell = λ _. h }
+judged-fail {t} {x} pass e h =
+    record { joins = h ∙ fun-ext (λ k. sym (ap (λ (b : Bool). (eqb k t && eqb (when (not b) 1) 1) || member x k) e ∙ ap (λ (b : Bool). b || member x k) (and-true (eqb k t)))) }
 
-judged-here : {pass : Bool} {t f g : ℕ} → Judged pass t f g → member f t ≡ false → member g t ≡ not pass
-judged-here {pass = true} {t} {f} j e = ap (λ (n : ℕ). member n t) (j .kept refl) ∙ e
-judged-here {pass = false} {t} {f} j e = ap (λ (X : Test). X t) (j .fell refl) ∙ ap (λ (b : Bool). b || member f t) (eq-eqb t t refl)
+module _ {pass : Bool} {t f g : ℕ} (j : Judged pass t f g) where
+  judged-at : (u : ℕ) → member g u ≡ ((eqb u t && not pass) || member f u)
+  judged-at u = ap (λ (X : Test). X u) (j .joins) ∙ ap (λ (b : Bool). (eqb u t && b) || member f u) (one-is (not pass))
 
-judged-there : {pass : Bool} {t f g : ℕ} → Judged pass t f g → (u : ℕ) → u ≢ t → member g u ≡ member f u
-judged-there {pass = true} j u d = ap (λ (n : ℕ). member n u) (j .kept refl)
-judged-there {pass = false} {t} {f} j u d = ap (λ (X : Test). X u) (j .fell refl) ∙ ap (λ (b : Bool). b || member f u) (ne-eqb u t d)
+  judged-here : member g t ≡ (not pass || member f t)
+  judged-here = judged-at t ∙ ap (λ (b : Bool). (b && not pass) || member f t) (eq-eqb t t refl)
+
+  judged-there : (u : ℕ) → u ≢ t → member g u ≡ member f u
+  judged-there u d = judged-at u ∙ ap (λ (b : Bool). (b && not pass) || member f u) (ne-eqb u t d)
+
+  judged-old : (u : ℕ) → member f u ≡ true → member g u ≡ true
+  judged-old u m = judged-at u ∙ ap (λ (b : Bool). (eqb u t && not pass) || b) m ∙ or-true (eqb u t && not pass)
+
+  judged-same : pass ≡ true → (u : ℕ) → member g u ≡ member f u
+  judged-same e u = judged-at u ∙ ap (λ (b : Bool). (eqb u t && not b) || member f u) e ∙ ap (λ (b : Bool). b || member f u) (and-false (eqb u t))
 
 -- the lowest member is judged
 pub drop-next : {F : Test} {x y t f g : ℕ} {pass : Bool} → Lowest (member x) t → member y ≡ without-member t (member x) → Judged pass t f g → F t ≡ not pass → Dropped F x f → Dropped F y g
@@ -47,7 +58,9 @@ drop-next {F} {x} {y} {t} {f} {g} {pass} low rest judged e h = record { at = λ 
   where
     here : member g t ≡ (F t && not (member y t))
     here =
-        judged-here judged (h .at t ∙ ap (λ (b : Bool). F t && not b) (low .here) ∙ and-false (F t))
+        judged-here judged
+        ∙ ap (λ (b : Bool). not pass || b) (h .at t ∙ ap (λ (b : Bool). F t && not b) (low .here) ∙ and-false (F t))
+        ∙ or-false (not pass)
         ∙ sym e
         ∙ sym (and-true (F t))
         ∙ ap (λ (b : Bool). F t && not b) (sym (left-self x y t rest))
@@ -138,10 +151,10 @@ dropping-start {M} {N} {rows} {doubt} {lost} {doubtful} ready empty =
         (both-of (related (held M N rows) s t) (matched M N (held M N rows) s t) x (ready .sure s a t (ap (λ (b : Bool). b && holds doubt s t) m) x))
 
 -- one row more is judged
-pub dropping-next : {M N : Table} {R : Relation} {left rest s row fell fell′ : ℕ} {doubt lost : List ℕ} → s < length doubt → s < length lost → row < 2 ^ 64
+pub dropping-next : {M N : Table} {R : Relation} {left rest s row fell fell′ : ℕ} {doubt lost : List ℕ} → s < length doubt → s < length lost → row < 2 ^ 64 → fell′ < 2 ^ 64
     → member left s ≡ true → member rest ≡ without-member s (member left) → member row ≡ falls M N R s → Judged (eqb row 0) s fell fell′
     → Dropping M N R left doubt lost fell → Dropping M N R rest (set doubt s 0) (set lost s row) fell′
-dropping-next {M} {N} {R} {left} {rest} {s} {row} {fell} {fell′} {doubt} {lost} room room′ small has e d judged h =
+dropping-next {M} {N} {R} {left} {rest} {s} {row} {fell} {fell′} {doubt} {lost} room room′ small small′ has e d judged h =
     record {
       waits = λ u m. wait u m (ℕ-discrete u s);
       exact = λ u t a m. at u t a m (ℕ-discrete u s);
@@ -165,11 +178,7 @@ dropping-next {M} {N} {R} {left} {rest} {s} {row} {fell} {fell′} {doubt} {lost
     at u t b m (no c) = ap (λ (y : ℕ). member y t) (getD-set-other lost s u row 0 c) ∙ h .exact u t b (sym (left-other left rest s e u c) ∙ m)
 
     joined : row ≢ 0 → member fell′ s ≡ true
-    joined n = with-new fell fell′ s (judged .fell (ne-eqb row 0 n))
-
-    still : (u : ℕ) → member fell u ≡ true → Dec (row ≡ 0) → member fell′ u ≡ true
-    still u m (yes z) = ap (λ (n : ℕ). member n u) (judged .kept (eq-eqb row 0 z)) ∙ m
-    still u m (no n) = with-old fell fell′ s u (judged .fell (ne-eqb row 0 n)) m
+    joined n = judged-here judged ∙ ap (λ (b : Bool). not b || member fell s) (ne-eqb row 0 n)
 
     inside : (u t : ℕ) → holds (set lost s row) u t ≡ true → Dec (u ≡ s) → (u < states-of M) × (member fell′ u ≡ true)
     inside u t m (yes c) =
@@ -178,10 +187,10 @@ dropping-next {M} {N} {R} {left} {rest} {s} {row} {fell} {fell′} {doubt} {lost
         (a, joined (λ z. true≢false (sym x ∙ ap (λ (n : ℕ). member n t) z ∙ member-none t)))
     inside u t m (no c) =
         let x = h .within u t (ap (λ (y : ℕ). member y t) (sym (getD-set-other lost s u row 0 c)) ∙ m) in
-        (x .0, still u (x .1) (ℕ-discrete row 0))
+        (x .0, judged-old judged u (x .1))
 
     found : Dec (row ≡ 0) → fell′ ≢ 0 → (s : ℕ) × (t : ℕ) × (s < states-of M) × T (falls M N R s t)
-    found (yes z) n = h .some (λ q. n (judged .kept (eq-eqb row 0 z) ∙ q))
+    found (yes z) n = h .some (λ q. n (no-member 64 fell′ small′ (λ t _. judged-same judged (eq-eqb row 0 z) t ∙ ap (λ (x : ℕ). member x t) q ∙ member-none t)))
     found (no z) n = let x = some-member row small z in (s, x .0, a, subst (λ (X : Test). T (X (x .0))) d (x .1))
 
 -- no row waits

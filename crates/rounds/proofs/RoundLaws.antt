@@ -18,7 +18,8 @@ use Rattle.simulation.proofs.Simulation.Relation.{relation-at, relation-ext}
 use Rattle.simulation.proofs.Simulation.Rounds.{In, in-zero, in-left, in-right, falls as round-falls, stays}
 use Rattle.simulation.proofs.Simulation.Ranks.{rank-law}
 use Rattle.simulation.proofs.Simulation.RankList.{rounds-above, rounds-least}
-use Rattle.matching.specs.Held.{holds, held, matched}
+use Rattle.relation.specs.Related.{holds}
+use Rattle.matching.specs.Held.{held, matched}
 use Rattle.rounds.specs.Rounds.{falls, shown, After, Lost}
 
 -- what of a pair's test is left when the lost pairs are taken away

@@ -15,7 +15,7 @@ use lib.Seq.{getD-set-same, getD-set-other}
 use Rattle.simulation.proofs.Finite.Tests.{and-left, and-right, is-true, is-false, last-or-below}
 use Rattle.relation.specs.Mask.{Test, member, without-member, except}
 use Rattle.relation.proofs.Mask.{member-none}
-use Rattle.matching.specs.Held.{holds}
+use Rattle.relation.specs.Related.{holds}
 use Rattle.rounds.specs.Rounds.{marked, Settled, Cleared}
 use Rattle.links.specs.Links.{Covered}
 use Rattle.links.proofs.Walks.{left-self, left-other}

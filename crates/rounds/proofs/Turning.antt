@@ -19,7 +19,8 @@ use Rattle.relation.specs.Mask.{Test, member, up-to}
 use Rattle.relation.proofs.Mask.{member-none}
 use Rattle.form.specs.Form.{Loaded, start-of, transition-at, table-of}
 use Rattle.form.proofs.FormLaws.{counts, transition-of, state-of, weights-length, targets-length, sound}
-use Rattle.matching.specs.Held.{holds, held, matched}
+use Rattle.relation.specs.Related.{holds}
+use Rattle.matching.specs.Held.{held, matched}
 use Rattle.links.specs.Links.{Linked, Doubted}
 use Rattle.rounds.specs.Rounds.{Columns, Settled, Open, After, Standing, Refined, Placed, Ready}
 use Rattle.rounds.proofs.Fitting.{Alike, matched-agree}

@@ -7,9 +7,10 @@ use mathlib.Core.Logic.{_≢_}
 use Prim.Native.Nat.{ℕ, _+_, _-_, _*_, _≤_, _<_}
 use lib.Dec.{T, eqb, leb}
 use lib.ListN.{length, getD}
-use Rattle.relation.specs.Mask.{Test, member, with-member}
+use Rattle.relation.specs.Mask.{Test, member, with-bit}
 use Rattle.form.specs.Form.{table-of}
-use Rattle.matching.specs.Held.{holds, held, matched, relation-of}
+use Rattle.relation.specs.Related.{holds}
+use Rattle.matching.specs.Held.{held, matched, relation-of}
 use Rattle.matching.specs.Known.{Lent, Tried}
 use Rattle.links.specs.Links.{Linked}
 use Rattle.simulation.specs.Sum.{when}
@@ -48,8 +49,7 @@ Columns N row = (t : ℕ) → T (member row t) → t < states-of N
 
 -- t joins a set unless the test passes
 pub record Judged (pass : Bool) (t x y : ℕ) : Type 0 where
-  pub kept : pass ≡ true → y ≡ x
-  pub fell : pass ≡ false → member y ≡ with-member t (member x)
+  pub joins : member y ≡ with-bit t (when (not pass) 1) (member x)
 
 -- each pair has a place among n, with q places to a row
 abbrev pub Placed : ℕ → ℕ → List ℕ → Type 0

@@ -9,7 +9,8 @@ ghost use lib.ListN.{length, getD};
 ghost use Rattle.relation.specs.Mask.{member};
 ghost use Rattle.simulation.specs.Table.{states-of};
 ghost use Rattle.form.specs.Form.{table-of};
-ghost use Rattle.matching.specs.Held.{holds, relation-of, matched};
+ghost use Rattle.relation.specs.Related.{holds};
+ghost use Rattle.matching.specs.Held.{relation-of, matched};
 ghost use Rattle.matching.specs.Known.{Lent, Tried};
 ghost use Rattle.rounds.specs.Rounds.{marked, falls, Doubtless, Judged, After, Turning, Turned, Refined, Columns, Settled, Found, Open, Placed, Ready};
 ghost use Rattle.links.specs.Links.{Empty, Covered, Linked};
@@ -66,10 +67,7 @@ fn with_row(fell: u64, s: usize, row: u64) -> u64
     requires { ⌜ s < 64 ⌝ }
     ensures { λ r. ⌜ Judged (eqb row 0) s fell r ⌝ }
 {
-    if row == 0 {
-        return fell;
-    }
-    set::insert(fell, s)
+    set::with_bit(fell, s, (row != 0) as u64)
 }
 
 // The pairs that the round drops, of the rows that have a pair in doubt. Returns the rows that lose one.

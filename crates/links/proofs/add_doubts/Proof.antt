@@ -7,7 +7,7 @@ use native.Mathlib.Omega.{arith}
 use borrow.Author.Needs.{needs}
 use lib.ListN.{length, getD, length-set}
 use Rattle.relation.specs.Mask.{member}
-use Rattle.matching.specs.Held.{holds}
+use Rattle.relation.specs.Related.{holds}
 use Rattle.links.specs.Links.{Grown}
 use Rattle.links.proofs.Growing.{union-left, union-right, grown-none, grown-more, grown-set, set-here, walk-start, walk-next, walk-end}
 use Rattle.links.proofs.add_doubts.Statement.{statement}

@@ -7,7 +7,7 @@ use native.Mathlib.Omega.{arith}
 use borrow.Author.Needs.{needs}
 use lib.ListN.{getD}
 use Rattle.relation.specs.Mask.{member}
-use Rattle.matching.specs.Held.{holds}
+use Rattle.relation.specs.Related.{holds}
 use Rattle.links.proofs.Growing.{union-left, union-right, walk-start, walk-next, walk-end}
 use Rattle.links.proofs.before_all.Statement.{statement}
 use Rattle.links.proofs.before_all.Tie as tie

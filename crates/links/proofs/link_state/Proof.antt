@@ -9,7 +9,8 @@ use lib.ListN.{length, getD}
 use Rattle.simulation.specs.Table.{targets}
 use Rattle.form.specs.Form.{transitions-of, transition-at}
 use Rattle.form.proofs.FormLaws.{limits, counts, start-bound}
-use Rattle.matching.specs.Held.{holds, Places}
+use Rattle.relation.specs.Related.{holds}
+use Rattle.matching.specs.Held.{Places}
 use Rattle.links.specs.Links.{Joins}
 use Rattle.matching.proofs.Fitting.{places-of}
 use Rattle.links.proofs.Growing.{joins-none, joins-more, links-next}

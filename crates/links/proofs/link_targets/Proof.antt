@@ -6,7 +6,7 @@ use Prim.Native.Nat.{ℕ, _-_, _≤_, _<_}
 use native.Mathlib.Omega.{arith}
 use borrow.Author.Needs.{needs}
 use lib.ListN.{length, getD, set, length-set}
-use Rattle.matching.specs.Held.{holds}
+use Rattle.relation.specs.Related.{holds}
 use Rattle.links.specs.Links.{Joins}
 use Rattle.links.proofs.Growing.{with-new, joins-none, joins-more, joins-set, set-here, each-next}
 use Rattle.links.proofs.link_targets.Statement.{statement}

@@ -29,25 +29,18 @@ shared-slice-read-wide c = omega arith
 wide-requires : tie.Need-wide-requires Inv-loop μ-loop
 wide-requires c κs = search needs
 
-mul-gather-row : tie.Need-mul-gather-row Inv-loop μ-loop
-mul-gather-row c =
-    let l = c .before .before .before in
-    omega (arith, c .wide .ensures, l .before .before .before .before .before .pre .0 .below (l .loop .i) (omega arith))
-
-shared-slice-read-gather-row : tie.Need-shared-slice-read-gather-row Inv-loop μ-loop
-shared-slice-read-gather-row c =
-    let l = c .before .before .before .before in
-    omega (arith, c .before .wide .ensures, l .before .before .before .before .before .pre .0 .below (l .loop .i) (omega arith))
-
 gather-row-requires : tie.Need-gather-row-requires Inv-loop μ-loop
-gather-row-requires c κs = search needs
+gather-row-requires c κs =
+    let l = c .before .before .before in
+    let given = l .before .before .before .before .before .pre in
+    (omega (arith, c .wide .ensures, given .0 .below (l .loop .i) (omega arith)), given .1, given .2)
 
 mul-rel : tie.Need-mul-rel Inv-loop μ-loop
 mul-rel c = omega arith
 
 slice-write-rel : tie.Need-slice-write-rel Inv-loop μ-loop
 slice-write-rel c =
-    let l = c .before .before .before .before .before in
+    let l = c .before .before .before .before in
     omega (arith, l .loop .inv .1, l .before .before .before .before .before .pre .3)
 
 add-i : tie.Need-add-i Inv-loop μ-loop
@@ -58,13 +51,13 @@ loop-less c = omega arith
 
 loop-again : tie.Need-loop-again Inv-loop μ-loop
 loop-again c =
-    let l = c .before .before .before .before .before in
+    let l = c .before .before .before .before in
     let a = l .before .before .before .before .before .args in
     let i = l .loop .i in (
       omega arith,
       length-set (l .loop .rel) i (c .gather-row .result) ∙ l .loop .inv .1,
       gather-next (a .rows .now) (a .from .now) (a .to .now) (l .loop .rel) i (c .gather-row .result) (slice-write-rel c)
-          (c .gather-row .ensures ∙ ap (λ (n : ℕ). part (length (a .to .now)) (row-at (getD (a .rows .now) n 0) (a .to .now))) (c .before .before .wide .ensures)) (l .loop .inv .2),
+          (c .gather-row .ensures ∙ ap (λ (n : ℕ). part (length (a .to .now)) (row-at (getD (a .rows .now) n 0) (a .to .now))) (c .before .wide .ensures)) (l .loop .inv .2),
     )
 
 same-length : tie.Need-same-length Inv-loop μ-loop
@@ -85,8 +78,6 @@ gather-spec =
     mul-wide
     shared-slice-read-wide
     wide-requires
-    mul-gather-row
-    shared-slice-read-gather-row
     gather-row-requires
     mul-rel
     slice-write-rel

@@ -3,7 +3,7 @@
 use mathlib.Core.Path.{refl, sym, ap, _∙_}
 use Prim.Native.Nat.{ℕ, _-_}
 use native.Mathlib.Omega.{arith}
-use lib.ListN.{length}
+use lib.ListN.{length, getD}
 use Rattle.relation.specs.Mask.{member, part, both}
 use Rattle.relation.proofs.Mask.{part-start}
 use Rattle.matching.specs.Held.{row-at}
@@ -14,8 +14,9 @@ use Rattle.matching.proofs.gather_row.Tie as tie
 
 returns : tie.Need-returns
 returns c =
-    let a = c .before .before .args in
-    part-start (row-at (a .row) (a .to .now)) ∙ ap (λ (n : ℕ). part n (row-at (a .row) (a .to .now))) (sym (c .if1 .taken))
+    let a = c .before .before .before .args in
+    let X = row-at (getD (a .rows .now) (a .s) 0) (a .to .now) in
+    part-start X ∙ ap (λ (n : ℕ). part n X) (sym (c .if1 .taken))
 
 sub-wide : tie.Need-sub-wide
 sub-wide c = search needs
@@ -31,8 +32,14 @@ wide-requires c κs = search needs
 
 add-if2 : tie.Need-add-if2
 add-if2 c =
-    let d = c .before .before .before .before in
-    omega (arith, c .wide .ensures, d .pre .0 .below (length (d .args .to .now) - 1) (omega arith))
+    let d = c .before .before .before .before .before in
+    omega (arith, c .wide .ensures, d .pre .1 .below (length (d .args .to .now) - 1) (omega arith))
+
+mul-intersection : tie.Need-mul-intersection
+mul-intersection c = search needs
+
+shared-slice-read-intersection : tie.Need-shared-slice-read-intersection
+shared-slice-read-intersection c = search needs
 
 below-requires : tie.Need-below-requires
 below-requires c κs = search needs
@@ -42,11 +49,12 @@ intersection-requires c κs = search needs
 
 returns-2 : tie.Need-returns-2
 returns-2 c =
-    let d = c .before .before .before .before .before .before .before in
+    let d = c .before .before .before .before .before .before .before .before .before in
     let a = d .args in
+    let row = getD (a .rows .now) (a .s) 0 in
     c .intersection .ensures
-    ∙ ap (both (member (a .row))) (c .before .below .ensures)
-    ∙ dense-row (a .to .now) (d .pre .1) (a .row) refl (omega arith) (omega (arith, c .before .before .before .wide .ensures))
+    ∙ ap (both (member row)) (c .before .below .ensures)
+    ∙ dense-row (a .to .now) (d .pre .2) row refl (omega arith) (omega (arith, c .before .before .before .before .wide .ensures))
 
 sparse-row-requires : tie.Need-sparse-row-requires
 sparse-row-requires c κs = search needs
@@ -64,6 +72,8 @@ gather-row-spec =
     shared-slice-read-wide
     wide-requires
     add-if2
+    mul-intersection
+    shared-slice-read-intersection
     below-requires
     intersection-requires
     returns-2

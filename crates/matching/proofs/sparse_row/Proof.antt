@@ -1,22 +1,22 @@
 -- `matching::sparse_row` meets its contract. The loop's invariant: the places passed are gathered.
 -- Assumes nothing.
-use mathlib.Core.Path.{_≡_, sym, ap, _∙_}
-use mathlib.Core.Logic.{⊎-elim}
+use mathlib.Core.Path.{_≡_, ap, _∙_}
 use Prim.Native.Nat.{ℕ, _-_, _≤_}
 use native.Mathlib.Omega.{arith}
 use borrow.Author.Needs.{needs}
-use lib.ListN.{length}
-use Rattle.relation.specs.Mask.{member, part}
+use lib.ListN.{length, getD}
+use Rattle.relation.specs.Mask.{member, part, bit}
+use Rattle.relation.specs.Related.{holds}
 use Rattle.matching.specs.Held.{row-at}
-use Rattle.relation.proofs.Mask.{part-start, part-skip, part-take}
+use Rattle.relation.proofs.Mask.{part-start, part-bit, bit-small}
 use Rattle.matching.proofs.sparse_row.Statement.{statement}
 use Rattle.matching.proofs.sparse_row.Tie as tie
 
 abbrev Inv-loop : tie.InvT-loop
-Inv-loop row to r₀ j₀ r j = (j ≤ length to) × (member r ≡ part j (row-at row to))
+Inv-loop rows s to r₀ j₀ r j = (j ≤ length to) × (member r ≡ part j (row-at (getD rows s 0) to))
 
 abbrev μ-loop : tie.MeasureT-loop
-μ-loop row to r₀ j₀ r j = length to - j
+μ-loop rows s to r₀ j₀ r j = length to - j
 
 loop-holds : tie.Need-loop-holds Inv-loop μ-loop
 loop-holds c = (omega arith, part-start _)
@@ -30,11 +30,16 @@ shared-slice-read-wide c = omega arith
 wide-requires : tie.Need-wide-requires Inv-loop μ-loop
 wide-requires c κs = search needs
 
-test-requires : tie.Need-test-requires Inv-loop μ-loop
-test-requires c κs = rw (← c .wide .ensures) at (c .before .before .before .before .before .pre .below (c .before .before .before .loop .j) (omega arith))
+bit-requires : tie.Need-bit-requires Inv-loop μ-loop
+bit-requires c κs =
+    let l = c .before .before .before in
+    let given = l .before .before .before .pre in
+    (given .0, rw (← c .wide .ensures) at (given .1 .below (l .loop .j) (omega arith)))
 
-insert-requires : tie.Need-insert-requires Inv-loop μ-loop
-insert-requires c κs = omega (arith, c .before .before .before .before .before .before .before .pre .few)
+with-bit-requires : tie.Need-with-bit-requires Inv-loop μ-loop
+with-bit-requires c κs =
+    let d = c .before .before .before .before .before .before .before in
+    (omega (arith, d .pre .1 .few), omega (arith, c .bit .ensures, bit-small (holds (d .args .rows .now) (d .args .s)) (c .before .wide .result)))
 
 add-j : tie.Need-add-j Inv-loop μ-loop
 add-j c = omega arith
@@ -45,17 +50,17 @@ loop-less c = omega arith
 loop-again : tie.Need-loop-again Inv-loop μ-loop
 loop-again c =
     let l = c .before .before .before .before .before in
-    let a = l .before .before .args in
-    let X = row-at (a .row) (a .to .now) in
-    let e : X (l .loop .j) ≡ c .before .test .result =
-    ap (member (a .row)) (sym (c .before .before .wide .ensures)) ∙ sym (c .before .test .ensures) in
-    (omega arith, ⊎-elim (λ w. ap member (w .2) ∙ part-take X (l .loop .j) (l .loop .r) (w .1 .result) (l .loop .inv .1) (e ∙ w .0 .taken) (w .1 .ensures)) (λ w. ap member (w .1) ∙ part-skip X (l .loop .j) (l .loop .r) (l .loop .inv .1) (e ∙ w .0 .left)) (c .if1 .came))
+    let a = l .before .before .before .args in (
+      omega arith,
+      part-bit (row-at (getD (a .rows .now) (a .s) 0) (a .to .now)) (l .loop .j) (l .loop .r) (c .with-bit .result) (c .before .bit .result) (l .loop .inv .1)
+          (c .before .bit .ensures ∙ ap (bit (holds (a .rows .now) (a .s))) (c .before .before .wide .ensures)) (c .with-bit .ensures),
+    )
 
 returns : tie.Need-returns Inv-loop μ-loop
 returns c =
     let l = c .before in
-    let a = l .before .before .args in
-    l .loop .inv .1 ∙ ap (λ (n : ℕ). part n (row-at (a .row) (a .to .now))) (omega arith)
+    let a = l .before .before .before .args in
+    l .loop .inv .1 ∙ ap (λ (n : ℕ). part n (row-at (getD (a .rows .now) (a .s) 0) (a .to .now))) (omega arith)
 
 pub sparse-row-spec : {M : Type 1} → statement M
 sparse-row-spec =
@@ -67,8 +72,8 @@ sparse-row-spec =
     mul-wide
     shared-slice-read-wide
     wide-requires
-    test-requires
-    insert-requires
+    bit-requires
+    with-bit-requires
     add-j
     loop-less
     loop-again

@@ -6,7 +6,7 @@ use native.Mathlib.Omega.{arith}
 use borrow.Author.Needs.{needs}
 use lib.ListN.{length, getD, length-set}
 use Rattle.relation.specs.Mask.{Test, member, both, up-to}
-use Rattle.matching.specs.Held.{holds}
+use Rattle.relation.specs.Related.{holds}
 use Rattle.rounds.proofs.Settling.{rows-next, rows-left}
 use Rattle.ranking.proofs.narrow.Statement.{statement}
 use Rattle.ranking.proofs.narrow.Tie as tie

@@ -71,7 +71,7 @@ loop-again c =
       length-set (l .loop .lost) (s .result) (r .result) ∙ l .loop .inv .1,
       c .before .before .before .before .before .tried .given ∙ l .loop .inv .2,
       c .before .before .before .x .given ∙ l .loop .inv .3,
-      dropping-next (slice-write-doubt (c .before .before)) (slice-write-lost (c .before .before)) (omega (arith, r .ok)) (s .ensures .1 .here) (c .without-lowest .ensures .0 (s .result) (s .ensures .1))
+      dropping-next (slice-write-doubt (c .before .before)) (slice-write-lost (c .before .before)) (omega (arith, r .ok)) (omega (arith, c .before .with-row .ok)) (s .ensures .1 .here) (c .without-lowest .ensures .0 (s .result) (s .ensures .1))
           (r .ensures .0) (c .before .with-row .ensures) (l .loop .inv .4),
       r .ensures .1,
     )

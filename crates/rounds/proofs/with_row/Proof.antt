@@ -1,19 +1,28 @@
 -- `rounds::with_row` meets its contract.
 -- Assumes nothing.
+use mathlib.Core.Path.{_∙_, ap}
+use mathlib.Core.Bool.{not}
+use Prim.Native.Nat.{ℕ}
+use native.Mathlib.Omega.{arith}
+use lib.Dec.{eqb}
 use borrow.Author.Needs.{needs}
-use borrow.Author.Tests.{eq-eqb, ne-eqb}
-use Rattle.rounds.proofs.Dropping.{judged-pass, judged-fail}
+use Rattle.relation.specs.Mask.{member, with-bit}
+use Rattle.relation.proofs.Mask.{flag-is, bit-small}
 use Rattle.rounds.proofs.with_row.Statement.{statement}
 use Rattle.rounds.proofs.with_row.Tie as tie
 
+cast-with-bit : tie.Need-cast-with-bit
+cast-with-bit c = search needs
+
+with-bit-requires : tie.Need-with-bit-requires
+with-bit-requires c κs =
+    let some = not (eqb (c .args .row) 0) in
+    (c .pre, omega (arith, flag-is some, bit-small (λ _. some) 0))
+
 returns : tie.Need-returns
-returns c = judged-pass _ (eq-eqb (c .before .args .row) 0 (c .if1 .taken))
-
-insert-requires : tie.Need-insert-requires
-insert-requires c κs = search needs
-
-returns-2 : tie.Need-returns-2
-returns-2 c = judged-fail _ (ne-eqb (c .before .before .args .row) 0 (c .before .if1 .left)) (c .insert .ensures)
+returns c =
+    let a = c .before .args in
+    record { joins = c .with-bit .ensures ∙ ap (λ (b : ℕ). with-bit (a .s) b (member (a .fell))) (flag-is (not (eqb (a .row) 0))) }
 
 pub with-row-spec : {M : Type 1} → statement M
-with-row-spec = tie.close (tie.spec returns insert-requires returns-2)
+with-row-spec = tie.close (tie.spec cast-with-bit with-bit-requires returns)

@@ -4,9 +4,8 @@ use Prim.Native.Nat.{_≤_, _-_}
 use native.Mathlib.Omega.{arith}
 use lib.ListN.{length}
 use Rattle.relation.specs.Mask.{member, part}
-use Rattle.relation.proofs.Mask.{part-start}
+use Rattle.relation.proofs.Mask.{part-start, part-bit, bit-small}
 use Rattle.relate.specs.Rows.{row}
-use Rattle.relate.proofs.Laws.{row-next}
 use Rattle.relate.proofs.between.row.Statement.{statement}
 use Rattle.relate.proofs.between.row.Tie as tie
 
@@ -40,8 +39,14 @@ mul-rank-2 c = omega (arith, c .before .before .before .before .before .pre .1 (
 shared-slice-read-rank : tie.Need-shared-slice-read-rank Inv-loop μ-loop
 shared-slice-read-rank c = omega (arith, c .before .before .before .before .before .before .pre .1 (c .before .before .before .loop .j) (omega arith))
 
-place-requires : tie.Need-place-requires Inv-loop μ-loop
-place-requires c κs = omega arith
+lasts-requires : tie.Need-lasts-requires Inv-loop μ-loop
+lasts-requires c κs = tt
+
+with-bit-requires : tie.Need-with-bit-requires Inv-loop μ-loop
+with-bit-requires c κs =
+    let l = c .before .before .before .before in
+    let a = l .before .before .before .args in
+    (omega arith, omega (arith, c .lasts .ensures, bit-small (row (a .ranks .now) (a .width) (a .r) (a .s) (a .nt .now)) (l .loop .j)))
 
 add-j : tie.Need-add-j Inv-loop μ-loop
 add-j c = omega arith
@@ -50,13 +55,13 @@ loop-less : tie.Need-loop-less Inv-loop μ-loop
 loop-less c = omega arith
 
 loop-again : tie.Need-loop-again Inv-loop μ-loop
-loop-again c = let l = c .before .before .before .before in
+loop-again c = let l = c .before .before .before .before .before in
     let a = l .before .before .before .args in
-    (omega arith, row-next (a .ranks .now) (a .width) (a .r) (a .s) (a .nt .now) (l .loop .j) (l .loop .set) (c .place .result) (l .loop .inv .1) (c .place .ensures))
+    (omega arith, part-bit (row (a .ranks .now) (a .width) (a .r) (a .s) (a .nt .now)) (l .loop .j) (l .loop .set) (c .with-bit .result) (c .before .lasts .result) (l .loop .inv .1) (c .before .lasts .ensures) (c .with-bit .ensures))
 
 returns : tie.Need-returns Inv-loop μ-loop
 returns c = let a = c .before .before .before .before .args in
     c .before .loop .inv .1 ∙ ap (λ n. part n (row (a .ranks .now) (a .width) (a .r) (a .s) (a .nt .now))) (omega arith)
 
 pub row-spec : {M : Type 1} → statement M
-row-spec = tie.close (tie.spec Inv-loop μ-loop loop-holds mul-t shared-slice-read-t cast-t mul-rank add-rank mul-rank-2 shared-slice-read-rank place-requires add-j loop-less loop-again returns)
+row-spec = tie.close (tie.spec Inv-loop μ-loop loop-holds mul-t shared-slice-read-t cast-t mul-rank add-rank mul-rank-2 shared-slice-read-rank lasts-requires with-bit-requires add-j loop-less loop-again returns)

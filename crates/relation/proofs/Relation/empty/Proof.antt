@@ -1,5 +1,5 @@
 -- `relation::Relation::empty` meets its contract. Assumes nothing.
-use Rattle.relation.proofs.Rows.{empty-is}
+use Rattle.relation.proofs.Relations.{empty-is}
 use Rattle.relation.proofs.Relation.empty.Statement.{statement}
 use Rattle.relation.proofs.Relation.empty.Tie as tie
 

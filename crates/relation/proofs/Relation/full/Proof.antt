@@ -1,5 +1,5 @@
 -- `relation::Relation::full` meets its contract. Assumes nothing.
-use Rattle.relation.proofs.Rows.{full-is}
+use Rattle.relation.proofs.Relations.{full-is}
 use Rattle.relation.proofs.Relation.full.Statement.{statement}
 use Rattle.relation.proofs.Relation.full.Tie as tie
 

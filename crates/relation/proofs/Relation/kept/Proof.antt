@@ -5,7 +5,7 @@ use native.Mathlib.Omega.{arith}
 use borrow.Author.Needs.{needs}
 use Rattle.simulation.specs.Sum.{sum}
 use Rattle.relation.specs.Related.{related, pairs-of}
-use Rattle.relation.proofs.Rows.{pairs-next, pairs-most}
+use Rattle.relation.proofs.Relations.{pairs-next, pairs-most}
 use Rattle.relation.proofs.Relation.kept.Statement.{statement}
 use Rattle.relation.proofs.Relation.kept.Tie as tie
 

@@ -19,20 +19,23 @@ abbrev μ-loop : tie.MeasureT-loop
 loop-holds : tie.Need-loop-holds Inv-loop μ-loop
 loop-holds c = (zero-le, zeros-none)
 
-mul-one-if-zero : tie.Need-mul-one-if-zero Inv-loop μ-loop
-mul-one-if-zero c = search needs
+mul-kept : tie.Need-mul-kept Inv-loop μ-loop
+mul-kept c = search needs
 
-shared-slice-read-one-if-zero : tie.Need-shared-slice-read-one-if-zero Inv-loop μ-loop
-shared-slice-read-one-if-zero c = omega arith
+shared-slice-read-kept : tie.Need-shared-slice-read-kept Inv-loop μ-loop
+shared-slice-read-kept c = omega arith
 
-one-if-zero-requires : tie.Need-one-if-zero-requires Inv-loop μ-loop
-one-if-zero-requires c κs = tt
+kept-requires : tie.Need-kept-requires Inv-loop μ-loop
+kept-requires c κs = tt
+
+cast-kept : tie.Need-cast-kept Inv-loop μ-loop
+cast-kept c = search needs
 
 add-kept : tie.Need-add-kept Inv-loop μ-loop
 add-kept c =
     let l = c .before .before .before .loop in
     let ranks = c .before .before .before .before .before .args .ranks .now in
-    omega (arith, c .one-if-zero .ensures, zeros-next ranks (l .i) (c .before .before .loop-test .taken), zeros-within ranks (l .i + 1))
+    omega (arith, c .kept .ensures, zeros-next ranks (l .i) (c .before .before .loop-test .taken), zeros-within ranks (l .i + 1))
 
 add-i : tie.Need-add-i Inv-loop μ-loop
 add-i c = omega arith
@@ -44,7 +47,7 @@ loop-again : tie.Need-loop-again Inv-loop μ-loop
 loop-again c =
     let l = c .before .before .before .loop in
     let ranks = c .before .before .before .before .before .args .ranks .now in
-    (omega arith, omega (arith, c .one-if-zero .ensures, zeros-next ranks (l .i) (c .before .before .loop-test .taken)))
+    (omega arith, omega (arith, c .kept .ensures, zeros-next ranks (l .i) (c .before .before .loop-test .taken)))
 
 returns : tie.Need-returns Inv-loop μ-loop
 returns c =
@@ -58,9 +61,10 @@ kept-of-spec =
     Inv-loop
     μ-loop
     loop-holds
-    mul-one-if-zero
-    shared-slice-read-one-if-zero
-    one-if-zero-requires
+    mul-kept
+    shared-slice-read-kept
+    kept-requires
+    cast-kept
     add-kept
     add-i
     loop-less
