@@ -254,13 +254,6 @@ without-is x y t hx hy e = except-is x y hx hy ∙ ap (λ X. except (member x) X
 pub bit-is : (x t : ℕ) → x / 2 ^ t % 2 ≡ bit (member x) t
 bit-is x t = one-or-none (x / 2 ^ t % 2) (digit (x / 2 ^ t)) ∙ ap (λ b. when b 1) (member-shift x t)
 
-pub bit-small : (X : Test) (t : ℕ) → bit X t < 2
-bit-small X t = at (X t)
-  where
-    at : (b : Bool) → when b 1 < 2
-    at true = lit< tt
-    at false = lit< tt
-
 -- a test's outcome as a number, as a cast makes it
 pub flag-is : (b : Bool) → boolByte b ≡ when b 1
 flag-is true = refl

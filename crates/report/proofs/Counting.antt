@@ -1,16 +1,16 @@
 -- The largest rank and the number of zeros, element by element.
 -- Assumes nothing.
-use mathlib.Core.Bool.{Bool, true, false, cond}
+use mathlib.Core.Bool.{cond}
 use mathlib.Core.Path.{_≡_, refl, ap, _∙_}
 use mathlib.Core.List.{List, [], _∷_, _++_}
 use Prim.Native.Nat.{ℕ, _+_, _≤_, _<_, max, zero-le}
-use native.Mathlib.Nat.{le-refl}
 use native.Mathlib.Numerals.{add-one}
 use native.Mathlib.Omega.{arith}
 use lib.Dec.{eqb}
 use lib.ListN.{length, take, getD, length-take}
 use lib.Seq.{take-suc}
 use Rattle.simulation.specs.Round.{maximum, zeros}
+use Rattle.simulation.proofs.Finite.Sums.{one-most}
 
 maximum-last : (xs : List ℕ) (x : ℕ) → maximum (xs ++ (x ∷ [])) ≡ max (maximum xs) x
 unfolding maximum
@@ -39,10 +39,6 @@ maximum-none = refl
 pub zeros-none : 0 ≡ zeros []
 unfolding zeros
 zeros-none = refl
-
-one-most : (b : Bool) → cond b 1 0 ≤ 1
-one-most true = le-refl 1
-one-most false = zero-le
 
 pub zeros-most : (xs : List ℕ) → zeros xs ≤ length xs
 unfolding zeros

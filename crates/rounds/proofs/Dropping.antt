@@ -28,13 +28,15 @@ pub record Dropped (F : Test) (left fallen : ℕ) : Type 0 where
   pub at : (u : ℕ) → member fallen u ≡ (F u && not (member left u))
 
 -- the test's outcome decides
+judged-by : {pass outcome : Bool} {t x y : ℕ} → pass ≡ outcome → ((k : ℕ) → member y k ≡ ((eqb k t && not outcome) || member x k)) → Judged pass t x y
+judged-by {pass} {outcome} {t} {x} e h =
+    record { joins = fun-ext (λ k. h k ∙ ap (λ (b : Bool). (eqb k t && b) || member x k) (sym (one-is (not outcome)) ∙ ap (λ (b : Bool). eqb (when (not b) 1) 1) (sym e))) }
+
 pub judged-pass : {t x : ℕ} (pass : Bool) → pass ≡ true → Judged pass t x x
-judged-pass {t} {x} pass e =
-    record { joins = fun-ext (λ k. sym (ap (λ (b : Bool). (eqb k t && eqb (when (not b) 1) 1) || member x k) e ∙ ap (λ (b : Bool). b || member x k) (and-false (eqb k t)))) }
+judged-pass {t} {x} pass e = judged-by e (λ k. ap (λ (b : Bool). b || member x k) (sym (and-false (eqb k t))))
 
 pub judged-fail : {t x y : ℕ} (pass : Bool) → pass ≡ false → member y ≡ with-member t (member x) → Judged pass t x y
-judged-fail {t} {x} pass e h =
-    record { joins = h ∙ fun-ext (λ k. sym (ap (λ (b : Bool). (eqb k t && eqb (when (not b) 1) 1) || member x k) e ∙ ap (λ (b : Bool). b || member x k) (and-true (eqb k t)))) }
+judged-fail {t} {x} pass e h = judged-by e (λ k. ap (λ (X : Test). X k) h ∙ ap (λ (b : Bool). b || member x k) (sym (and-true (eqb k t))))
 
 module _ {pass : Bool} {t f g : ℕ} (j : Judged pass t f g) where
   judged-at : (u : ℕ) → member g u ≡ ((eqb u t && not pass) || member f u)

@@ -8,7 +8,8 @@ use lib.ListN.{length, getD}
 use Rattle.relation.specs.Mask.{member, part, bit}
 use Rattle.relation.specs.Related.{holds}
 use Rattle.matching.specs.Held.{row-at}
-use Rattle.relation.proofs.Mask.{part-start, part-bit, bit-small}
+use Rattle.simulation.proofs.Finite.Sums.{one-most}
+use Rattle.relation.proofs.Mask.{part-start, part-bit}
 use Rattle.matching.proofs.sparse_row.Statement.{statement}
 use Rattle.matching.proofs.sparse_row.Tie as tie
 
@@ -39,7 +40,7 @@ bit-requires c κs =
 with-bit-requires : tie.Need-with-bit-requires Inv-loop μ-loop
 with-bit-requires c κs =
     let d = c .before .before .before .before .before .before .before in
-    (omega (arith, d .pre .1 .few), omega (arith, c .bit .ensures, bit-small (holds (d .args .rows .now) (d .args .s)) (c .before .wide .result)))
+    (omega (arith, d .pre .1 .few), omega (arith, c .bit .ensures, one-most (holds (d .args .rows .now) (d .args .s) (c .before .wide .result))))
 
 add-j : tie.Need-add-j Inv-loop μ-loop
 add-j c = omega arith

@@ -7,7 +7,8 @@ use native.Mathlib.Omega.{arith}
 use lib.Dec.{eqb}
 use borrow.Author.Needs.{needs}
 use Rattle.relation.specs.Mask.{member, with-bit}
-use Rattle.relation.proofs.Mask.{flag-is, bit-small}
+use Rattle.simulation.proofs.Finite.Sums.{one-most}
+use Rattle.relation.proofs.Mask.{flag-is}
 use Rattle.rounds.proofs.with_row.Statement.{statement}
 use Rattle.rounds.proofs.with_row.Tie as tie
 
@@ -17,7 +18,7 @@ cast-with-bit c = search needs
 with-bit-requires : tie.Need-with-bit-requires
 with-bit-requires c κs =
     let some = not (eqb (c .args .row) 0) in
-    (c .pre, omega (arith, flag-is some, bit-small (λ _. some) 0))
+    (c .pre, omega (arith, flag-is some, one-most some))
 
 returns : tie.Need-returns
 returns c =

@@ -4,7 +4,8 @@ use Prim.Native.Nat.{_≤_, _-_}
 use native.Mathlib.Omega.{arith}
 use lib.ListN.{length}
 use Rattle.relation.specs.Mask.{member, part}
-use Rattle.relation.proofs.Mask.{part-start, part-bit, bit-small}
+use Rattle.simulation.proofs.Finite.Sums.{one-most}
+use Rattle.relation.proofs.Mask.{part-start, part-bit}
 use Rattle.relate.specs.Rows.{row}
 use Rattle.relate.proofs.between.row.Statement.{statement}
 use Rattle.relate.proofs.between.row.Tie as tie
@@ -46,7 +47,7 @@ with-bit-requires : tie.Need-with-bit-requires Inv-loop μ-loop
 with-bit-requires c κs =
     let l = c .before .before .before .before in
     let a = l .before .before .before .args in
-    (omega arith, omega (arith, c .lasts .ensures, bit-small (row (a .ranks .now) (a .width) (a .r) (a .s) (a .nt .now)) (l .loop .j)))
+    (omega arith, omega (arith, c .lasts .ensures, one-most (row (a .ranks .now) (a .width) (a .r) (a .s) (a .nt .now) (l .loop .j))))
 
 add-j : tie.Need-add-j Inv-loop μ-loop
 add-j c = omega arith
