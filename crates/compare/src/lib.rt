@@ -19,14 +19,16 @@ fn found(ranks: &[u16], place: usize, rounds: u16, kept: u16) -> Answer
     requires { ⌜ (place < length (now ranks)) × (0 < length (now ranks)) ⌝ }
     ensures { λ r. ⌜ r ≡ found-answer (now (ranks .entry)) place rounds kept ⌝ }
 {
+    let start = ranks[0];
+    let chosen = ranks[place];
     Answer {
         number: 0,
         table: 0,
         needed: 0,
         rounds: rounds as u32,
         kept: kept as u32,
-        verdict: ranks::kept(ranks[0]),
-        rank: ranks[place] as u32,
+        verdict: ranks::kept(start),
+        rank: chosen as u32,
         written: 0,
     }
 }
