@@ -62,41 +62,102 @@ fn of_states(states: usize) -> impl Fn(&mut Random) -> Table {
     }
 }
 
-/// State 0 steps to all 64 states in so many ways; the others are a chain,
-/// which tells two more of them apart in every round. In the second table a
-/// little weight lies one state lower, which only the last rounds show.
-fn fan(ways: usize) -> (Table, Table) {
+/// A step to all states from `lowest` on.
+fn wide(random: &mut Random, lowest: usize, states: usize) -> Transition {
+    let weights = make::weights(random, states - lowest, 65_500);
+    Transition {
+        code: 20,
+        entries: (lowest as u8..).zip(weights).collect(),
+    }
+}
+
+/// State 0 steps to all states from `lowest` on in so many ways; the others
+/// are a chain, which tells two more of them apart in every round. In the
+/// second table a little weight lies one state lower, which only the last
+/// rounds show.
+fn fan(states: usize, lowest: usize, ways: usize) -> (Table, Table) {
     let mut random = Random::new(6);
-    let mut states = vec![Vec::new()];
-    states.extend((1..64).map(|i| vec![make::to(10, i - 1)]));
-    for _ in 0..ways {
-        let weights = make::weights(&mut random, 64, 65_500);
-        let entries = (0..).zip(weights).collect();
-        states[0].push(Transition { code: 20, entries });
+    let mut list: Vec<_> = (0..states - 1).map(|i| vec![make::to(10, i)]).collect();
+    let start = (0..ways).map(|_| wide(&mut random, lowest, states));
+    list.insert(0, start.collect());
+    let first = Table::new(list.clone());
+    for step in &mut list[0] {
+        let [.., (_, one), (_, last)] = &mut step.entries[..] else {
+            panic!("two targets");
+        };
+        *one += 1;
+        *last = (*last - 1).max(1);
     }
-    let first = Table::new(states.clone());
-    for step in &mut states[0] {
-        step.entries[62].1 += 1;
-        step.entries[63].1 = (step.entries[63].1 - 1).max(1);
+    list[0].reverse();
+    (first, Table::new(list))
+}
+
+/// A step to state 1, which can do something, and to state 2, which can not.
+fn split(live: u16, dead: u16) -> Transition {
+    Transition {
+        code: 10,
+        entries: vec![(1, live), (2, dead)],
     }
-    states[0].reverse();
-    (first, Table::new(states))
+}
+
+/// The starts have so many like-coded steps. Each of the first fits only the
+/// last of the second, and the last of the first fits none: all are tried
+/// with all, in the rounds and again for the tree.
+fn many(steps: usize) -> (Table, Table) {
+    let table = |most: Transition, last: Transition| {
+        let mut start = vec![most; steps - 1];
+        start.push(last);
+        Table::new(vec![start, vec![make::to(20, 1)], Vec::new()])
+    };
+    let first = table(split(2, 1), split(4, 1));
+    (first, table(split(1, 1), split(3, 1)))
+}
+
+/// The table with a start before its states that steps to all of them.
+fn watched(table: Table) -> Table {
+    let mut list = table.states;
+    let entries = (1..=list.len() as u8).map(|state| (state, 1)).collect();
+    for entry in list.iter_mut().flatten().flat_map(|step| &mut step.entries) {
+        entry.0 += 1;
+    }
+    list.insert(0, vec![Transition { code: 30, entries }]);
+    Table::new(list)
+}
+
+/// A counter that the starts watch: each of its rounds takes one pair away,
+/// which puts the starts in doubt, and they fit until the last rounds.
+fn watched_counter(states: usize) -> (Table, Table) {
+    let (first, second) = make::counter(states);
+    (watched(first), watched(second))
 }
 
 fn main() {
     let folder = std::env::args().nth(1).expect("a folder");
-    let limit = |codes, wide| move |random: &mut Random| make::limit(random, codes, wide);
+    let limit =
+        |states, codes| move |random: &mut Random| make::sized(random, states, codes, false);
     let cases = [
         ("P,C", (parse(&P).unwrap(), parse(&C).unwrap())),
         ("8 states", near(1, 40, of_states(8))),
         ("24 states", near(2, 40, of_states(24))),
-        ("limits", near(3, 8, limit(4, false))),
-        ("limits, one code", near(4, 40, limit(1, false))),
-        ("limits, 64 targets", fan(7)),
-        ("fan of 64", fan(1)),
+        ("limits", near(3, 8, limit(64, 4))),
+        ("limits, one code", near(4, 40, limit(64, 1))),
+        ("limits, 64 targets", fan(64, 0, 7)),
+        ("fan of 64", fan(64, 0, 1)),
         ("chain of 63", make::chain(64)),
         ("cycles of 63, 64", make::cycles(63, 64)),
         ("counter to 4096", make::counter(64)),
+        ("128 states", near(3, 8, limit(128, 4))),
+        ("128, one code", near(4, 40, limit(128, 1))),
+        ("128 targets", fan(128, 0, 3)),
+        ("127 targets", fan(128, 1, 3)),
+        ("fan of 128", fan(128, 0, 1)),
+        ("chain of 127", make::chain(128)),
+        ("cycles of 127, 128", make::cycles(127, 128)),
+        // The deepest tree that can be written.
+        ("cycles of 103, 106", make::cycles(103, 106)),
+        ("counter to 16384", make::counter(128)),
+        ("255 steps", many(255)),
+        ("watched counter", watched_counter(63)),
     ];
     for (name, (first, second)) in cases {
         let input = program::input(&first.bytes(), &second.bytes());

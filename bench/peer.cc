@@ -18,9 +18,14 @@
 
 namespace {
 
-using Set = std::uint64_t;
+// A set of states.
+__extension__ using Set = unsigned __int128;
 using Bytes = std::vector<unsigned char>;
 
+constexpr int max_states = 128;
+constexpr int max_transitions = 256;
+constexpr int max_entries = 512;
+constexpr long max_total = 65535;
 constexpr std::uint32_t longest = 65535;
 
 struct Entry {
@@ -43,11 +48,21 @@ struct Refusal {
   int number;
 };
 
-bool has(Set set, int member) { return set >> member & 1; }
+std::uint64_t low(Set set) { return std::uint64_t(set); }
+std::uint64_t high(Set set) { return std::uint64_t(set >> 64); }
+
+bool has(Set set, int member) {
+  return (member < 64 ? low(set) : high(set)) >> (member % 64) & 1;
+}
+int size(Set set) { return std::popcount(low(set)) + std::popcount(high(set)); }
 
 template <typename Work>
 void each(Set set, Work work) {
-  for (; set != 0; set &= set - 1) work(std::countr_zero(set));
+  for (int start = 0; set != 0; start += 64, set >>= 64) {
+    for (auto word = low(set); word != 0; word &= word - 1) {
+      work(start + std::countr_zero(word));
+    }
+  }
 }
 
 class Reader {
@@ -87,7 +102,7 @@ Table parse(const Bytes& bytes) {
   rule(falls == codes.end(), 3);
 
   int count = reader.byte();
-  rule(count >= 1 && count <= 64, 4);
+  rule(count >= 1 && count <= max_states, 4);
   reader.need(count);
   Table table;
   int sum = 0;
@@ -97,7 +112,7 @@ Table parse(const Bytes& bytes) {
   }
 
   count = reader.two();
-  rule(count <= 128 && count == sum, 5);
+  rule(count <= max_transitions && count == sum, 5);
   reader.need(2 * count);
   sum = 0;
   for (auto& steps : table.states) {
@@ -111,7 +126,7 @@ Table parse(const Bytes& bytes) {
   }
 
   count = reader.two();
-  rule(count <= 512 && count == sum, 7);
+  rule(count <= max_entries && count == sum, 7);
   reader.need(3 * count);
   for (auto& steps : table.states) {
     Set successors = 0;
@@ -123,7 +138,7 @@ Table parse(const Bytes& bytes) {
         last = entry.target;
         entry.weight = reader.two();
         step.total += entry.weight;
-        rule(entry.weight >= 1 && step.total <= 65535, 10);
+        rule(entry.weight >= 1 && step.total <= max_total, 10);
         successors |= Set(1) << entry.target;
       }
     }
@@ -228,17 +243,19 @@ struct Ranking {
 Ranking rank(const Table& first, const Table& second) {
   int height = first.states.size();
   int width = second.states.size();
-  Relation relation(height, ~Set(0) >> (64 - width));
-  Relation lost(height);
+  Relation relation(height, ~Set(0) >> (max_states - width));
+  // The rows that lost a pair in the round before, and what they lost.
+  Set fell = 0;
+  Relation lost(height), losing(height);
   Ranking ranking;
   ranking.ranks.assign(height, std::vector<int>(width));
-  for (bool any = true; any;) {
-    Relation now(height);
-    any = false;
+  for (;;) {
+    Set falling = 0;
     for (int s = 0; s < height; ++s) {
       Set gone = 0;
-      each(first.successors[s], [&](int next) { gone |= lost[next]; });
+      each(first.successors[s] & fell, [&](int next) { gone |= lost[next]; });
       if (ranking.rounds > 0 && gone == 0) continue;
+      Set row = 0;
       each(relation[s], [&](int t) {
         if (ranking.rounds > 0 && (gone & second.successors[t]) == 0) return;
         const auto& ms = first.states[s];
@@ -246,17 +263,22 @@ Ranking rank(const Table& first, const Table& second) {
           return fits_some(relation, m, second.states[t]);
         });
         if (!kept) {
-          now[s] |= Set(1) << t;
+          row |= Set(1) << t;
           ranking.ranks[s][t] = ranking.rounds + 1;
-          any = true;
         }
       });
+      losing[s] = row;
+      if (row != 0) falling |= Set(1) << s;
     }
-    for (int s = 0; s < height; ++s) relation[s] &= ~now[s];
-    lost = now;
-    ranking.rounds += any;
+    if (falling == 0) break;
+    each(falling, [&](int s) {
+      relation[s] &= ~losing[s];
+      lost[s] = losing[s];
+    });
+    fell = falling;
+    ++ranking.rounds;
   }
-  for (Set row : relation) ranking.kept += std::popcount(row);
+  for (Set row : relation) ranking.kept += size(row);
   return ranking;
 }
 
@@ -265,12 +287,12 @@ class Trees {
  public:
   Trees(const Table& first, const Table& second, const Ranking& ranking)
       : first_(first), second_(second), ranks_(ranking.ranks) {
-    chosen_.resize(64 * 64);
+    chosen_.resize(first.states.size() * second.states.size());
   }
 
   // The length of a pair's transition, cut off above the longest.
   std::uint32_t length(int s, int t) {
-    std::optional<Chosen>& chosen = chosen_[64 * s + t];
+    std::optional<Chosen>& chosen = chosen_[at(s, t)];
     if (!chosen) {
       Chosen found = choose(s, t);
       std::uint32_t sum = 2;
@@ -289,9 +311,9 @@ class Trees {
 
   // Appends the node of a state and a set.
   void write(int s, Set set, Bytes& bytes) const {
-    bytes.push_back(std::popcount(set));
+    bytes.push_back(size(set));
     each(set, [&](int t) {
-      const Chosen& chosen = *chosen_[64 * s + t];
+      const Chosen& chosen = *chosen_[at(s, t)];
       bytes.push_back(chosen.m->code);
       bytes.push_back(chosen.m->entries.size());
       for (std::size_t i = 0; i < chosen.sets.size(); ++i) {
@@ -311,7 +333,11 @@ class Trees {
     std::uint32_t length;
   };
 
-  Chosen choose(int s, int t) const {
+  std::size_t at(int s, int t) const { return s * second_.states.size() + t; }
+
+  // Not inlined: the recursion of length is as deep as there are ranks, so
+  // its frames must be small.
+  [[gnu::noinline]] Chosen choose(int s, int t) const {
     Relation relation(first_.states.size());
     each(first_.successors[s], [&](int i) {
       each(second_.successors[t], [&](int j) {

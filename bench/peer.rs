@@ -1,25 +1,32 @@
 //! A plain podcheck in Rust, to measure the proved one against.
 
+mod set;
+
+use set::Set;
 use std::fmt::Write as _;
 use std::io::{Read, Write as _};
 use std::ops::Range;
 
+const STATES: usize = 128;
+const TRANSITIONS: usize = 256;
+const ENTRIES: usize = 512;
+const TOTAL: u32 = 65_535;
 const LONGEST: u32 = 65_535;
 
-struct Step {
+struct Step<S> {
     code: u8,
     total: u32,
     /// States with a weight above 0.
-    targets: u64,
+    targets: S,
     entries: Vec<(u8, u16)>,
 }
 
-struct Table {
-    steps: Vec<Step>,
+struct Table<S> {
+    steps: Vec<Step<S>>,
     /// Each state's steps.
     states: Vec<Range<usize>>,
     /// Each state's successors by any step.
-    successors: Vec<u64>,
+    successors: Vec<S>,
 }
 
 struct Cursor<'a>(&'a [u8]);
@@ -37,8 +44,8 @@ impl<'a> Cursor<'a> {
     }
 }
 
-impl Table {
-    fn parse(bytes: &[u8]) -> Result<Table, u32> {
+impl<S: Set> Table<S> {
+    fn parse(bytes: &[u8]) -> Result<Self, u32> {
         let mut cursor = Cursor(bytes);
         let count = cursor.take(1)?[0] as usize;
         let codes = cursor.take(count)?;
@@ -51,14 +58,14 @@ impl Table {
         }
 
         let count = cursor.take(1)?[0] as usize;
-        if !(1..=64).contains(&count) {
+        if !(1..=STATES).contains(&count) {
             return Err(4);
         }
         let shares = cursor.take(count)?;
 
         let count = cursor.two()?;
         let sum: usize = shares.iter().map(|&share| share as usize).sum();
-        if count > 128 || count != sum {
+        if count > TRANSITIONS || count != sum {
             return Err(5);
         }
         let heads = cursor.take(2 * count)?;
@@ -74,7 +81,7 @@ impl Table {
         }
 
         let count = cursor.two()?;
-        if count > 512 || count != sum {
+        if count > ENTRIES || count != sum {
             return Err(7);
         }
         let mut entries = Cursor(cursor.take(3 * count)?);
@@ -98,7 +105,7 @@ impl Table {
             .map(|range| {
                 steps[range.clone()]
                     .iter()
-                    .fold(0, |set, step| set | step.targets)
+                    .fold(S::empty(), |set, step| set | step.targets)
             })
             .collect();
         Ok(Table {
@@ -108,129 +115,124 @@ impl Table {
         })
     }
 
-    fn steps_of(&self, state: usize) -> &[Step] {
+    fn steps_of(&self, state: usize) -> &[Step<S>] {
         &self.steps[self.states[state].clone()]
     }
 }
 
-impl Step {
-    fn parse(code: u8, bytes: &[u8], states: usize) -> Result<Step, u32> {
+impl<S: Set> Step<S> {
+    fn parse(code: u8, bytes: &[u8], states: usize) -> Result<Self, u32> {
         let mut step = Step {
             code,
             total: 0,
-            targets: 0,
+            targets: S::empty(),
             entries: Vec::with_capacity(bytes.len() / 3),
         };
         for entry in bytes.chunks_exact(3) {
             let target = entry[0];
-            if target as usize >= states || step.targets >> target != 0 {
+            let rises = step.entries.last().is_none_or(|last| last.0 < target);
+            if target as usize >= states || !rises {
                 return Err(9);
             }
             let weight = u16::from_le_bytes([entry[1], entry[2]]);
             step.total += weight as u32;
-            if weight == 0 || step.total > 65_535 {
+            if weight == 0 || step.total > TOTAL {
                 return Err(10);
             }
-            step.targets |= 1 << target;
+            step.targets |= S::one(target as usize);
             step.entries.push((target, weight));
         }
         Ok(step)
     }
 }
 
-/// The members of a set.
-fn members(mut set: u64) -> impl Iterator<Item = usize> {
-    std::iter::from_fn(move || {
-        let member = (set != 0).then(|| set.trailing_zeros() as usize)?;
-        set &= set - 1;
-        Some(member)
-    })
-}
-
 /// A maximum flow between two steps. Rows are places of the first step,
-/// columns states of the second table.
-struct Flow {
-    amounts: Box<[[u32; 64]; 64]>,
+/// columns states of the second table. Nothing is cleared between two flows:
+/// what a flow reads it has written before.
+struct Flow<S, const N: usize> {
+    amounts: Box<[[u32; N]; N]>,
     /// Rows with an amount in a column.
-    users: [u64; 64],
+    users: [S; N],
+    /// The columns that a row is related to.
+    related: [S; N],
+    /// What a row has left to send, and what a column can still take.
+    left: [u32; N],
+    room: [u32; N],
+    /// The row before a column on a path, and the column before a row.
+    row_of: [u8; N],
+    column_of: [u8; N],
 }
 
-impl Flow {
-    fn new() -> Flow {
+impl<S: Set, const N: usize> Flow<S, N> {
+    fn new() -> Self {
         Flow {
-            amounts: Box::new([[0; 64]; 64]),
-            users: [0; 64],
+            amounts: Box::new([[0; N]; N]),
+            users: [S::empty(); N],
+            related: [S::empty(); N],
+            left: [0; N],
+            room: [0; N],
+            row_of: [0; N],
+            column_of: [0; N],
         }
     }
 
     /// The rows of the smallest set with the largest excess; none if m fits n.
-    fn cut(&mut self, relation: &[u64; 64], m: &Step, n: &Step) -> u64 {
-        let mut room = [0; 64];
+    fn cut(&mut self, relation: &[S; N], m: &Step<S>, n: &Step<S>) -> S {
         for &(target, weight) in &n.entries {
-            room[target as usize] = weight as u32 * m.total;
-            self.users[target as usize] = 0;
+            self.room[target as usize] = weight as u32 * m.total;
+            self.users[target as usize] = S::empty();
         }
         let mut open = n.targets;
-        let mut left = [0; 64];
-        let mut short = 0;
-        let mut related = [0; 64];
+        let mut short = S::empty();
         for (i, &(target, weight)) in m.entries.iter().enumerate() {
-            related[i] = relation[target as usize] & n.targets;
+            let related = relation[target as usize] & n.targets;
+            self.related[i] = related;
             let mut amount = weight as u32 * n.total;
-            for j in members(related[i] & open) {
-                let part = amount.min(room[j]);
+            for j in (related & open).members() {
+                let part = amount.min(self.room[j]);
                 self.amounts[i][j] = part;
-                self.users[j] |= 1 << i;
+                self.users[j] |= S::one(i);
                 amount -= part;
-                room[j] -= part;
-                if room[j] == 0 {
-                    open &= !(1 << j);
+                self.room[j] -= part;
+                if self.room[j] == 0 {
+                    open &= !S::one(j);
                 }
                 if amount == 0 {
                     break;
                 }
             }
-            left[i] = amount;
+            self.left[i] = amount;
             if amount > 0 {
-                short |= 1 << i;
+                short |= S::one(i);
             }
         }
-        self.augment(&related, &mut left, &mut room, short, open)
+        self.augment(short, open)
     }
 
     /// Shortest augmenting paths until there is none.
-    fn augment(
-        &mut self,
-        related: &[u64; 64],
-        left: &mut [u32; 64],
-        room: &mut [u32; 64],
-        mut short: u64,
-        mut open: u64,
-    ) -> u64 {
-        let mut row_of = [0u8; 64];
-        let mut column_of = [0u8; 64];
-        'paths: while short != 0 {
-            let (mut rows, mut columns, mut level) = (short, 0, short);
-            while level != 0 {
-                let mut next = 0;
-                for i in members(level) {
-                    for j in members(related[i] & !columns) {
-                        row_of[j] = i as u8;
-                        columns |= 1 << j;
-                        if open >> j & 1 == 1 {
-                            let i = self.push(left, room, &row_of, &column_of, short, j);
-                            if left[i] == 0 {
-                                short &= !(1 << i);
+    fn augment(&mut self, mut short: S, mut open: S) -> S {
+        'paths: while !short.is_empty() {
+            let (mut rows, mut columns, mut level) = (short, S::empty(), short);
+            while !level.is_empty() {
+                let mut next = S::empty();
+                for i in level.members() {
+                    for j in (self.related[i] & !columns).members() {
+                        self.row_of[j] = i as u8;
+                        columns |= S::one(j);
+                        if open.has(j) {
+                            let i = self.push(short, j);
+                            if self.left[i] == 0 {
+                                short &= !S::one(i);
                             }
-                            if room[j] == 0 {
-                                open &= !(1 << j);
+                            if self.room[j] == 0 {
+                                open &= !S::one(j);
                             }
                             continue 'paths;
                         }
-                        for k in members(self.users[j] & !rows) {
-                            column_of[k] = j as u8;
-                            rows |= 1 << k;
-                            next |= 1 << k;
+                        for k in (self.users[j] & !rows).members() {
+                            self.column_of[k] = j as u8;
+                            rows |= S::one(k);
+                            next |= S::one(k);
                         }
                     }
                 }
@@ -238,52 +240,44 @@ impl Flow {
             }
             return rows;
         }
-        0
+        S::empty()
     }
 
     /// Moves as much as possible along the path that ends in column `end`,
     /// and says in which row it starts.
-    fn push(
-        &mut self,
-        left: &mut [u32; 64],
-        room: &mut [u32; 64],
-        row_of: &[u8; 64],
-        column_of: &[u8; 64],
-        short: u64,
-        end: usize,
-    ) -> usize {
-        let mut amount = room[end];
-        let mut i = row_of[end] as usize;
-        while short >> i & 1 == 0 {
-            let j = column_of[i] as usize;
+    fn push(&mut self, short: S, end: usize) -> usize {
+        let mut amount = self.room[end];
+        let mut i = self.row_of[end] as usize;
+        while !short.has(i) {
+            let j = self.column_of[i] as usize;
             amount = amount.min(self.amounts[i][j]);
-            i = row_of[j] as usize;
+            i = self.row_of[j] as usize;
         }
-        amount = amount.min(left[i]);
-        left[i] -= amount;
-        room[end] -= amount;
+        amount = amount.min(self.left[i]);
+        self.left[i] -= amount;
+        self.room[end] -= amount;
         let mut j = end;
         loop {
-            let i = row_of[j] as usize;
-            if self.users[j] >> i & 1 == 0 {
-                self.users[j] |= 1 << i;
+            let i = self.row_of[j] as usize;
+            if !self.users[j].has(i) {
+                self.users[j] |= S::one(i);
                 self.amounts[i][j] = 0;
             }
             self.amounts[i][j] += amount;
-            if short >> i & 1 == 1 {
+            if short.has(i) {
                 return i;
             }
-            j = column_of[i] as usize;
+            j = self.column_of[i] as usize;
             self.amounts[i][j] -= amount;
             if self.amounts[i][j] == 0 {
-                self.users[j] &= !(1 << i);
+                self.users[j] &= !S::one(i);
             }
         }
     }
 
-    fn fits_some(&mut self, relation: &[u64; 64], m: &Step, ns: &[Step]) -> bool {
+    fn fits_some(&mut self, relation: &[S; N], m: &Step<S>, ns: &[Step<S>]) -> bool {
         ns.iter()
-            .any(|n| n.code == m.code && self.cut(relation, m, n) == 0)
+            .any(|n| n.code == m.code && self.cut(relation, m, n).is_empty())
     }
 }
 
@@ -295,44 +289,57 @@ struct Ranking {
 
 /// Fills in the ranks round by round. A pair is looked at again only if its
 /// successors lost a pair in the round before.
-fn rank(first: &Table, second: &Table, flow: &mut Flow) -> Ranking {
-    let width = second.states.len();
-    let mut relation = [0; 64];
-    relation[..first.states.len()].fill(!0 >> (64 - width));
-    let mut ranks = vec![0; first.states.len() * width];
-    let mut lost = [0; 64];
+fn rank<S: Set, const N: usize>(
+    first: &Table<S>,
+    second: &Table<S>,
+    flow: &mut Flow<S, N>,
+) -> Ranking {
+    let (height, width) = (first.states.len(), second.states.len());
+    let mut relation = [S::empty(); N];
+    relation[..height].fill(S::below(width));
+    let mut ranks = vec![0; height * width];
+    // The rows that lost a pair in the round before, and what they lost.
+    let mut fell = S::empty();
+    let mut lost = [S::empty(); N];
+    let mut losing = [S::empty(); N];
     let mut rounds = 0;
     loop {
-        let mut now = [0; 64];
-        let mut any = false;
-        for s in 0..first.states.len() {
-            let gone = members(first.successors[s]).fold(0, |set, s| set | lost[s]);
-            if rounds > 0 && gone == 0 {
+        let mut falling = S::empty();
+        for s in 0..height {
+            let gone = (first.successors[s] & fell)
+                .members()
+                .fold(S::empty(), |set, s| set | lost[s]);
+            if rounds > 0 && gone.is_empty() {
                 continue;
             }
-            for t in members(relation[s]) {
-                if rounds > 0 && gone & second.successors[t] == 0 {
+            let mut row = S::empty();
+            for t in relation[s].members() {
+                if rounds > 0 && (gone & second.successors[t]).is_empty() {
                     continue;
                 }
                 let ns = second.steps_of(t);
                 let mut ms = first.steps_of(s).iter();
                 if !ms.all(|m| flow.fits_some(&relation, m, ns)) {
-                    now[s] |= 1 << t;
+                    row |= S::one(t);
                     ranks[s * width + t] = rounds + 1;
-                    any = true;
                 }
             }
+            if !row.is_empty() {
+                falling |= S::one(s);
+                losing[s] = row;
+            }
         }
-        if !any {
+        if falling.is_empty() {
             break;
         }
-        for (row, now) in relation.iter_mut().zip(&now) {
-            *row &= !now;
+        for s in falling.members() {
+            relation[s] &= !losing[s];
+            lost[s] = losing[s];
         }
-        lost = now;
+        fell = falling;
         rounds += 1;
     }
-    let kept = relation.iter().map(|row| row.count_ones()).sum();
+    let kept = relation.iter().map(|row| row.count()).sum();
     Ranking {
         ranks,
         rounds,
@@ -341,51 +348,59 @@ fn rank(first: &Table, second: &Table, flow: &mut Flow) -> Ranking {
 }
 
 /// The transition of a pair's tree.
-struct Chosen {
+struct Chosen<S> {
     place: usize,
-    sets: Vec<u64>,
+    sets: Vec<S>,
     length: u32,
 }
 
-struct Trees<'a> {
-    first: &'a Table,
-    second: &'a Table,
+struct Trees<'a, S, const N: usize> {
+    first: &'a Table<S>,
+    second: &'a Table<S>,
     ranks: &'a [u16],
-    flow: Flow,
-    chosen: Vec<Option<Chosen>>,
+    flow: Flow<S, N>,
+    relation: [S; N],
+    chosen: Vec<Option<Chosen<S>>>,
 }
 
-impl Trees<'_> {
+impl<S: Set, const N: usize> Trees<'_, S, N> {
     fn at(&self, s: usize, t: usize) -> usize {
         s * self.second.states.len() + t
     }
 
     /// The relation before the round in which a pair fell, so far as it
     /// concerns the pair's successors.
-    fn before(&self, s: usize, t: usize) -> [u64; 64] {
+    fn before(&mut self, s: usize, t: usize) {
         let rank = self.ranks[self.at(s, t)];
-        let mut relation = [0; 64];
-        for s in members(self.first.successors[s]) {
-            for t in members(self.second.successors[t]) {
+        for s in self.first.successors[s].members() {
+            let mut row = S::empty();
+            for t in self.second.successors[t].members() {
                 let other = self.ranks[self.at(s, t)];
-                relation[s] |= ((other == 0 || other >= rank) as u64) << t;
+                if other == 0 || other >= rank {
+                    row |= S::one(t);
+                }
             }
+            self.relation[s] = row;
         }
-        relation
     }
 
-    fn choose(&mut self, s: usize, t: usize) -> (usize, Vec<u64>) {
-        let relation = self.before(s, t);
+    /// Not inlined: the recursion of `length` is as deep as there are ranks,
+    /// so its frames must be small.
+    #[inline(never)]
+    fn choose(&mut self, s: usize, t: usize) -> (usize, Vec<S>) {
+        self.before(s, t);
+        let relation = &self.relation;
         let (ms, ns) = (self.first.steps_of(s), self.second.steps_of(t));
         let flow = &mut self.flow;
-        let stuck = |m: &Step| !flow.fits_some(&relation, m, ns);
+        let stuck = |m: &Step<S>| !flow.fits_some(relation, m, ns);
         let place = ms.iter().position(stuck).expect("a pair that fell");
         let m = &ms[place];
-        let mut sets = vec![0; m.entries.len()];
+        let mut sets = vec![S::empty(); m.entries.len()];
         for n in ns.iter().filter(|n| n.code == m.code) {
-            let cut = self.flow.cut(&relation, m, n);
-            let related = members(cut).fold(0, |set, i| set | relation[m.entries[i].0 as usize]);
-            members(cut).for_each(|i| sets[i] |= n.targets & !related);
+            let cut = flow.cut(relation, m, n);
+            let row = |i: usize| relation[m.entries[i].0 as usize];
+            let related = cut.members().fold(S::empty(), |set, i| set | row(i));
+            cut.members().for_each(|i| sets[i] |= n.targets & !related);
         }
         (place, sets)
     }
@@ -401,7 +416,7 @@ impl Trees<'_> {
         let mut length: u32 = 2;
         for (i, &(state, _)) in first.steps_of(s)[place].entries.iter().enumerate() {
             length = length.saturating_add(4);
-            for t in members(sets[i]) {
+            for t in sets[i].members() {
                 length = length.saturating_add(self.length(state as usize, t));
             }
         }
@@ -413,9 +428,9 @@ impl Trees<'_> {
         length
     }
 
-    fn write(&self, s: usize, set: u64, bytes: &mut Vec<u8>) {
-        bytes.push(set.count_ones() as u8);
-        for t in members(set) {
+    fn write(&self, s: usize, set: S, bytes: &mut Vec<u8>) {
+        bytes.push(set.count() as u8);
+        for t in set.members() {
             let chosen = self.chosen[self.at(s, t)].as_ref().expect("measured");
             let m = &self.first.steps_of(s)[chosen.place];
             bytes.extend([m.code, m.entries.len() as u8]);
@@ -438,11 +453,25 @@ fn take<'a>(input: &mut &'a [u8]) -> &'a [u8] {
     table
 }
 
+/// How many states a table names, be it a right one or not.
+fn states(table: &[u8]) -> usize {
+    let place = table.first().map_or(0, |&codes| 1 + codes as usize);
+    table.get(place).map_or(0, |&count| count as usize)
+}
+
 fn answer(mut input: &[u8]) -> Result<String, (u32, u32)> {
     let (first, second) = (take(&mut input), take(&mut input));
-    let first = Table::parse(first).map_err(|number| (1, number))?;
-    let second = Table::parse(second).map_err(|number| (2, number))?;
-    let mut flow = Flow::new();
+    if states(first).max(states(second)) <= 64 {
+        compare::<u64, 64>(first, second)
+    } else {
+        compare::<u128, STATES>(first, second)
+    }
+}
+
+fn compare<S: Set, const N: usize>(first: &[u8], second: &[u8]) -> Result<String, (u32, u32)> {
+    let first = Table::<S>::parse(first).map_err(|number| (1, number))?;
+    let second = Table::<S>::parse(second).map_err(|number| (2, number))?;
+    let mut flow = Flow::<S, N>::new();
     let ranking = rank(&first, &second, &mut flow);
 
     let (height, width) = (first.states.len(), second.states.len());
@@ -467,6 +496,7 @@ fn answer(mut input: &[u8]) -> Result<String, (u32, u32)> {
         second: &second,
         ranks: &ranking.ranks,
         flow,
+        relation: [S::empty(); N],
         chosen: (0..height * width).map(|_| None).collect(),
     };
     if trees.length(0, 0) >= LONGEST {
@@ -474,7 +504,7 @@ fn answer(mut input: &[u8]) -> Result<String, (u32, u32)> {
         return Ok(text);
     }
     let mut bytes = Vec::new();
-    trees.write(0, 1, &mut bytes);
+    trees.write(0, S::one(0), &mut bytes);
     text.push_str("tree");
     for byte in bytes {
         _ = write!(text, " {byte:02x}");

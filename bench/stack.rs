@@ -7,6 +7,11 @@ mod stack;
 
 use std::path::Path;
 
+/// The buffers of the largest call.
+const RANKS: usize = 128 * 128;
+const FLOW: usize = 393_982;
+const TREE: usize = 65_535;
+
 extern "C" {
     fn pod_check(
         first: *const u8,
@@ -34,9 +39,9 @@ fn table(input: &[u8]) -> (&[u8], &[u8]) {
 fn call(input: &[u8]) -> usize {
     let (first, rest) = table(input);
     let (second, _) = table(rest);
-    let mut ranks = vec![0u16; 4096];
-    let mut flow = vec![0u8; 196_993];
-    let mut tree = vec![0u8; 65_535];
+    let mut ranks = vec![0u16; RANKS];
+    let mut flow = vec![0u8; FLOW];
+    let mut tree = vec![0u8; TREE];
     let mut answer = vec![0u32; 8];
     // SAFETY: every pointer is good for the length beside it, and the buffers do not overlap.
     stack::used(|| unsafe {

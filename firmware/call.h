@@ -1,20 +1,27 @@
-/* A call of each function of the library on an input of podcheck's, with every buffer lent at its full size.
+/* A call of each function of the library on an input of podcheck's, with every buffer lent at its full size but for the
+ * flow, which gets what the analyser's memory leaves beside the others and the stack.
  * The same code runs on the device and on the host, and what it leaves in `results` is compared byte by byte. */
 #ifndef CALL_H
 #define CALL_H
 
 #include "../include/pod.h"
 
-/* Two tables, each behind its length of 2 bytes. No table of more than 2,117 bytes is accepted. */
-enum { INPUT_LENGTH = 2 * (2 + 2117) };
+/* The limits of a table: its states, and its bytes. */
+enum { STATES = 128, TABLE_LENGTH = 2437 };
+
+/* Two tables, each behind its length of 2 bytes. */
+enum { INPUT_LENGTH = 2 * (2 + TABLE_LENGTH) };
+
+/* The longest tree, and as long a flow as fits. */
+enum { TREE_LENGTH = 65535, FLOW_LENGTH = 180000 };
 
 /* All that the library writes. The members leave no gaps between them on either side. */
 struct results {
     uint32_t answer[POD_FIELDS];
     uint32_t alone[2][POD_FIELDS]; /* of each table by itself */
-    uint16_t ranks[4096];
-    uint8_t flow[196993];
-    uint8_t tree[65535];
+    uint16_t ranks[STATES * STATES];
+    uint8_t flow[FLOW_LENGTH];
+    uint8_t tree[TREE_LENGTH];
 };
 
 extern uint8_t input[INPUT_LENGTH];

@@ -4,6 +4,8 @@
 //! A transition is its list of weights here. The relation is one mask for
 //! each place of the first list: bit j stands for place j of the second.
 
+use crate::table::{has, Set};
+
 /// What is left over at best. The transition fits exactly if that is nothing.
 #[derive(Clone, Debug, PartialEq)]
 pub struct Fit {
@@ -24,7 +26,7 @@ pub const SUBSETS: usize = 16;
 
 /// By subsets where there are at most `subsets` weights, by a flow where
 /// there are more.
-pub fn fit(subsets: usize, m: &[u64], n: &[u64], related: &[u64]) -> Fit {
+pub fn fit(subsets: usize, m: &[u64], n: &[u64], related: &[Set]) -> Fit {
     if m.len() <= subsets {
         by_subsets(m, n, related)
     } else {
@@ -32,12 +34,12 @@ pub fn fit(subsets: usize, m: &[u64], n: &[u64], related: &[u64]) -> Fit {
     }
 }
 
-fn excess(m: &[u64], n: &[u64], related: &[u64], set: usize) -> i64 {
+fn excess(m: &[u64], n: &[u64], related: &[Set], set: usize) -> i64 {
     let members = || (0..m.len()).filter(|i| set >> i & 1 == 1);
     let weight: u64 = members().map(|i| m[i]).sum();
     let reached = members().fold(0, |reached, i| reached | related[i]);
     let covered: u64 = (0..n.len())
-        .filter(|j| reached >> j & 1 == 1)
+        .filter(|&j| has(reached, j))
         .map(|j| n[j])
         .sum();
     let (t, u): (u64, u64) = (m.iter().sum(), n.iter().sum());
@@ -45,7 +47,7 @@ fn excess(m: &[u64], n: &[u64], related: &[u64], set: usize) -> i64 {
 }
 
 /// Tries every set of places of `m`.
-pub fn by_subsets(m: &[u64], n: &[u64], related: &[u64]) -> Fit {
+pub fn by_subsets(m: &[u64], n: &[u64], related: &[Set]) -> Fit {
     assert!(m.len() <= SUBSETS);
     let mut largest = 0;
     let mut common = 0;
@@ -166,14 +168,14 @@ impl Network {
 
 /// By a maximum flow: what it leaves behind is the largest excess, and what
 /// can be reached from its source is the smallest set.
-pub fn by_flow(m: &[u64], n: &[u64], related: &[u64]) -> Fit {
+pub fn by_flow(m: &[u64], n: &[u64], related: &[Set]) -> Fit {
     let (t, u): (u64, u64) = (m.iter().sum(), n.iter().sum());
     let (source, sink) = (m.len() + n.len(), m.len() + n.len() + 1);
     let pairs: u32 = related.iter().map(|row| row.count_ones()).sum();
     let mut network = Network::new(sink + 1, m.len() + n.len() + pairs as usize);
     for (i, weight) in m.iter().enumerate() {
         network.join(source, i, weight * u);
-        for j in (0..n.len()).filter(|j| related[i] >> j & 1 == 1) {
+        for j in (0..n.len()).filter(|&j| has(related[i], j)) {
             network.join(i, m.len() + j, t * u);
         }
     }

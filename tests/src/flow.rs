@@ -1,7 +1,7 @@
 //! Whether the flows of a kept pair are right, whatever their amounts.
 
 use crate::ranks::{between, fit_steps, weights, Relation};
-use crate::table::{Table, Transition};
+use crate::table::{has, Set, Table, Transition};
 
 /// The length that the flow buffer must have for a state of the first table.
 pub fn needed(first: &Table, second: &Table, s: usize) -> u32 {
@@ -67,7 +67,7 @@ fn shares(
         rule(amount > 0, "amount of zero")?;
         let known = |step: &Transition, state| step.entries.iter().any(|entry| entry.0 == state);
         rule(known(m, from) && known(n, to), "record of no target")?;
-        rule(kept[from as usize] >> to & 1 == 1, "pair not kept")?;
+        rule(has(kept[from as usize], to as usize), "pair not kept")?;
     }
     let mut split = 0;
     for &(state, weight) in &m.entries {
@@ -106,12 +106,12 @@ pub fn must_split(
 }
 
 /// Tries to place the weights, each in a room that is large enough.
-fn whole(m: &[u64], scale: u64, related: &[u64], room: &mut [u64]) -> bool {
+fn whole(m: &[u64], scale: u64, related: &[Set], room: &mut [u64]) -> bool {
     let Some((weight, rest)) = m.split_first() else {
         return true;
     };
     (0..room.len()).any(|j| {
-        if related[0] >> j & 1 == 0 || room[j] < weight * scale {
+        if !has(related[0], j) || room[j] < weight * scale {
             return false;
         }
         room[j] -= weight * scale;

@@ -11,7 +11,6 @@ pub mod make;
 pub mod program;
 pub mod random;
 pub mod ranks;
-#[cfg(feature = "table")]
 pub mod stack;
 pub mod table;
 pub mod tree;

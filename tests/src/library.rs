@@ -8,6 +8,8 @@ use crate::answer::{Expected, Lengths, Pair, Shown};
 use crate::flow::judge;
 use crate::stack::{used, PROMISED};
 #[cfg(feature = "check")]
+use crate::table::has;
+#[cfg(feature = "check")]
 use crate::tree::{replay, Replay};
 
 extern "C" {
@@ -205,8 +207,8 @@ impl Judged {
     pub fn replayed(&self, pair: &Pair, s: usize, t: usize) -> Replay {
         let own = replay(&self.tree, &pair.first).unwrap();
         let other = replay(&self.tree, &pair.second).unwrap();
-        assert_eq!(own.followers >> s & 1, 1);
-        assert_eq!(other.followers >> t & 1, 0);
+        assert!(has(own.followers, s));
+        assert!(!has(other.followers, t));
         assert_eq!(own.depth as u32, pair.rank(s, t));
         own
     }

@@ -1,7 +1,7 @@
 //! Tables made at random, and tables made for a purpose.
 
 use crate::random::Random;
-use crate::table::{Table, Transition, ENTRIES, STATES, TOTAL, TRANSITIONS};
+use crate::table::{Table, Transition, CODES, ENTRIES, STATES, STEPS, TOTAL, TRANSITIONS};
 
 /// Bounds for a random table.
 #[derive(Clone, Copy)]
@@ -52,15 +52,65 @@ fn random_step(random: &mut Random, shape: Shape, states: usize) -> Transition {
 /// Any table within the shape.
 pub fn random(random: &mut Random, shape: Shape) -> Table {
     let states = random.between(1, shape.states);
+    random_of(random, states, shape)
+}
+
+/// Any table of so many states, otherwise within the shape. Transitions
+/// that are too much for a table are left out.
+pub fn random_of(random: &mut Random, states: usize, shape: Shape) -> Table {
+    let (mut transitions, mut entries) = (0, 0);
     let mut list = Vec::new();
     for _ in 0..states {
-        let steps = random.between(0, shape.steps);
-        list.push(
-            (0..steps)
-                .map(|_| random_step(random, shape, states))
-                .collect(),
-        );
+        let count = random.between(0, shape.steps);
+        let mut steps: Vec<_> = (0..count)
+            .map(|_| random_step(random, shape, states))
+            .collect();
+        steps.retain(|step| {
+            let width = step.entries.len();
+            let room = transitions < TRANSITIONS && entries + width <= ENTRIES;
+            transitions += room as usize;
+            entries += width * room as usize;
+            room
+        });
+        list.push(steps);
     }
+    Table::new(list)
+}
+
+/// A table that behaves the same and has so many states, no fewer: each new
+/// one copies an old one, and a step leads to any copy of its target.
+pub fn copied(random: &mut Random, table: &Table, states: usize) -> Table {
+    let old = table.states.len();
+    let mut list = table.states.clone();
+    for s in old..states {
+        list.push(table.states[s % old].clone());
+    }
+    for entry in list.iter_mut().flatten().flat_map(|step| &mut step.entries) {
+        let copies = (states - 1 - entry.0 as usize) / old;
+        entry.0 += (old * random.between(0, copies)) as u8;
+    }
+    for step in list.iter_mut().flatten() {
+        step.entries.sort();
+    }
+    Table::new(list)
+}
+
+/// The table with its states numbered from `from` on, and a start that does
+/// what the old start does. Numbers between them are left to `below`, a
+/// table of no more states, whose start is gone.
+pub fn raised(table: &Table, from: usize, below: &Table) -> Table {
+    let mut raised = table.states.clone();
+    for entry in raised
+        .iter_mut()
+        .flatten()
+        .flat_map(|step| &mut step.entries)
+    {
+        entry.0 += from as u8;
+    }
+    let mut list = below.states.clone();
+    list.resize(from, Vec::new());
+    list[0] = raised[0].clone();
+    list.extend(raised);
     Table::new(list)
 }
 
@@ -72,7 +122,7 @@ pub fn padded(mut table: Table, states: usize) -> Table {
 
 /// The same table with some codes listed that no transition uses.
 pub fn listing_more(random: &mut Random, mut table: Table) -> Table {
-    let more = random.below(256 - table.codes.len());
+    let more = random.between(0, CODES - table.codes.len());
     table.codes.extend((0..more).map(|_| random.byte()));
     table.codes.sort();
     table.codes.dedup();
@@ -101,14 +151,32 @@ pub fn shuffled(random: &mut Random, table: &Table) -> Table {
     Table::new(list)
 }
 
+/// The table with the numbers of the start and of state s exchanged.
+pub fn started(table: &Table, s: usize) -> Table {
+    let mut list = table.states.clone();
+    list.swap(0, s);
+    for step in list.iter_mut().flatten() {
+        for entry in &mut step.entries {
+            entry.0 = match entry.0 as usize {
+                0 => s as u8,
+                target if target == s => 0,
+                _ => entry.0,
+            };
+        }
+        step.entries.sort();
+    }
+    Table::new(list)
+}
+
 /// Changes something small: a weight, a target, a code, the scale of a
 /// transition, or the list of a state.
 pub fn edit(random: &mut Random, table: &mut Table, codes: usize) {
     let states = table.states.len();
     let s = random.below(states);
-    let (transitions, entries) = (table.transitions(), table.entries());
+    let room = table.transitions() < TRANSITIONS && table.states[s].len() < STEPS;
+    let entries = table.entries();
     if table.states[s].is_empty() {
-        if transitions < TRANSITIONS && entries < ENTRIES {
+        if room && entries < ENTRIES {
             table.states[s].push(to(code(random.below(codes)), random.below(states)));
         }
     } else {
@@ -140,7 +208,7 @@ pub fn edit(random: &mut Random, table: &mut Table, codes: usize) {
             }
             _ => {
                 let copy = step.clone();
-                if transitions < TRANSITIONS && entries + copy.entries.len() <= ENTRIES {
+                if room && entries + copy.entries.len() <= ENTRIES {
                     table.states[s].push(copy);
                 }
             }
@@ -302,6 +370,20 @@ pub fn comb(
     (joined(first, leaves, 300), joined(second, stuck, weight))
 }
 
+/// The code of a state that `flags` tells apart.
+pub fn flag(state: usize) -> u8 {
+    state as u8
+}
+
+/// State 0 steps by code 0 to all others, with these weights; each of them
+/// has a code of its own, by which it stands still.
+pub fn flags(weights: &[u16]) -> Table {
+    let entries: Vec<(u8, u16)> = (1..).zip(weights.iter().copied()).collect();
+    let mut states = vec![vec![Transition { code: 0, entries }]];
+    states.extend((1..=weights.len()).map(|s| vec![to(flag(s), s)]));
+    Table::new(states)
+}
+
 /// Layers of `width` states, each with a step to all states of the next,
 /// against a chain that is a layer shorter: all children are deep.
 pub fn fan(layers: usize, width: usize) -> (Table, Table) {
@@ -377,34 +459,43 @@ pub fn weights(random: &mut Random, count: usize, total: u64) -> Vec<u16> {
     list
 }
 
-/// A table of 64 states, 128 transitions and 512 entries, all totals 65,535.
-/// With `wide`, six transitions have 64 targets. With one or two codes some
-/// states have no transition, for otherwise nearly all pairs are kept.
+/// A table at the limits: see `sized`.
 pub fn limit(random: &mut Random, codes: usize, wide: bool) -> Table {
-    let mut widths = vec![if wide { 1 } else { 4 }; TRANSITIONS];
+    sized(random, STATES, codes, wide)
+}
+
+/// A table of so many states, from 32 on, twice as many transitions and 512
+/// entries, all totals 65,535. With `wide`, as many transitions as can lead to
+/// all states. With one or two codes some states have no transition, for
+/// otherwise nearly all pairs are kept.
+pub fn sized(random: &mut Random, states: usize, codes: usize, wide: bool) -> Table {
+    let transitions = (2 * states).min(TRANSITIONS);
+    let even = ENTRIES / transitions;
+    let mut widths = vec![if wide { 1 } else { even }; transitions];
     if wide {
-        (0..6).for_each(|k| widths[2 * k] = STATES);
+        let most = (ENTRIES - transitions) / (states - 1);
+        (0..most).for_each(|k| widths[2 * k] = states);
     }
     // What is left over goes to any transition with room.
     while widths.iter().sum::<usize>() < ENTRIES {
-        let k = random.below(TRANSITIONS);
-        widths[k] += (widths[k] < STATES) as usize;
+        let k = random.below(transitions);
+        widths[k] += (widths[k] < states) as usize;
     }
     if !wide {
-        for _ in 0..TRANSITIONS {
-            let (j, k) = (random.below(TRANSITIONS), random.below(TRANSITIONS));
-            if j != k && widths[j] > 1 && widths[k] < STATES {
+        for _ in 0..transitions {
+            let (j, k) = (random.below(transitions), random.below(transitions));
+            if j != k && widths[j] > 1 && widths[k] < states {
                 widths[j] -= 1;
                 widths[k] += 1;
             }
         }
     }
-    let mut list = vec![Vec::new(); STATES];
+    let mut list = vec![Vec::new(); states];
     for (k, width) in widths.into_iter().enumerate() {
-        let targets = targets(random, STATES, width);
+        let targets = targets(random, states, width);
         let weights = weights(random, width, TOTAL);
         let state = match codes {
-            1 | 2 => random.below(STATES),
+            1 | 2 => random.below(states),
             _ => k / 2,
         };
         list[state].push(Transition {

@@ -1,10 +1,10 @@
 //! Rounds, one after the other, and the ranks they give.
 
 use crate::fit::{fit, Fit};
-use crate::table::{Table, Transition};
+use crate::table::{below, has, members, Set, Table, Transition};
 
-/// A relation between the states of two tables: bit t of word s.
-pub type Relation = Vec<u64>;
+/// A relation between the states of two tables: t is in the set of s.
+pub type Relation = Vec<Set>;
 
 pub struct Ranking {
     /// The relation of every round up to the first that drops nothing.
@@ -31,9 +31,9 @@ pub fn weights(step: &Transition) -> Vec<u64> {
 }
 
 /// The relation on places of two transitions that one on states gives.
-pub fn between(relation: &Relation, m: &Transition, n: &Transition) -> Vec<u64> {
+pub fn between(relation: &Relation, m: &Transition, n: &Transition) -> Vec<Set> {
     let row = |s: u8| {
-        let related = |j: &usize| relation[s as usize] >> n.entries[*j].0 & 1 == 1;
+        let related = |j: &usize| has(relation[s as usize], n.entries[*j].0 as usize);
         (0..n.entries.len())
             .filter(related)
             .fold(0, |row, j| row | 1 << j)
@@ -52,27 +52,47 @@ pub fn fits_some(subsets: usize, relation: &Relation, m: &Transition, ns: &[Tran
         .any(|n| n.code == m.code && fit_steps(subsets, relation, m, n).fits())
 }
 
-/// Goes through the rounds until one drops nothing.
+/// The targets of a state.
+fn targets(steps: &[Transition]) -> Set {
+    let entries = steps.iter().flat_map(|step| &step.entries);
+    entries.fold(0, |set, entry| set | 1 << entry.0)
+}
+
+/// Goes through the rounds until one drops nothing. A pair is looked at
+/// again only if the round before dropped a pair of targets of the two: its
+/// transitions fit as they did otherwise.
 pub fn rank(subsets: usize, first: &Table, second: &Table) -> Ranking {
     let width = second.states.len();
-    let all = if width == 64 { !0 } else { (1 << width) - 1 };
-    let mut relations = vec![vec![all; first.states.len()]];
+    let [reaches, reached] = [first, second].map(|table| -> Vec<Set> {
+        let states = table.states.iter();
+        states.map(|steps| targets(steps)).collect()
+    });
+    let mut relations = vec![vec![below(width); first.states.len()]];
     let mut ranks = vec![0; first.states.len() * width];
+    // What the round before dropped; the first round looks at all pairs.
+    let mut dropped = vec![0; first.states.len()];
     loop {
-        let before = relations.last().unwrap();
+        let round = relations.len();
+        let before = &relations[round - 1];
         let mut after = before.clone();
-        for (s, steps) in first.states.iter().enumerate() {
-            for t in (0..width).filter(|t| before[s] >> t & 1 == 1) {
+        for (s, ms) in first.states.iter().enumerate() {
+            let gone = members(reaches[s]).fold(0, |gone, to| gone | dropped[to]);
+            if round > 1 && gone == 0 {
+                continue;
+            }
+            for t in members(before[s]) {
                 let ns = &second.states[t];
-                if !steps.iter().all(|m| fits_some(subsets, before, m, ns)) {
+                let again = round == 1 || gone & reached[t] != 0;
+                if again && !ms.iter().all(|m| fits_some(subsets, before, m, ns)) {
                     after[s] &= !(1 << t);
-                    ranks[s * width + t] = relations.len() as u16;
+                    ranks[s * width + t] = round as u16;
                 }
             }
         }
         if after == *before {
             break;
         }
+        dropped = before.iter().zip(&after).map(|(b, a)| b & !a).collect();
         relations.push(after);
     }
     let kept = relations.last().unwrap();

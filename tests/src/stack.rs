@@ -5,7 +5,7 @@ use std::arch::asm;
 use std::cell::RefCell;
 
 /// The most bytes of stack that a call takes on x86-64.
-pub const PROMISED: usize = 64 << 10;
+pub const PROMISED: usize = 200 << 10;
 
 /// Bytes that are counted, and bytes that there are: a call that takes too
 /// much is told by its count, while nothing else is overwritten.

@@ -13,10 +13,45 @@ pub struct Table {
     pub states: Vec<Vec<Transition>>,
 }
 
-pub const STATES: usize = 64;
-pub const TRANSITIONS: usize = 128;
+/// The limits of a table; those of its codes and of a state's transitions
+/// are what a count of one byte can say.
+pub const STATES: usize = 128;
+pub const TRANSITIONS: usize = 256;
 pub const ENTRIES: usize = 512;
+pub const CODES: usize = u8::MAX as usize;
+pub const STEPS: usize = u8::MAX as usize;
 pub const TOTAL: u64 = 65_535;
+
+/// The largest rank, and the number of pairs of two tables at the limits.
+pub const PAIRS: usize = STATES * STATES;
+/// The bytes of a table with all codes listed and all counts at the limits.
+pub const LARGEST: usize = 1 + CODES + 1 + STATES + 2 + 2 * TRANSITIONS + 2 + 3 * ENTRIES;
+
+/// The states that one word of a set in memory has bits for. Tables of that
+/// size are tried beside the largest.
+pub const WORD: usize = u64::BITS as usize;
+
+/// A set of states, or of places in a list of targets: bit t stands for t.
+pub type Set = u128;
+const _: () = assert!(STATES <= Set::BITS as usize);
+
+/// The set of the numbers below `count`.
+pub fn below(count: usize) -> Set {
+    (0..count).fold(0, |set, t| set | 1 << t)
+}
+
+pub fn has(set: Set, t: usize) -> bool {
+    set >> t & 1 == 1
+}
+
+/// The members of a set, ascending.
+pub fn members(mut set: Set) -> impl Iterator<Item = usize> {
+    std::iter::from_fn(move || {
+        let t = set.trailing_zeros();
+        set &= set.wrapping_sub(1);
+        (t < Set::BITS).then_some(t as usize)
+    })
+}
 
 pub const P: [u8; 24] = [
     0x02, 0x0a, 0x14, 0x03, 0x01, 0x01, 0x00, 0x02, 0x00, 0x0a, 0x02, 0x14, 0x01, 0x03, 0x00, 0x01,
@@ -96,7 +131,7 @@ impl<'a> Bytes<'a> {
 
     fn two(&mut self) -> Result<usize, u32> {
         let taken = self.take(2)?;
-        Ok(taken[0] as usize + 256 * taken[1] as usize)
+        Ok(u16::from_le_bytes([taken[0], taken[1]]) as usize)
     }
 }
 

@@ -2,8 +2,8 @@
 //! bytes on a table.
 
 use crate::fit::fit;
-use crate::ranks::{fit_steps, fits_some, weights, Ranking};
-use crate::table::{Table, Transition};
+use crate::ranks::{fit_steps, fits_some, weights, Ranking, Relation};
+use crate::table::{below, members, Set, Table, Transition};
 
 /// The longest tree that is written.
 pub const LONGEST: u64 = 65_535;
@@ -13,7 +13,7 @@ struct Step {
     /// Its place in the state.
     place: usize,
     /// For each target the states it must be told apart from.
-    sets: Vec<u64>,
+    sets: Vec<Set>,
 }
 
 /// The trees of all pairs of two tables.
@@ -23,10 +23,6 @@ pub struct Trees {
     steps: Vec<Option<Step>>,
     /// Bytes of each pair's transition, no further than `u64` goes.
     lengths: Vec<u64>,
-}
-
-fn members(set: u64) -> impl Iterator<Item = usize> {
-    (0..64).filter(move |t| set >> t & 1 == 1)
 }
 
 impl Trees {
@@ -78,7 +74,7 @@ impl Trees {
         bytes
     }
 
-    fn node(&self, s: usize, set: u64, bytes: &mut Vec<u8>) {
+    fn node(&self, s: usize, set: Set, bytes: &mut Vec<u8>) {
         bytes.push(set.count_ones() as u8);
         for t in members(set) {
             let step = self.steps[s * self.width + t].as_ref().unwrap();
@@ -94,7 +90,7 @@ impl Trees {
 }
 
 /// The transition chosen for a pair that falls after the round `before`.
-fn step(subsets: usize, before: &Vec<u64>, ms: &[Transition], ns: &[Transition]) -> Step {
+fn step(subsets: usize, before: &Relation, ms: &[Transition], ns: &[Transition]) -> Step {
     let stuck = |m: &Transition| !fits_some(subsets, before, m, ns);
     let place = ms.iter().position(stuck).unwrap();
     let m = &ms[place];
@@ -117,7 +113,7 @@ fn step(subsets: usize, before: &Vec<u64>, ms: &[Transition], ns: &[Transition])
 #[derive(Clone, Copy, Debug, PartialEq)]
 pub struct Replay {
     /// The states that can follow the tree.
-    pub followers: u64,
+    pub followers: Set,
     /// The most transitions on a path.
     pub depth: usize,
     /// The most transitions of a node.
@@ -144,10 +140,7 @@ impl Reader<'_> {
     }
 
     fn node(&mut self) -> Option<Replay> {
-        let mut followers = 0;
-        for t in 0..self.table.states.len() {
-            followers |= 1 << t;
-        }
+        let mut followers = below(self.table.states.len());
         let mut depth = 0;
         let [steps] = self.take()?;
         let mut widest = steps;
@@ -175,16 +168,16 @@ impl Reader<'_> {
     }
 
     /// The states that have a transition which a tree's transition fits.
-    fn can_take(&self, code: u8, children: &[(u64, u64)]) -> u64 {
+    fn can_take(&self, code: u8, children: &[(u64, Set)]) -> Set {
         let m: Vec<u64> = children.iter().map(|child| child.0).collect();
         let mut states = 0;
         for (t, ns) in self.table.states.iter().enumerate() {
             let fits = |n: &Transition| {
-                let follows = |child: &(u64, u64)| {
+                let follows = |child: &(u64, Set)| {
                     let targets = n.entries.iter().enumerate();
                     targets.fold(0, |row, (j, entry)| row | (child.1 >> entry.0 & 1) << j)
                 };
-                let related: Vec<u64> = children.iter().map(follows).collect();
+                let related: Vec<Set> = children.iter().map(follows).collect();
                 fit(6, &m, &weights(n), &related).fits()
             };
             if ns.iter().any(|n| n.code == code && fits(n)) {

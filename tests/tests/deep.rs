@@ -7,7 +7,7 @@ use pod_tests::library::{check, Judged};
 use pod_tests::make;
 use pod_tests::random::Random;
 use pod_tests::stack::{deep, used, PROMISED};
-use pod_tests::table::{parse, Table, Transition, ENTRIES, LONE, STATES, TRANSITIONS};
+use pod_tests::table::{parse, Table, Transition, ENTRIES, LONE, PAIRS, STATES, TRANSITIONS, WORD};
 use pod_tests::tree::{replay, LONGEST};
 use std::collections::BTreeSet;
 use std::hint::black_box;
@@ -31,7 +31,7 @@ impl Seen {
     /// Judges the call for a pair that is not kept, and the tree's depth; a
     /// short tree is replayed.
     fn judge(&mut self, pair: &Pair, (s, t): (usize, usize)) -> Judged {
-        let salt = (64 * s + t) as u64;
+        let salt = (STATES * s + t) as u64;
         let judged = check(pair, s, t, pair.lengths(s, t), salt);
         self.stack = self.stack.max(judged.stack);
         if judged.answer.number == 23 {
@@ -92,14 +92,15 @@ fn stack_is_counted() {
     assert!(near(used(take::<1_000>), 1_000));
     assert!(near(used(take::<PROMISED>), PROMISED));
     assert!(near(used(take::<100_000>), 100_000));
-    assert!(used(take::<1_000_000>) > 100_000);
+    assert!(near(used(take::<{ PROMISED + 1_000 }>), PROMISED + 1_000));
+    assert!(used(take::<1_000_000>) > PROMISED);
     assert!(used(|| ()) < 256);
 }
 
 #[test]
 fn every_depth() {
     deep(|| {
-        let pair = Pair::of(&make::counter(64));
+        let pair = Pair::of(&make::counter(WORD));
         let mut seen = Seen::default();
         for (s, t) in lost(&pair) {
             let judged = seen.judge(&pair, (s, t));
@@ -118,16 +119,58 @@ fn every_depth() {
     });
 }
 
+/// The levels of the deepest tree that can be written: each takes 6 bytes.
+const DEEPEST: usize = (LONGEST as usize - 1) / 6;
+
+#[test]
+fn deepest_trees() {
+    // Every pair has a rank of its own, up to 16,384, and from 10,923 on no
+    // tree can be written.
+    assert_eq!(DEEPEST, 10_922);
+    deep(|| {
+        let pair = Pair::of(&make::counter(STATES));
+        let lost = lost(&pair);
+        assert_eq!((pair.ranking.rounds(), lost.len()), (16_384, PAIRS));
+        let mut seen = Seen::default();
+        for at in (0..PAIRS).step_by(PAIRS / 64) {
+            seen.judge(&pair, lost[at]);
+        }
+        for rank in [DEEPEST - 1, DEEPEST, DEEPEST + 1, DEEPEST + 2, PAIRS] {
+            let (s, t) = lost[rank - 1];
+            let judged = seen.judge(&pair, (s, t));
+            let number = if rank > DEEPEST { 23 } else { 0 };
+            assert_eq!(
+                (pair.rank(s, t), judged.answer.number),
+                (rank as u32, number)
+            );
+        }
+        seen.print("large counter");
+        assert_eq!((seen.depths.last(), seen.longest), (Some(&DEEPEST), 65_533));
+
+        let (s, t) = lost[DEEPEST - 1];
+        let full = pair.lengths(s, t);
+        check(&pair, s, t, full, 3).replayed(&pair, s, t);
+        let tree = full.tree - 1;
+        let short = check(&pair, s, t, Lengths { tree, ..full }, 2);
+        assert_eq!((short.answer.number, short.answer.needed), (22, 65_533));
+        let ranks = full.ranks - 1;
+        let short = check(&pair, s, t, Lengths { ranks, ..full }, 2);
+        assert_eq!((short.answer.number, short.answer.needed), (20, 16_384));
+    });
+}
+
 #[test]
 fn chains_and_cycles() {
     deep(|| {
-        let pair = Pair::of(&make::chain(64));
-        let mut seen = Seen::default();
-        for at in lost(&pair) {
-            seen.judge(&pair, at);
+        for states in [WORD, STATES] {
+            let pair = Pair::of(&make::chain(states));
+            let mut seen = Seen::default();
+            for at in lost(&pair) {
+                seen.judge(&pair, at);
+            }
+            seen.print("chain");
+            assert_eq!(seen.missing(1..=states - 1), []);
         }
-        seen.print("chain");
-        assert_eq!(seen.missing(1..=63), []);
 
         let pair = Pair::of(&make::cycles(63, 64));
         assert_eq!((pair.ranking.rounds(), pair.ranking.kept), (4_032, 64));
@@ -140,6 +183,15 @@ fn chains_and_cycles() {
         }
         seen.print("cycles");
         assert_eq!(seen.depths.last(), Some(&4_032));
+
+        let pair = Pair::of(&make::cycles(127, 128));
+        assert_eq!((pair.ranking.rounds(), pair.ranking.kept), (16_256, 128));
+        let mut seen = Seen::default();
+        for &at in self::lost(&pair).iter().step_by(257) {
+            seen.judge(&pair, at);
+        }
+        seen.print("large cycles");
+        assert!(seen.depths.len() > 40 && seen.too_long > 15);
     });
 }
 
@@ -185,9 +237,18 @@ fn combs() {
             }
             judge(make::cycles(13, 29), leaves, (7, 8), 13 * 29);
             judge(make::chain(8), leaves, (50, 0), 7);
+            // Numbers from 64 on alone: the deep transition, or all others.
+            judge(make::chain(5), leaves, (120, 0), 4);
+            judge(make::chain(5), leaves, (0, 120), 4);
+            judge(make::cycles(7, 5), leaves, (70, 20), 7 * 5);
         }
+        for leaves in [(64, 1), (100, 10), (1, 64)] {
+            judge(make::chain(5), leaves, (0, 0), 4);
+            judge(make::cycles(3, 4), leaves, (64, 0), 3 * 4);
+        }
+        judge(make::cycles(123, 128), (1, 1), (0, 0), 123 * 128);
         seen.print("combs");
-        assert_eq!((seen.depths.last(), seen.widest), (Some(&3_904), 51));
+        assert_eq!((seen.depths.last(), seen.widest), (Some(&4_592), 121));
         assert!(seen.longest > 60_000 && seen.too_long > 0);
         assert!(seen.replayed > 100);
     });
@@ -218,9 +279,9 @@ fn fans() {
 #[test]
 fn wide_nodes() {
     // All transitions of a node are deep and have equal lengths: from 2 to
-    // 63 of them.
+    // 127 of them.
     let mut seen = Seen::default();
-    for width in 2..=63 {
+    for width in 2..STATES {
         for layers in 1.. {
             let tables = make::layered(&[vec![1], vec![width; layers]].concat());
             let (states, steps) = (tables.1.states.len(), tables.1.transitions());
@@ -232,16 +293,19 @@ fn wide_nodes() {
             }
         }
     }
-    // And 64: no state of the second table has the code that comes next.
-    let all = Transition {
-        code: 10,
-        entries: (0..64).map(|t| (t, 1)).collect(),
-    };
-    let second = make::padded(Table::new(vec![vec![all]]), 64);
-    let first = Table::new(vec![vec![make::to(10, 1)], vec![make::to(20, 1)]]);
-    seen.judge(&Pair::of(&(first, second)), (0, 0));
+    // And all states: none of the second table has the code that comes next.
+    for states in [WORD, WORD + 1, STATES] {
+        let all = Transition {
+            code: 10,
+            entries: (0..states as u8).map(|t| (t, 1)).collect(),
+        };
+        let second = make::padded(Table::new(vec![vec![all]]), states);
+        let first = Table::new(vec![vec![make::to(10, 1)], vec![make::to(20, 1)]]);
+        seen.judge(&Pair::of(&(first, second)), (0, 0));
+        assert!(seen.widest as usize >= states);
+    }
     seen.print("wide nodes");
-    assert_eq!(seen.widest, 64);
+    assert_eq!(seen.widest, 128);
     assert_eq!(seen.missing(2..=13), []);
     assert!(seen.longest > 59_000 && seen.too_long > 0);
     assert!(seen.replayed > 60);
@@ -321,6 +385,32 @@ fn longest_trees() {
 }
 
 #[test]
+fn longest_thin_trees() {
+    // A level takes 6 bytes and the last one 4 more for each end but the
+    // first: every odd length, all of them nearly as deep as can be.
+    let mut seen = Seen::default();
+    deep(|| {
+        for length in (LONGEST - 6..=LONGEST + 6).step_by(2) {
+            let fits = |ends: &u64| (length + 3 - 4 * ends).is_multiple_of(6);
+            let ends = (1..=3).find(fits).unwrap();
+            let pair = Pair::of(&make::cycles_to(125, 128, ends as usize));
+            let of_length = |&&(s, t): &&(usize, usize)| pair.trees.length(s, t) == length;
+            let (s, t) = *lost(&pair).iter().find(of_length).unwrap();
+            let judged = seen.judge(&pair, (s, t));
+            let number = if length > LONGEST { 23 } else { 0 };
+            assert_eq!(judged.answer.number, number);
+            let full = pair.lengths(s, t);
+            for tree in [full.tree - 1, full.tree + 1] {
+                check(&pair, s, t, Lengths { tree, ..full }, length);
+            }
+        }
+    });
+    seen.print("longest thin trees");
+    assert_eq!((seen.longest, seen.too_long), (65_535, 3));
+    assert_eq!(seen.missing(DEEPEST - 1..=DEEPEST), []);
+}
+
+#[test]
 fn longest_wide_trees() {
     let mut random = Random::new(35);
     let mut nearest = (0, u64::MAX);
@@ -332,7 +422,7 @@ fn longest_wide_trees() {
             let width = random.between(1, 5);
             steps += widths[widths.len() - 1] * width;
             states += width;
-            if steps > 128 || states > 64 || widths.len() > 14 {
+            if steps > TRANSITIONS || states > STATES || widths.len() > 14 {
                 break;
             }
             widths.push(width);

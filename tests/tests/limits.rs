@@ -1,12 +1,14 @@
-//! Tables at the limits: 64 states, 128 transitions, 512 entries, totals of
-//! 65,535; against the second program with a maximum flow of its own.
+//! Tables at the limits: 128 states, 256 transitions, 512 entries, totals of
+//! 65,535, and such of 64 states; against the second program with a maximum
+//! flow of its own.
 
 use pod_tests::answer::{Lengths, Pair};
 use pod_tests::library::check;
 use pod_tests::make::{self, Shape};
 use pod_tests::random::Random;
 use pod_tests::stack::deep;
-use pod_tests::table::{Table, Transition};
+use pod_tests::table::{Table, Transition, ENTRIES, STATES, STEPS, TOTAL, WORD};
+use pod_tests::tree::LONGEST;
 
 /// The lengths from two below to two above.
 fn around(length: usize) -> impl Iterator<Item = usize> {
@@ -50,10 +52,10 @@ fn sample(random: &mut Random, pair: &Pair, count: usize, seen: &mut Seen) {
     }
 }
 
-/// A table and one of up to 64 states that does the same.
+/// A table of 30 to 85 states and one of up to 128 that does the same.
 fn doubled(random: &mut Random) -> (Table, Table) {
     let shape = Shape {
-        states: 44,
+        states: 2 * STATES / 3,
         codes: 3,
         steps: 3,
         width: 5,
@@ -69,18 +71,19 @@ fn doubled(random: &mut Random) -> (Table, Table) {
     }
 }
 
-/// A table at the limits and one that is nearly the same.
+/// A table of many states, 64 or 128, and one that is nearly the same.
 fn near(random: &mut Random, round: usize) -> (Table, Table) {
     let (codes, wide) = ([1, 2, 6, 40][round % 4], round.is_multiple_of(3));
     let (most_codes, edits) = (codes.min(6), random.below(5));
+    let states = [WORD, STATES][round / 60 % 2];
     if round % 10 == 9 {
-        let first = make::limit(random, codes, wide);
-        return (first, make::limit(random, codes, wide));
+        let first = make::sized(random, states, codes, wide);
+        return (first, make::sized(random, states, codes, wide));
     }
     let (table, other) = match round % 5 {
         4 => doubled(random),
         _ => {
-            let table = make::limit(random, codes, wide);
+            let table = make::sized(random, states, codes, wide);
             let other = make::edited(random, &table, edits, most_codes);
             (table, other)
         }
@@ -105,18 +108,21 @@ fn near_copies() {
     assert!(seen.split > 50 && seen.replayed > 400);
 }
 
-/// A table of 64 states in a line of layers, transitions mostly leading to
-/// the layer after.
-fn line(random: &mut Random, codes: usize) -> Table {
+/// A table of so many states in a line of layers, transitions mostly leading
+/// to the layer after.
+fn line(random: &mut Random, count: usize, codes: usize) -> Table {
     let layer = random.between(2, 6);
-    let mut states = vec![Vec::new(); 64];
+    // Two transitions a state, and no more entries than there may be.
+    let width = ENTRIES / (2 * count);
+    let mut states = vec![Vec::new(); count];
     for (s, steps) in states.iter_mut().enumerate() {
         for _ in 0..2 {
             let next = (s / layer + 1) * layer;
-            let mut targets: Vec<u8> = (next..(next + layer).min(64)).map(|t| t as u8).collect();
+            let mut targets: Vec<u8> = (next..(next + layer).min(count)).map(|t| t as u8).collect();
             targets.retain(|_| !random.once_in(3));
+            targets.truncate(width);
             if targets.is_empty() {
-                targets.push(63);
+                targets.push(count as u8 - 1);
             }
             let weights = make::weights(random, targets.len(), 60);
             steps.push(Transition {
@@ -125,7 +131,7 @@ fn line(random: &mut Random, codes: usize) -> Table {
             });
         }
     }
-    states[63].pop();
+    states[count - 1].pop();
     Table::new(states)
 }
 
@@ -135,7 +141,7 @@ fn long_lines() {
     let mut random = Random::new(32);
     let mut seen = Seen::default();
     for round in 0..200 {
-        let table = line(&mut random, 1 + round % 3);
+        let table = line(&mut random, [WORD, STATES][round / 3 % 2], 1 + round % 3);
         let edits = random.between(1, 4);
         let other = make::edited(&mut random, &table, edits, 2);
         let pair = Pair::of(&(table, other));
@@ -148,15 +154,16 @@ fn long_lines() {
 
 #[test]
 fn longest_flow() {
-    // One state holds all 512 entries; the buffer must have 196,993 bytes.
+    // One state holds 255 transitions and all 512 entries; the buffer must
+    // have 393,982 bytes, and 393,981 are refused.
     let mut random = Random::new(33);
     for round in 0..6 {
-        let mut table = Table::new(vec![Vec::new(); 64]);
-        let mut left = 512;
-        for k in 0..128 {
-            let width = (left - (127 - k)).min([4, 64][round % 2]);
+        let mut table = Table::new(vec![Vec::new(); STATES]);
+        let mut left = ENTRIES;
+        for k in 0..STEPS {
+            let width = (left - (STEPS - 1 - k)).min([4, STATES][round % 2]);
             left -= width;
-            let weights = make::weights(&mut random, width, 65_535 - round as u64);
+            let weights = make::weights(&mut random, width, TOTAL - round as u64);
             table.states[0].push(Transition {
                 code: [7, k as u8][round / 2 % 2],
                 entries: (0..).zip(weights).collect(),
@@ -167,9 +174,15 @@ fn longest_flow() {
         states[0].reverse();
         let pair = Pair::of(&(table, Table::new(states)));
         let full = pair.lengths(0, 0);
-        assert_eq!((full.flow, pair.rank(0, 0)), (196_993, 0));
+        assert_eq!((full.flow, pair.rank(0, 0)), (393_982, 0));
         for flow in around(full.flow) {
-            check(&pair, 0, 0, Lengths { flow, ..full }, flow as u64);
+            let answer = check(&pair, 0, 0, Lengths { flow, ..full }, flow as u64).answer;
+            let due = if flow < 393_982 {
+                (21, 393_982)
+            } else {
+                (0, 0)
+            };
+            assert_eq!((answer.number, answer.needed), due);
         }
     }
 }
@@ -182,7 +195,7 @@ fn lengths_around_the_need() {
         let tables = match round % 3 {
             0 => near(&mut random, round),
             _ => {
-                let table = line(&mut random, 2);
+                let table = line(&mut random, [WORD, STATES][round % 2], 2);
                 let other = make::edited(&mut random, &table, 2, 2);
                 (table, other)
             }
@@ -203,7 +216,7 @@ fn lengths_around_the_need() {
             for flow in around(full.flow).chain([0, 1]) {
                 judge(Lengths { flow, ..full });
             }
-            for tree in around(full.tree).chain([0, 1, 65_535]) {
+            for tree in around(full.tree).chain([0, 1, LONGEST as usize]) {
                 judge(Lengths { tree, ..full });
             }
         }

@@ -2,13 +2,14 @@
 //! here needs the library.
 
 use pod_tests::answer::{Lengths, Pair, Shown};
-use pod_tests::fit::{by_flow, by_subsets, SUBSETS};
+use pod_tests::fit::{by_flow, by_subsets, Fit, SUBSETS};
 use pod_tests::flow::judge;
 use pod_tests::make::{self, Shape};
 use pod_tests::program::{input, output};
 use pod_tests::random::Random;
-use pod_tests::table::{parse, C, LONE, P};
-use pod_tests::tree::replay;
+use pod_tests::ranks::{fits_some, Relation};
+use pod_tests::table::{has, members, parse, Set, Table, C, LONE, P, PAIRS, STATES, WORD};
+use pod_tests::tree::{replay, LONGEST};
 
 const P_C: &str = "tables 3 3
 row 0 2 1 1
@@ -69,7 +70,7 @@ fn subsets_against_flow() {
             |n: usize| -> Vec<u64> { (0..n).map(|_| random.between(1, top) as u64).collect() };
         let (m, n) = (weights(p), weights(q));
         let sparse = random.between(1, 4);
-        let related: Vec<u64> = (0..p)
+        let related: Vec<Set> = (0..p)
             .map(|_| {
                 let row = (0..q).filter(|_| random.below(5) >= sparse);
                 row.fold(0, |row, j| row | 1 << j)
@@ -83,6 +84,81 @@ fn subsets_against_flow() {
     }
     println!("{fits} fit, {fails} do not, {sets} by a set of several");
     assert!(fits > 5_000 && fails > 5_000 && sets > 5_000);
+}
+
+#[test]
+fn subsets_against_flow_on_many_targets() {
+    // A few places of the first list, up to as many of the second as there
+    // are states: wide sets, and sets with members from 64 on alone.
+    let mut random = Random::new(5);
+    let (mut fits, mut fails) = (0, 0);
+    for round in 0..3_000 {
+        let (p, q) = (random.between(1, 8), random.between(WORD + 1, STATES));
+        let from = if round % 2 == 0 { 0 } else { WORD };
+        let weight = |n: usize| [1, n / p, n][random.below(3)].max(1) as u64;
+        let m: Vec<u64> = vec![q; p].into_iter().map(weight).collect();
+        let n: Vec<u64> = (0..q).map(|j| (j >= from) as u64).collect();
+        let dense = random.between(1, 10);
+        let mut row = || {
+            let related = (from..q).filter(|_| random.below(10) < dense);
+            related.fold(0, |row, j| row | 1 << j)
+        };
+        let related: Vec<Set> = (0..p).map(|_| row()).collect();
+        let fit: Fit = by_subsets(&m, &n, &related);
+        assert_eq!(fit, by_flow(&m, &n, &related), "{m:?} {n:?} {related:?}");
+        fits += fit.fits() as usize;
+        fails += !fit.fits() as usize;
+    }
+    println!("{fits} fit, {fails} do not");
+    assert!(fits > 500 && fails > 500);
+}
+
+/// What a round keeps of a relation, by the definition.
+fn kept_of(first: &Table, second: &Table, before: &Relation) -> Relation {
+    let keeps = |s: usize, t: usize| {
+        let mut steps = first.states[s].iter();
+        steps.all(|m| fits_some(4, before, m, &second.states[t]))
+    };
+    let row = |s: usize| {
+        let kept = members(before[s]).filter(|&t| keeps(s, t));
+        kept.fold(0, |row, t| row | 1 << t)
+    };
+    (0..before.len()).map(row).collect()
+}
+
+#[test]
+fn rounds_by_the_definition() {
+    // Each relation is what a round makes of the one before, the last one of
+    // itself: the kept pairs are a simulation.
+    let mut random = Random::new(6);
+    let mut rounds = 0;
+    for states in [5, 20, 64, 65, 100, 127, 128].repeat(3) {
+        let shape = Shape {
+            states,
+            codes: 2,
+            steps: 3,
+            width: 3,
+            weight: 3,
+        };
+        let first = make::random_of(&mut random, states, shape);
+        let second = make::edited(&mut random, &first, 3, shape.codes);
+        let ranking = Pair::of(&(first.clone(), second.clone())).ranking;
+        let mut relations = ranking.relations.clone();
+        relations.push(ranking.last().clone());
+        for two in relations.windows(2) {
+            assert_eq!(kept_of(&first, &second, &two[0]), two[1]);
+        }
+        for (at, &rank) in ranking.ranks.iter().enumerate() {
+            let related = |k: usize| has(relations[k][at / states], at % states);
+            match rank as usize {
+                0 => assert!(related(relations.len() - 1)),
+                rank => assert!(related(rank - 1) && !related(rank)),
+            }
+        }
+        rounds += ranking.rounds();
+    }
+    println!("{rounds} rounds");
+    assert!(rounds > 80);
 }
 
 #[test]
@@ -112,8 +188,8 @@ fn trees_replayed() {
                 assert_eq!(other.trees.bytes(s, t), bytes);
                 let own = replay(&bytes, &first).unwrap();
                 let against = replay(&bytes, &second).unwrap();
-                assert!(own.followers >> s & 1 == 1);
-                assert!(against.followers >> t & 1 == 0);
+                assert!(has(own.followers, s));
+                assert!(!has(against.followers, t));
                 assert_eq!(own.depth, pair.rank(s, t) as usize);
             }
         }
@@ -124,7 +200,8 @@ fn trees_replayed() {
 fn tables_there_and_back() {
     let mut random = Random::new(3);
     for round in 0..200 {
-        let table = make::limit(&mut random, 1 + round % 3, round % 2 == 0);
+        let states = [WORD, STATES][round / 2 % 2];
+        let table = make::sized(&mut random, states, 1 + round % 3, round % 2 == 0);
         assert_eq!(parse(&table.bytes()), Ok(table));
     }
 }
@@ -141,15 +218,29 @@ fn bound_on_ranks_is_tight() {
 }
 
 #[test]
+fn largest_rank() {
+    // 16,384: every pair has a rank of its own. No tree of more than 10,922
+    // levels can be written.
+    let pair = Pair::of(&make::counter(STATES));
+    let mut ranks = pair.ranking.ranks.clone();
+    ranks.sort();
+    assert!(ranks.into_iter().eq(1..=16_384));
+    assert_eq!((pair.rank(0, 0), pair.trees.length(0, 0)), (16_384, 98_305));
+    let written = |at: &usize| pair.trees.length(at / STATES, at % STATES) <= LONGEST;
+    let written = (0..PAIRS).filter(written).map(|at| pair.ranking.ranks[at]);
+    assert_eq!(written.max(), Some(10_922));
+}
+
+#[test]
 fn lengths_of_long_trees() {
     let mut random = Random::new(4);
     let (first, second) = make::layers(&mut random, 9, 4);
     let pair = Pair::new(SUBSETS, &first.bytes(), &second.bytes());
     let pair = pair.ok().unwrap();
     let lengths = Lengths {
-        ranks: 4096,
+        ranks: PAIRS,
         flow: 0,
-        tree: 65_535,
+        tree: LONGEST as usize,
     };
     assert_eq!(pair.expect(0, 0, lengths).answer.number, 23);
 }

@@ -6,7 +6,7 @@ use pod_tests::fit::SUBSETS;
 use pod_tests::library::{check, Call, FIELDS};
 use pod_tests::make::{self, Shape};
 use pod_tests::random::Random;
-use pod_tests::table::{parse, Table, Transition, C, LONE, P};
+use pod_tests::table::{parse, Table, Transition, C, LONE, P, STATES, TRANSITIONS};
 
 const ROOMY: Lengths = Lengths {
     ranks: 12,
@@ -75,7 +75,15 @@ fn refused_before_buffers() {
             assert_eq!(call(&long, &C[..5], pair, lengths), refusal(2, 1, 0));
         }
         let far = usize::MAX;
-        for pair in [(3, 0), (0, 3), (3, 3), (64, 0), (far, 0), (0, far)] {
+        for pair in [
+            (3, 0),
+            (0, 3),
+            (3, 3),
+            (64, 0),
+            (0, 128),
+            (far, 0),
+            (0, far),
+        ] {
             let outside = Answer::refusal(11, 0, 0);
             assert_eq!(call(&P, &C, pair, lengths), outside);
         }
@@ -167,7 +175,8 @@ fn tables(random: &mut Random, kind: usize) -> (Table, Table) {
         }
         _ => {
             let width = random.between(1, 5);
-            let most = (128 / (width * width) + 1).min(64 / width).min(12);
+            let most = TRANSITIONS / (width * width) + 1;
+            let most = most.min(STATES / width).min(12);
             let layers = random.between(2, most.max(2));
             make::layers(random, layers, width)
         }

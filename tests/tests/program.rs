@@ -3,7 +3,9 @@
 use pod_tests::make::{self, Shape};
 use pod_tests::program::{input, output, output_by};
 use pod_tests::random::Random;
-use pod_tests::table::{Table, C, LONE, P};
+use pod_tests::ranks::rank;
+use pod_tests::stack::deep;
+use pod_tests::table::{Table, Transition, C, CODES, LARGEST, LONE, P, STATES, STEPS, WORD};
 use std::io::Write;
 use std::path::PathBuf;
 use std::process::{Child, Command, Stdio};
@@ -165,25 +167,25 @@ fn random_tables() {
 
 /// Two accepted tables with their lengths, one byte less than what is read
 /// at first.
-const TWO_TABLES: usize = 4_238;
+const TWO_TABLES: usize = 2 * (2 + LARGEST);
 
 #[test]
 fn input_around_two_tables() {
     let mut random = Random::new(44);
     let mut largest = |codes| {
         let mut table = make::limit(&mut random, codes, true);
-        table.codes = (1..=255).collect();
+        table.codes = (1..=CODES as u8).collect();
         table.bytes()
     };
     let whole = input(&largest(1), &largest(2));
     assert_eq!(whole.len(), TWO_TABLES);
     let due = output_by(0, &whole);
-    assert!(due.starts_with("tables 64 64\n"));
+    assert!(due.starts_with("tables 128 128\n"));
     assert_eq!(run(&whole[..TWO_TABLES - 1]), "refused 2 1\n");
     for more in 0..4 {
         let longer = [&whole[..], &vec![7; more]].concat();
         assert!(run(&longer) == due, "{more}");
-        for at in [2_121, TWO_TABLES - 1, TWO_TABLES, longer.len()] {
+        for at in [2 + LARGEST + 2, TWO_TABLES - 1, TWO_TABLES, longer.len()] {
             assert!(run_in_parts(&[&longer[..at], &longer[at..]]) == due, "{at}");
         }
     }
@@ -219,8 +221,25 @@ fn input_around_what_is_read_first() {
 
 #[test]
 fn pairs_around_the_short_buffers() {
-    let few = [(24, 24), (64, 9), (9, 64), (24, 25), (60, 10), (10, 60)];
-    let many = [(43, 14), (14, 43), (25, 25), (64, 10), (10, 64)];
+    let few = [
+        (24, 24),
+        (64, 9),
+        (9, 64),
+        (24, 25),
+        (60, 10),
+        (10, 60),
+        (128, 4),
+        (5, 120),
+    ];
+    let many = [
+        (43, 14),
+        (14, 43),
+        (25, 25),
+        (64, 10),
+        (10, 64),
+        (128, 5),
+        (5, 128),
+    ];
     assert!(few.iter().all(|(p, q)| p * q <= 600));
     assert!(many.iter().all(|(p, q)| p * q > 600));
     let mut random = Random::new(45);
@@ -274,7 +293,8 @@ fn large_tables() {
     let held = held_large;
     let mut random = Random::new(43);
     for round in 0..24 {
-        let first = make::limit(&mut random, 1 + round % 4, round % 3 == 0);
+        let states = [WORD, STATES][round / 12];
+        let first = make::sized(&mut random, states, 1 + round % 4, round % 3 == 0);
         let second = make::edited(&mut random, &first, round % 3, 2);
         held(&first, &second);
     }
@@ -286,8 +306,90 @@ fn large_tables() {
     assert!(refused > 2 && refused < 28, "{refused}");
     let (first, second) = make::cycles(63, 64);
     assert!(held(&first, &second).contains("rounds 4032 kept 64"));
+    let (first, second) = make::cycles(127, 128);
+    assert!(held(&first, &second).contains("rounds 16256 kept 128"));
     let (first, second) = make::counter(64);
     assert!(held(&first, &second).contains("rounds 4096 kept 0 verdict no\ntree "));
-    let (first, second) = make::chain(64);
-    held(&first, &second);
+    for states in [WORD, STATES] {
+        let (first, second) = make::chain(states);
+        held(&first, &second);
+    }
+}
+
+#[test]
+fn states_of_the_second_word() {
+    // The verdict does not depend on how the states are numbered.
+    let mut random = Random::new(46);
+    let (mut yes, mut no) = (0, 0);
+    for round in 0..40 {
+        let shape = Shape {
+            states: 40,
+            codes: 2,
+            steps: 3,
+            width: 4,
+            weight: 5,
+        };
+        let first = make::random(&mut random, shape);
+        let second = make::edited(&mut random, &first, round % 4, 2);
+        let low = held_large(&first, &second);
+        let lone = Table::new(vec![Vec::new()]);
+        let raised = |table: &Table, from| make::raised(table, from, &lone);
+        for from in [WORD - 1, WORD, STATES - first.states.len()] {
+            let text = held_large(&raised(&first, from), &raised(&second, from));
+            let same = |words: &str| text.contains(words) == low.contains(words);
+            assert!(same("verdict yes\n") && same("\ntree 01 "));
+        }
+        yes += low.contains("verdict yes\n") as usize;
+        no += low.contains("\ntree ") as usize;
+    }
+    println!("{yes} yes, {no} no");
+    assert!(yes > 5 && no > 5);
+}
+
+#[test]
+fn largest_rank() {
+    // 16,384, with a tree of 98,305 bytes.
+    let (first, second) = make::counter(STATES);
+    let text = held_large(&first, &second);
+    assert!(text.ends_with("\nrounds 16384 kept 0 verdict no\ntree refused 23\n"));
+    assert!(text.contains("row 0 16384 "));
+    // The deepest tree that is written, and one level more.
+    let ranks = rank(0, &first, &second).ranks;
+    for (rank, length) in [(10_922, Some(65_533)), (10_923, None)] {
+        let at = ranks.iter().position(|&other| other == rank).unwrap();
+        let first = make::started(&first, at / STATES);
+        let second = make::started(&second, at % STATES);
+        deep(|| {
+            let text = held_large(&first, &second);
+            assert!(text.contains(&format!("row 0 {rank} ")));
+            match length {
+                Some(length) => assert_eq!(text.lines().last().unwrap().len(), 4 + 3 * length),
+                None => assert!(text.ends_with("\ntree refused 23\n")),
+            }
+        });
+    }
+}
+
+#[test]
+fn boundaries() {
+    let idle = |states: usize| Table::new(vec![Vec::new(); states]);
+    let lone = idle(1);
+    for states in [64, 65, 127, 128] {
+        let text = held_large(&idle(states), &lone);
+        assert!(text.ends_with(&format!("\nrounds 0 kept {states} verdict yes\n")));
+        let text = held_large(&lone, &idle(states));
+        assert!(text.starts_with(&format!("tables 1 {states}\nrow 0 0 ")));
+    }
+    assert_eq!(held_large(&idle(129), &lone), "refused 1 4\n");
+    assert_eq!(held_large(&lone, &idle(129)), "refused 2 4\n");
+    let busy = |shares: [usize; 2]| -> Table {
+        let steps = |share| -> Vec<Transition> { vec![make::to(10, 0); share] };
+        Table::new(shares.map(steps).to_vec())
+    };
+    for shares in [[128, 0], [129, 0], [STEPS, 0], [STEPS, 1], [128, 128]] {
+        assert!(held_large(&busy(shares), &busy(shares)).contains("verdict yes"));
+    }
+    for shares in [[STEPS, 2], [128, 129]] {
+        assert_eq!(held_large(&busy(shares), &lone), "refused 1 5\n");
+    }
 }

@@ -4,7 +4,7 @@ use pod_tests::answer::{table_answer, Answer};
 use pod_tests::library::{check_table, check_table_short, FIELDS};
 use pod_tests::make::{self, Shape};
 use pod_tests::random::Random;
-use pod_tests::table::{parse, Table, Transition, C, LONE, P};
+use pod_tests::table::{parse, Table, Transition, C, LONE, P, STATES, STEPS, TRANSITIONS, WORD};
 
 /// The library's number for a table, all else in the answer held too.
 fn number(bytes: &[u8]) -> u32 {
@@ -23,18 +23,19 @@ fn idle(states: usize) -> Vec<u8> {
     Table::new(vec![Vec::new(); states]).bytes()
 }
 
-/// A table of one state with so many transitions to itself.
-fn busy(transitions: usize) -> Vec<u8> {
-    Table::new(vec![steps(1, transitions)]).bytes()
+/// A table whose states have so many transitions each, all to the start.
+fn busy(shares: &[usize]) -> Vec<u8> {
+    let states = shares.iter().map(|&share| steps(1, share)).collect();
+    Table::new(states).bytes()
 }
 
-/// A table of 64 states and so many entries, five or fewer to a transition.
+/// A table of so many entries, five or fewer to a transition.
 fn full(entries: usize) -> Vec<u8> {
-    let mut states = vec![Vec::new(); 64];
+    let mut states = vec![Vec::new(); STATES];
     for i in 0..entries.div_ceil(5) {
         let width = (entries - 5 * i).min(5) as u8;
         let entries = (0..width).map(|target| (target, 1)).collect();
-        states[i % 64].push(Transition { code: 1, entries });
+        states[i % STATES].push(Transition { code: 1, entries });
     }
     Table::new(states).bytes()
 }
@@ -49,11 +50,12 @@ fn weighing(weights: &[u16]) -> Vec<u8> {
 
 #[test]
 fn boundaries() {
-    assert_eq!(number(&idle(64)), 0);
-    assert_eq!(number(&idle(65)), 4);
-    assert_eq!(number(&idle(0)), 4);
-    assert_eq!(number(&busy(128)), 0);
-    assert_eq!(number(&busy(129)), 5);
+    for states in [1, 63, 64, 65, 127, 128] {
+        assert_eq!(number(&idle(states)), 0, "{states} states");
+    }
+    for states in [0, 129, 192, 255] {
+        assert_eq!(number(&idle(states)), 4, "{states} states");
+    }
     assert_eq!(number(&full(512)), 0);
     assert_eq!(number(&full(513)), 7);
     assert_eq!(number(&weighing(&[65_535])), 0);
@@ -62,6 +64,50 @@ fn boundaries() {
     assert_eq!(number(&weighing(&[32_768, 32_768])), 10);
     assert_eq!(number(&weighing(&[65_535, 65_535])), 10);
     assert_eq!(number(&weighing(&[1, 0])), 10);
+}
+
+#[test]
+fn boundaries_of_transitions() {
+    // Up to 255 in a state, up to 256 in all.
+    for shares in [
+        &[128][..],
+        &[129],
+        &[254],
+        &[255],
+        &[255, 1],
+        &[1, 255],
+        &[128, 128],
+    ] {
+        assert_eq!(number(&busy(shares)), 0, "{shares:?}");
+    }
+    assert_eq!(number(&busy(&[2; 128])), 0);
+    for shares in [
+        &[255, 2][..],
+        &[2, 255],
+        &[128, 129],
+        &[255, 0, 1, 1],
+        &[255, 255],
+    ] {
+        assert_eq!(number(&busy(shares)), 5, "{shares:?}");
+    }
+    assert_eq!(number(&busy(&[[2; 127].as_slice(), &[3]].concat())), 5);
+    // A state's count is cut to its byte, and the sum is another.
+    assert_eq!(number(&busy(&[256])), 5);
+    assert_eq!(number(&busy(&[257])), 5);
+}
+
+#[test]
+fn boundaries_of_targets() {
+    // Every state is a target, the one after the last is none.
+    for states in [63, 64, 65, 127, 128] {
+        let mut list = vec![Vec::new(); states];
+        let entries = (0..states as u8).map(|target| (target, 1)).collect();
+        list[states - 1].push(Transition { code: 1, entries });
+        let mut table = Table::new(list);
+        assert_eq!(number(&table.bytes()), 0, "{states} states");
+        table.states[states - 1][0].entries[states - 1].0 += 1;
+        assert_eq!(number(&table.bytes()), 9, "{states} states");
+    }
 }
 
 #[test]
@@ -94,10 +140,12 @@ fn sums_never_wrap() {
     // 2 × 128 transitions, 0 counted; 256 × 256 would be 0 as well.
     let bytes = [0, 2, 128, 128, 0, 0, 0, 0];
     assert_eq!(number(&bytes), 5);
-    let mut bytes = vec![0, 64];
-    bytes.extend([255; 64]);
-    bytes.extend((64u16 * 255).to_le_bytes());
+    let mut bytes = vec![0, STATES as u8];
+    bytes.extend([STEPS as u8; STATES]);
+    bytes.extend(((STATES * STEPS) as u16).to_le_bytes());
     assert_eq!(number(&bytes), 5);
+    // 255 and 1, 0 counted.
+    assert_eq!(number(&[0, 2, 255, 1, 0, 0, 0, 0]), 5);
     // Two transitions of 128 entries, 0 counted.
     let bytes = [1, 9, 1, 2, 2, 0, 9, 128, 9, 128, 0, 0];
     assert_eq!(number(&bytes), 7);
@@ -109,7 +157,9 @@ fn order_of_refusals() {
     assert_eq!(number(&[2, 5, 5]), 3);
     assert_eq!(number(&[2, 5]), 1);
     assert_eq!(number(&[0, 0]), 4);
-    assert_eq!(number(&[0, 65]), 4);
+    assert_eq!(number(&[0, 65]), 1);
+    assert_eq!(number(&[0, 128]), 1);
+    assert_eq!(number(&[0, 129]), 4);
     assert_eq!(number(&[0, 2, 0]), 1);
     assert_eq!(number(&[0, 1, 1, 0]), 1);
     assert_eq!(number(&[0, 1, 1, 0, 0]), 5);
@@ -133,10 +183,13 @@ fn order_of_refusals() {
 #[test]
 fn truncations() {
     let mut random = Random::new(11);
-    let mut tables = vec![P.to_vec(), C.to_vec(), LONE.to_vec(), idle(64), busy(128)];
+    let mut tables = vec![P.to_vec(), C.to_vec(), LONE.to_vec()];
+    tables.extend([idle(64), idle(STATES), busy(&[128]), busy(&[STEPS, 1])]);
     tables.extend([full(512), weighing(&[65_534, 1])]);
-    tables.push(make::limit(&mut random, 3, true).bytes());
-    tables.push(make::counter(64).1.bytes());
+    for states in [WORD, STATES] {
+        tables.push(make::sized(&mut random, states, 3, true).bytes());
+        tables.push(make::counter(states).1.bytes());
+    }
     for table in tables {
         assert_eq!(number(&table), 0);
         for length in 0..table.len() {
@@ -174,12 +227,18 @@ fn spoil(random: &mut Random, table: &mut Table) {
         }
         1 => drop(table.codes.pop()),
         2 => {
-            let more = random.between(60, 66).saturating_sub(states);
+            let more = random
+                .between(STATES - 4, STATES + 2)
+                .saturating_sub(states);
             (0..more).for_each(|_| table.states.push(Vec::new()));
         }
         3 => {
-            let more = random.between(120, 132);
-            table.states[s].extend(steps(table.codes.first().copied().unwrap_or(0), more));
+            // Half of the limit each, now and then in one state.
+            let code = table.codes.first().copied().unwrap_or(0);
+            for s in [s, random.below(states)] {
+                let more = random.between(TRANSITIONS / 2 - 8, TRANSITIONS / 2 + 2);
+                table.states[s].extend(steps(code, more));
+            }
         }
         kind => {
             if table.states[s].is_empty() {
@@ -232,6 +291,7 @@ fn damaged() {
         let mut table = match round % 500 {
             0 => make::limit(&mut random, 4, false),
             1 => make::limit(&mut random, 4, true),
+            2 => make::sized(&mut random, WORD, 4, true),
             _ => make::random(&mut random, shape),
         };
         let kind = random.below(5);

@@ -7,6 +7,7 @@ use mathlib.Core.Logic.{_≢_}
 use Prim.Native.Nat.{ℕ, zero, suc, _+_, _-_, _^_, _≤_, _<_, min}
 use native.Mathlib.Omega.{arith}
 use lib.ListN.{getD}
+use Rattle.simulation.specs.Limits.{most-states}
 use Rattle.relation.specs.Mask.{Test}
 use Rattle.matrix.specs.Matrix.{cell, Outside, delta, row-sum, column-sum, Adds}
 use Rattle.matrix.specs.Problem.{relates}
@@ -43,7 +44,7 @@ module _ (p q : ℕ) (rel x a from via : List ℕ) where
   carries-of d (suc k) i m h l = let w = carries-of d k (getD from i 0) (min m (cell x i (getD via i 0))) h l in ((omega (arith, w .1), w .0), omega (arith, w .1))
 
   module _ (t : Tree) where
-    pub tree-safe : p ≤ 64 → q ≤ 64 → (k i : ℕ) → t .inside i ≡ true → t .rank i ≡ k → Safe from via k i
+    pub tree-safe : p ≤ most-states → q ≤ most-states → (k i : ℕ) → t .inside i ≡ true → t .rank i ≡ k → Safe from via k i
     unfolding Safe
     tree-safe hp hq zero i h e = omega (arith, t .row i h)
     tree-safe hp hq (suc k) i h e = (omega (arith, t .row i h), omega (arith, t .column i k h e), tree-safe hp hq k (getD from i 0) (t .before i k h e) (t .lower i k h e))
@@ -69,7 +70,7 @@ module _ (p q : ℕ) (rel x a from via : List ℕ) where
     pub rows : (i : ℕ) → i < p → row-sum q y i ≡ row-sum q x i
     pub columns : (l : ℕ) → l < q → column-sum p y l + delta c l d ≡ column-sum p x l + delta j l d
     pub supported : Supported p q rel y
-    pub untouched : (i l : ℕ) → tree .rank i ≤ k → l < 64 → cell y i l ≡ cell x i l
+    pub untouched : (i l : ℕ) → tree .rank i ≤ k → l < most-states → cell y i l ≡ cell x i l
     pub outside : Outside p q x y
 
   pub walk-start : {j d k r : ℕ} (t : Tree) → t .inside r ≡ true → t .rank r ≡ k → j < q → relates rel r j ≡ true → Carries d k r → Supported p q rel x → Walk j d x k r j
@@ -87,7 +88,7 @@ module _ (p q : ℕ) (rel x a from via : List ℕ) where
     outside = outside-refl x;
   }
 
-  module _ (w : q ≤ 64) {j d : ℕ} {y : List ℕ} {k r c : ℕ} where
+  module _ (w : q ≤ most-states) {j d : ℕ} {y : List ℕ} {k r c : ℕ} where
     pub walk-step : {y₁ y₂ : List ℕ} → Walk j d y (suc k) r c → Adds y₁ y r (getD via r 0) d → Adds y₁ y₂ r c d → Walk j d y₂ k (getD from r 0) (getD via r 0)
     unfolding Carries
     walk-step s t u = let n = s .tree in let v = n .column r k (s .inside) (s .deep) in let hr = n .row r (s .inside) in record {
@@ -114,7 +115,7 @@ module _ (p q : ℕ) (rel x a from via : List ℕ) where
     walk-room {y₁} m s t = let hr = s .tree .row r (s .inside) in
         omega (arith, m .fits r hr, s .rows r hr, row-adds p q w t (s .tree .column r k (s .inside) (s .deep)) r, delta-same r d, cell-le q y₁ r c (s .column))
 
-  module _ (w : q ≤ 64) {j d : ℕ} {y : List ℕ} {r c : ℕ} (s : Walk j d y 0 r c) where
+  module _ (w : q ≤ most-states) {j d : ℕ} {y : List ℕ} {r c : ℕ} (s : Walk j d y 0 r c) where
     pub walk-last : Small p q x a → cell y r c + d < 2 ^ 32
     unfolding Carries
     walk-last m = let hr = s .tree .row r (s .inside) in omega (arith, m .fits r hr, s .rows r hr, cell-le q y r c (s .column), s .carries)
@@ -127,12 +128,12 @@ module _ (p q : ℕ) (rel x a from via : List ℕ) where
       outside = outside-trans (s .outside) (outside-adds hr (s .column) u);
     }
 
-  pub movable : q ≤ 64 → Small p q x a → {j d : ℕ} {y : List ℕ} (k : ℕ) {r c : ℕ} → Walk j d y k r c → Movable from via d k r c y
+  pub movable : q ≤ most-states → Small p q x a → {j d : ℕ} {y : List ℕ} (k : ℕ) {r c : ℕ} → Walk j d y k r c → Movable from via d k r c y
   unfolding Movable
   movable w m zero s = (omega (arith, s .column), walk-last w s m)
   movable w m (suc k) s = (omega (arith, s .column), walk-held w s, λ y₁ t. (walk-room w m s t, λ z u. movable w m k (walk-step w s t u)))
 
-  pub moved : q ≤ 64 → {j d k r c : ℕ} {y u y′ u′ : List ℕ} → Walk j d y k r c → Used p q y u → Moved from via d k r c y u y′ u′ → Extends p q rel x y′ (root from via k r) j d × Used p q y′ u′
+  pub moved : q ≤ most-states → {j d k r c : ℕ} {y u y′ u′ : List ℕ} → Walk j d y k r c → Used p q y u → Moved from via d k r c y u y′ u′ → Extends p q rel x y′ (root from via k r) j d × Used p q y′ u′
   unfolding root
   moved w s u (Moved.last t n) = (walk-end w s t, used-adds w (s .tree .row _ (s .inside)) (s .column) t u n)
   moved w s u (Moved.next t n t′ n′ m) =
@@ -149,11 +150,11 @@ module _ (from via : List ℕ) {k k′ : ℕ} (e : k ≡ suc k′) where
   unfolding carried
   carried-next x i m = ap (λ (n : ℕ). carried from via x n i m) e
 
-  pub safe-next : (i : ℕ) → Safe from via k i → (i < 64) × (getD via i 0 < 64) × Safe from via k′ (getD from i 0)
+  pub safe-next : (i : ℕ) → Safe from via k i → (i < most-states) × (getD via i 0 < most-states) × Safe from via k′ (getD from i 0)
   unfolding Safe
   safe-next i s = subst (λ (n : ℕ). Safe from via n i) e s
 
-  pub movable-next : (d i c : ℕ) (x : List ℕ) → Movable from via d k i c x → (c < 64) × (d ≤ cell x i (getD via i 0))
+  pub movable-next : (d i c : ℕ) (x : List ℕ) → Movable from via d k i c x → (c < most-states) × (d ≤ cell x i (getD via i 0))
       × ((y : List ℕ) → Adds y x i (getD via i 0) d → (cell y i c + d < 2 ^ 32) × ((z : List ℕ) → Adds y z i c d → Movable from via d k′ (getD from i 0) (getD via i 0) z))
   unfolding Movable
   movable-next d i c x s = subst (λ (n : ℕ). Movable from via d n i c x) e s
@@ -171,21 +172,21 @@ module _ (from via : List ℕ) {k : ℕ} (e : k ≡ 0) where
   unfolding carried
   carried-last x i m = ap (λ (n : ℕ). carried from via x n i m) e
 
-  pub movable-last : (d i c : ℕ) (x : List ℕ) → Movable from via d k i c x → (c < 64) × (cell x i c + d < 2 ^ 32)
+  pub movable-last : (d i c : ℕ) (x : List ℕ) → Movable from via d k i c x → (c < most-states) × (cell x i c + d < 2 ^ 32)
   unfolding Movable
   movable-last d i c x s = subst (λ (n : ℕ). Movable from via d n i c x) e s
 
   pub moved-last : {d i c : ℕ} {x u x′ u′ : List ℕ} → Adds x x′ i c d → Noted x′ u u′ i c → Moved from via d k i c x u x′ u′
   moved-last {d} {i} {c} {x} {u} {x′} {u′} t n = subst⁻¹ (λ (n : ℕ). Moved from via d n i c x u x′ u′) e (Moved.last t n)
 
-pub safe-row : (from via : List ℕ) (k i : ℕ) → Safe from via k i → i < 64
+pub safe-row : (from via : List ℕ) (k i : ℕ) → Safe from via k i → i < most-states
 unfolding Safe
 safe-row from via zero i s = s
 safe-row from via (suc k) i s = s .0
 
 -- the same, with the column and the row before in locals
 module _ (from via : List ℕ) {k k′ j : ℕ} (i : ℕ) (e : k ≡ suc k′) (c : j ≡ getD via i 0) where
-  pub safe-column : Safe from via k i → j < 64
+  pub safe-column : Safe from via k i → j < most-states
   safe-column s = omega (arith, safe-next from via e i s .1)
 
   pub safe-rest : {i′ : ℕ} → i′ ≡ getD from i 0 → Safe from via k i → Safe from via k′ i′
@@ -199,7 +200,7 @@ module _ (from via : List ℕ) {k k′ j : ℕ} (i : ℕ) (e : k ≡ suc k′) (
     ap₂ (carried from via x k′) f (g ∙ ap (λ (n : ℕ). min m (cell x i n)) c) ∙ sym (carried-next from via e x i m),
   )
 
-  pub movable-held : (d l : ℕ) (x : List ℕ) → Movable from via d k i l x → (l < 64) × (d ≤ cell x i j)
+  pub movable-held : (d l : ℕ) (x : List ℕ) → Movable from via d k i l x → (l < most-states) × (d ≤ cell x i j)
   movable-held d l x s = let w = movable-next from via e d i l x s in (w .0, subst⁻¹ (λ (n : ℕ). d ≤ cell x i n) c (w .1))
 
   module _ {d : ℕ} (l : ℕ) {x y : List ℕ} (s : Movable from via d k i l x) (t : Adds y x i j d) where

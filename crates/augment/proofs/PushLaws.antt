@@ -7,7 +7,9 @@ use Prim.Native.Nat.{ℕ, _+_, _≤_, _<_, min}
 use native.Mathlib.Numerals.{add-one}
 use native.Mathlib.Omega.{arith}
 use lib.ListN.{length, getD}
+use Rattle.simulation.specs.Limits.{most-states}
 use Rattle.relation.specs.Mask.{Test, member, both, Lowest}
+use Rattle.relation.specs.Words.{row-of}
 use Rattle.matrix.specs.Problem.{relates}
 use Rattle.matrix.specs.Matrix.{AddsAt}
 use Rattle.matrix.specs.Masks.{MaskOf}
@@ -19,7 +21,7 @@ use Rattle.matrix.proofs.MaskedLaws.{both-at, both-in, not-zero, user-row}
 use Rattle.matrix.proofs.FlowLaws.{improved, missing-falls}
 use Rattle.augment.proofs.PathLaws.{Tree, Walk, Carries, carries-of, tree-of, tree-safe, tree-root, tree-carries, walk-start, movable, moved}
 
-pub room-of : {p q : ℕ} {rel x a b users : List ℕ} (from via : List ℕ) {short : ℕ} → Flow p q rel x a b users → MaskOf p (λ i. getD a i 0) short → 64 ≤ length from → 64 ≤ length via → Room rel users from via short
+pub room-of : {p q : ℕ} {rel x a b users : List ℕ} (from via : List ℕ) {short : ℕ} → Flow p q rel x a b users → MaskOf p (λ i. getD a i 0) short → most-states ≤ length from → most-states ≤ length via → Room rel users from via short
 room-of from via f h lf lv = let z = f .sized in record {
   columns = z .columns;
   froms = lf;
@@ -42,14 +44,14 @@ module _ {p q : ℕ} {rel x a b users from via : List ℕ} {short free : ℕ} {S
   pub root-row : {i : ℕ} → i ≡ root from via depth r → i < p
   root-row e = omega (arith, tree-root p q rel x a from via tree depth r (t .inside) (t .deep) .0)
 
-  module _ (m : ℕ) (e : member m ≡ both (member (getD rel r 0)) (member free)) where
+  module _ (m : ℕ) (e : member m ≡ both (member (row-of rel r)) (member free)) where
     -- there is a free column
     pub path-column : 0 < m
-    path-column = not-zero (t .hit .column) (both-in (member (getD rel r 0)) (member free) (t .hit .column) e (t .hit .related) (t .hit .is-free))
+    path-column = not-zero (t .hit .column) (both-in (member (row-of rel r)) (member free) (t .hit .column) e (t .hit .related) (t .hit .is-free))
 
     module _ {j : ℕ} (l : Lowest (member m) j) where
       at : (relates rel r j ≡ true) × (member free j ≡ true)
-      at = both-at (member (getD rel r 0)) (member free) j e (l .here)
+      at = both-at (member (row-of rel r)) (member free) j e (l .here)
 
       pub path-free : j < q
       path-free = columns .below j (at .1)

@@ -3,6 +3,7 @@
 use mathlib.Core.List.{List}
 use Prim.Native.Nat.{ℕ, zero, suc, _+_, _^_, _≤_, _<_, min}
 use lib.ListN.{getD}
+use Rattle.simulation.specs.Limits.{most-states}
 use Rattle.matrix.specs.Matrix.{cell, Adds}
 use Rattle.matrix.specs.Masks.{Noted}
 
@@ -16,15 +17,15 @@ module _ (from via : List ℕ) where
   carried x zero i m = m
   carried x (suc k) i m = carried x k (getD from i 0) (min m (cell x i (getD via i 0)))
 
-  -- the path's rows and columns are below 64
+  -- the path's rows and columns are below most-states
   unfoldable pub Safe : ℕ → ℕ → Type 0
-  Safe zero i = i < 64
-  Safe (suc k) i = (i < 64) × (getD via i 0 < 64) × Safe k (getD from i 0)
+  Safe zero i = i < most-states
+  Safe (suc k) i = (i < most-states) × (getD via i 0 < most-states) × Safe k (getD from i 0)
 
   -- d can be moved along the path to column c
   unfoldable pub Movable : (d k i c : ℕ) → List ℕ → Type 0
-  Movable d zero i c x = (c < 64) × (cell x i c + d < 2 ^ 32)
-  Movable d (suc k) i c x = (c < 64) × (d ≤ cell x i (getD via i 0))
+  Movable d zero i c x = (c < most-states) × (cell x i c + d < 2 ^ 32)
+  Movable d (suc k) i c x = (c < most-states) × (d ≤ cell x i (getD via i 0))
       × ((y : List ℕ) → Adds y x i (getD via i 0) d → (cell y i c + d < 2 ^ 32) × ((z : List ℕ) → Adds y z i c d → Movable d k (getD from i 0) (getD via i 0) z))
 
   -- d was moved: each row of the path but its root passes it on from the column it was reached by

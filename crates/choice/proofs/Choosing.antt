@@ -11,12 +11,12 @@ use native.Mathlib.Omega.{arith}
 use native.Mathlib.Decide.{ℕ-discrete, decLt}
 use lib.Dec.{T, eqb, eqb→eq}
 use borrow.Author.Tests.{lt-ltb, ltb-true}
-use lib.ListN.{length, getD, take, set, length-set}
-use lib.Seq.{take-all, getD-set-same, getD-set-other}
+use lib.ListN.{length, getD, take}
+use lib.Seq.{take-all}
 use Rattle.simulation.specs.Sum.{any, any-of}
 use Rattle.simulation.specs.Fit.{touched, fits?}
 use Rattle.simulation.specs.Table.{Transition, Table, weights, targets, target-at, states-of, steps, no-transition, transition}
-use Rattle.simulation.specs.Round.{Relation, between, fits-step, round}
+use Rattle.simulation.specs.Round.{Relation, between, fits-step, round, rank}
 use Rattle.simulation.specs.Tree.{before, chosen, cut-of, apart-by, apart}
 use Rattle.simulation.proofs.Finite.Tests.{and-left, and-right, differ-eqb, is-true, is-false, same-test, any-some, some-any, any-ext, same-eqb}
 use Rattle.simulation.proofs.Finite.Lists.{any-of-at, any-of-by}
@@ -24,12 +24,15 @@ use Rattle.simulation.proofs.Trees.Choice.{Chosen, chosen-law, chosen-at}
 use Rattle.form.specs.Form.{Loaded, table-of, start-of, transitions-of, transition-at}
 use Rattle.form.proofs.FormLaws.{counts, start-bound, starts-ascend, transition-of, transition-numbered, weights-length}
 use Rattle.relation.specs.Mask.{Test, member, up-to, without-member, either, except, Lowest}
+use Rattle.relation.specs.Words.{mask as mask-of, row-of, height, put-row}
+use Rattle.relation.specs.declared.set.Set.{Set}
+use Rattle.relation.proofs.Sets.{length-put, row-put, row-put-other}
 use Rattle.relation.proofs.Mask.{member-none, below-or-not}
 use Rattle.relate.specs.Rows.{Rows}
 use Rattle.matrix.specs.Problem.{relates}
 use Rattle.cut.specs.Quick.{CutOf}
 use Rattle.matrix.proofs.MaskedLaws.{true-or-false, neither, except-at, either-at, either-left, either-right, drop-at, drop-out, no-members}
-use Rattle.choice.specs.Choice.{Compared, Cut, Names, Added, Joined, Lost, Choice}
+use Rattle.choice.specs.Choice.{Compared, Cut, Names, Added, Joined, Parted, Lost, Choice}
 use Rattle.simulation.proofs.Fit.Agree.{fits-agree, cut-agree}
 use Rattle.relate.proofs.Relating.{related-round}
 
@@ -100,56 +103,56 @@ module _ (q all mask left : ℕ) (ea : member all ≡ up-to q) (el : member left
 pub record Joining (mask more : ℕ) (sets sets′ : List ℕ) (left : ℕ) : Type 0 where
   pub size : length sets′ ≡ length sets
   pub part : (i : ℕ) → member left i ≡ true → member mask i ≡ true
-  pub joined : (i : ℕ) → member mask i ≡ true → member left i ≡ false → (u : ℕ) → member (getD sets′ i 0) u ≡ (member more u || member (getD sets i 0) u)
-  pub waiting : (i : ℕ) → member left i ≡ true → getD sets′ i 0 ≡ getD sets i 0
-  pub others : (i : ℕ) → member mask i ≡ false → getD sets′ i 0 ≡ getD sets i 0
+  pub joined : (i : ℕ) → member mask i ≡ true → member left i ≡ false → (u : ℕ) → member (row-of sets′ i) u ≡ (member more u || member (row-of sets i) u)
+  pub waiting : (i : ℕ) → member left i ≡ true → row-of sets′ i ≡ row-of sets i
+  pub others : (i : ℕ) → member mask i ≡ false → row-of sets′ i ≡ row-of sets i
 
 pub joining-start : (mask more : ℕ) (sets : List ℕ) → Joining mask more sets sets mask
 joining-start mask more sets = record { size = refl; part = λ i t. t; joined = λ i t f. absurd (neither t f); waiting = λ i _. refl; others = λ i _. refl }
 
-pub joining-next : {mask more left left′ t : ℕ} {sets sets′ : List ℕ} (v : ℕ) → Joining mask more sets sets′ left → Names mask (length sets)
-    → Lowest (member left) t → member left′ ≡ without-member t (member left) → member v ≡ either (member more) (member (getD sets′ t 0))
-    → Joining mask more sets (set sets′ t v) left′
+pub joining-next : {mask more left left′ t : ℕ} {sets sets′ : List ℕ} (v : Set) → Joining mask more sets sets′ left → Names mask (height sets)
+    → Lowest (member left) t → member left′ ≡ without-member t (member left) → member (mask-of v) ≡ either (member more) (member (row-of sets′ t))
+    → Joining mask more sets (put-row sets′ t v) left′
 joining-next {mask} {more} {left} {left′} {t} {sets} {sets′} v j names low e hv =
     record {
-      size = length-set sets′ t v ∙ j .size;
+      size = length-put sets′ t v ∙ j .size;
       part = next-part mask left left′ t (j .part) e;
       joined = λ i m f u. at i m u (ℕ-discrete i t) (drop-out (member left) t i e f);
-      waiting = λ i h. let w = drop-at (member left) t i e h in getD-set-other sets′ t i v 0 (w .1) ∙ j .waiting i (w .0);
-      others = λ i f. getD-set-other sets′ t i v 0 (λ c. neither (ap (member mask) c ∙ j .part t (low .here)) f) ∙ j .others i f;
+      waiting = λ i h. let w = drop-at (member left) t i e h in row-put-other sets′ t i v (w .1) ∙ j .waiting i (w .0);
+      others = λ i f. row-put-other sets′ t i v (λ c. neither (ap (member mask) c ∙ j .part t (low .here)) f) ∙ j .others i f;
     }
   where
-    at : (i : ℕ) → member mask i ≡ true → (u : ℕ) → Dec (i ≡ t) → (i ≡ t) ⊎ (member left i ≡ false) → member (getD (set sets′ t v) i 0) u ≡ (member more u || member (getD sets i 0) u)
+    at : (i : ℕ) → member mask i ≡ true → (u : ℕ) → Dec (i ≡ t) → (i ≡ t) ⊎ (member left i ≡ false) → member (row-of (put-row sets′ t v) i) u ≡ (member more u || member (row-of sets i) u)
     at i m u (yes c) _ =
-        subst (λ (k : ℕ). member (getD (set sets′ t v) k 0) u ≡ (member more u || member (getD sets k 0) u)) (sym c)
-        (ap (λ (y : ℕ). member y u) (getD-set-same sets′ t v 0 (omega (arith, j .size, names t (j .part t (low .here)))))
+        subst (λ (k : ℕ). member (row-of (put-row sets′ t v) k) u ≡ (member more u || member (row-of sets k) u)) (sym c)
+        (ap (λ (y : ℕ). member y u) (row-put sets′ t v (omega (arith, j .size, names t (j .part t (low .here)))))
         ∙ ap (λ X. X u) hv ∙ ap (λ (y : ℕ). member more u || member y u) (j .waiting t (low .here)))
     at i m u (no o) (inl c) = absurd (o c)
-    at i m u (no o) (inr f) = ap (λ (y : ℕ). member y u) (getD-set-other sets′ t i v 0 o) ∙ j .joined i m f u
+    at i m u (no o) (inr f) = ap (λ (y : ℕ). member y u) (row-put-other sets′ t i v o) ∙ j .joined i m f u
 
 pub joining-end : {mask more left : ℕ} {sets sets′ : List ℕ} → left ≡ 0 → Joining mask more sets sets′ left → Joined mask more sets sets′
 joining-end {mask} {more} {sets = sets} {sets′} z j = record { join = λ i u. at i u (true-or-false (member mask i)) }
   where
-    at : (i u : ℕ) → (member mask i ≡ true) ⊎ (member mask i ≡ false) → member (getD sets′ i 0) u ≡ ((member mask i && member more u) || member (getD sets i 0) u)
-    at i u (inl t) = j .joined i t (no-members z i) u ∙ sym (ap (λ b. (b && member more u) || member (getD sets i 0) u) t)
-    at i u (inr f) = ap (λ (y : ℕ). member y u) (j .others i f) ∙ sym (ap (λ b. (b && member more u) || member (getD sets i 0) u) f)
+    at : (i u : ℕ) → (member mask i ≡ true) ⊎ (member mask i ≡ false) → member (row-of sets′ i) u ≡ ((member mask i && member more u) || member (row-of sets i) u)
+    at i u (inl t) = j .joined i t (no-members z i) u ∙ sym (ap (λ b. (b && member more u) || member (row-of sets i) u) t)
+    at i u (inr f) = ap (λ (y : ℕ). member y u) (j .others i f) ∙ sym (ap (λ b. (b && member more u) || member (row-of sets i) u) f)
 
 -- ---- a list emptied from its start
 
 pub record Clearing (n : ℕ) (l₀ l : List ℕ) (i : ℕ) : Type 0 where
   pub inside : i ≤ n
   pub size : length l ≡ length l₀
-  pub empty : (k : ℕ) → k < i → getD l k 0 ≡ 0
+  pub empty : (k : ℕ) → k < i → row-of l k ≡ 0
 
 pub clearing-start : (n : ℕ) (l : List ℕ) → Clearing n l l 0
 clearing-start n l = record { inside = omega arith; size = refl; empty = λ k h. absurd (not-suc-le-zero h) }
 
-pub clearing-next : {n : ℕ} {l₀ l : List ℕ} {i : ℕ} → Clearing n l₀ l i → i < n → n ≤ length l₀ → Clearing n l₀ (set l i 0) (i + 1)
-clearing-next {n} {l₀} {l} {i} w lt le = record { inside = omega arith; size = length-set l i 0 ∙ w .size; empty = λ k h. at k h (ℕ-discrete k i) }
+pub clearing-next : {n : ℕ} {l₀ l : List ℕ} {i : ℕ} → Clearing n l₀ l i → i < n → n ≤ height l₀ → (z : Set) → mask-of z ≡ 0 → Clearing n l₀ (put-row l i z) (i + 1)
+clearing-next {n} {l₀} {l} {i} w lt le z none = record { inside = omega arith; size = length-put l i z ∙ w .size; empty = λ k h. at k h (ℕ-discrete k i) }
   where
-    at : (k : ℕ) → k < i + 1 → Dec (k ≡ i) → getD (set l i 0) k 0 ≡ 0
-    at k h (yes e) = ap (λ (k : ℕ). getD (set l i 0) k 0) e ∙ getD-set-same l i 0 0 (omega (arith, w .size))
-    at k h (no ne) = getD-set-other l i k 0 0 ne ∙ w .empty k (omega (arith, ne))
+    at : (k : ℕ) → k < i + 1 → Dec (k ≡ i) → row-of (put-row l i z) k ≡ 0
+    at k h (yes e) = ap (λ (k : ℕ). row-of (put-row l i z) k) e ∙ row-put l i z (omega (arith, w .size)) ∙ none
+    at k h (no ne) = row-put-other l i k z ne ∙ w .empty k (omega (arith, ne))
 
 -- ---- the cut of two transitions
 
@@ -177,17 +180,17 @@ module _ {first second ranks : List ℕ} {r j k : ℕ} {rel x : List ℕ} (g : C
 -- ---- whether one transition fits another
 
 module _ (R : Relation) (m n : Transition) where
-  pub fits-other : (m .code ≡ n .code → ⊥) → false ≡ fits-step R m n
+  fits-other : (m .code ≡ n .code → ⊥) → false ≡ fits-step R m n
   unfolding fits-step
   fits-other d = sym (ap (λ b. b && fits? (between R m n) (weights m) (weights n)) (differ-eqb (m .code) (n .code) d))
 
-  pub fits-same : {rel : List ℕ} {mask : ℕ} → m .code ≡ n .code → Cut R m n rel mask → eqb mask 0 ≡ fits-step R m n
+  fits-same : {rel : List ℕ} {mask : ℕ} → m .code ≡ n .code → Cut R m n rel mask → eqb mask 0 ≡ fits-step R m n
   unfolding fits-step
   fits-same e c = sym (ap (λ b. b && fits? (between R m n) (weights m) (weights n)) (is-true (eqb (m .code) (n .code)) (same-eqb e)) ∙ c .fit)
 
   -- ---- what n adds to the sets of the targets of m
 
-  pub apart-other : (m .code ≡ n .code → ⊥) → (i u : ℕ) → apart-by R m i n u ≡ false
+  apart-other : (m .code ≡ n .code → ⊥) → (i u : ℕ) → apart-by R m i n u ≡ false
   unfolding apart-by
   apart-other d i u =
       ap (λ b. (b && cut-of R m n i) && any (length (weights n)) (λ l. eqb (target-at n l) u && not (touched (length (weights m)) (between R m n) (cut-of R m n) l)))
@@ -200,19 +203,27 @@ module _ (R : Relation) (m n : Transition) where
       ap (λ b. (b && cut-of R m n i) && any (length (weights n)) (λ l. eqb (target-at n l) u && not (touched (length (weights m)) (between R m n) (cut-of R m n) l)))
       (is-true (eqb (m .code) (n .code)) (same-eqb e))
 
-  pub none-added : (m .code ≡ n .code → ⊥) → (sets : List ℕ) → Added R m n sets sets
-  none-added d sets = record { join = λ i _ u. sym (ap (λ b. b || member (getD sets i 0) u) (apart-other d i u)) }
+  none-added : (m .code ≡ n .code → ⊥) → (sets : List ℕ) → Added R m n sets sets
+  none-added d sets = record { join = λ i _ u. sym (ap (λ b. b || member (row-of sets i) u) (apart-other d i u)) }
+
+  -- n has another code
+  pub parted-other : (m .code ≡ n .code → ⊥) → (sets : List ℕ) → Parted R m n false sets sets
+  parted-other d sets = record { fit = fits-other d; added = λ _. none-added d sets }
+
+  -- the cut is empty
+  pub parted-fit : {rel sets sets′ : List ℕ} {mask : ℕ} {b : Bool} → m .code ≡ n .code → Cut R m n rel mask → b ≡ eqb mask 0 → b ≡ true → Parted R m n true sets sets′
+  parted-fit e c v t = record { fit = sym t ∙ v ∙ fits-same e c; added = λ f. absurd (neither refl f) }
 
   -- the mask names targets of m
   pub cut-names : {rel : List ℕ} {mask : ℕ} → Cut R m n rel mask → (p : ℕ) → length (m .entries) ≤ p → Names mask p
   cut-names c p le i t = ⊎-elim (λ l. omega arith) (λ l. absurd (neither t (c .no-others i l))) (below-or-not i (length (m .entries)))
 
-  module _ {rel : List ℕ} {mask : ℕ} (near more : ℕ) (code : m .code ≡ n .code) (c : Cut R m n rel mask) (rows : length (m .entries) ≤ length rel)
-      (touch : (l : ℕ) → member near l ≡ touched (length rel) (relates rel) (member mask) l)
+  module _ {rel : List ℕ} {mask : ℕ} (near more : ℕ) (code : m .code ≡ n .code) (c : Cut R m n rel mask) (rows : length (m .entries) ≤ height rel)
+      (touch : (l : ℕ) → member near l ≡ touched (height rel) (relates rel) (member mask) l)
       (loose : (u : ℕ) → member more u ≡ any (length (n .entries)) (λ l. eqb (target-at n l) u && not (member near l))) where
     near-is : (l : ℕ) → l < length (n .entries) → touched (length (weights m)) (between R m n) (cut-of R m n) l ≡ member near l
     near-is l b =
-        any-wider (length (weights m)) (length rel) (λ i. cut-of R m n i && between R m n i l) (λ i. member mask i && relates rel i l) (omega (arith, weights-length m))
+        any-wider (length (weights m)) (height rel) (λ i. cut-of R m n i && between R m n i l) (λ i. member mask i && relates rel i l) (omega (arith, weights-length m))
         (λ i a. ap₂ _&&_ (c .smallest i (omega (arith, weights-length m))) (sym (c .related i l (omega (arith, weights-length m)) b)))
         (λ i a. ap (λ v. v && relates rel i l) (c .no-others i (omega (arith, weights-length m))))
         ∙ sym (touch l)
@@ -223,13 +234,17 @@ module _ (R : Relation) (m n : Transition) where
         ∙ any-ext (length (n .entries)) _ _ (λ l b. ap (λ v. eqb (target-at n l) u && not v) (near-is l b))
         ∙ sym (loose u)
 
-    pub some-added : {sets sets′ : List ℕ} → Joined mask more sets sets′ → Added R m n sets sets′
+    some-added : {sets sets′ : List ℕ} → Joined mask more sets sets′ → Added R m n sets sets′
     some-added {sets} {sets′} w =
         record {
           join = λ i b u.
               w .join i u
-              ∙ ap (λ v. v || member (getD sets i 0) u) (ap₂ _&&_ (sym (c .smallest i b)) (sym (more-is u)) ∙ sym (apart-same code i u));
+              ∙ ap (λ v. v || member (row-of sets i) u) (ap₂ _&&_ (sym (c .smallest i b)) (sym (more-is u)) ∙ sym (apart-same code i u));
         }
+
+    -- the cut is not empty
+    pub parted-unfit : {sets sets′ : List ℕ} {b : Bool} → b ≡ eqb mask 0 → b ≡ false → Joined mask more sets sets′ → Parted R m n false sets sets′
+    parted-unfit v f w = record { fit = sym f ∙ v ∙ fits-same code c; added = λ _. some-added w }
 
 -- ---- the transitions of a state, by number
 
@@ -286,6 +301,14 @@ module _ (first second : List ℕ) (s t : ℕ) where
   module _ (l : Loaded first) (p : Lost first second s t) where
     abbrev some-fails : Chosen (table-of first) (table-of second) s t (chosen (table-of first) (table-of second) s t)
     some-fails = chosen-law (table-of first) (table-of second) s t (p .left) (p .right) (p .fell)
+
+    -- the chosen one fits none
+    pub chosen-unfit : {j r : ℕ} → r ≡ rank (table-of first) (table-of second) s t → Choice first second s t j
+        → true ≡ any-of (fits-step (round (table-of first) (table-of second) (pred r)) (transition-at first j)) (steps (table-of second) t) → ⊥
+    chosen-unfit {j} {r} e c h =
+        let q = any-of-at (fits-step (round (table-of first) (table-of second) (pred r)) (transition-at first j)) no-transition (steps (table-of second) t) (subst T h tt) in
+        some-fails .unfit (q .0) (q .1)
+        (subst₂ (λ (r : ℕ) (m : Transition). T (fits-step (round (table-of first) (table-of second) (pred r)) m (transition (table-of second) t (q .0)))) e (c .is) (q .2))
 
     -- not all of them do
     not-all : (j : ℕ) → ((l : ℕ) → start-of first s ≤ l → l < j → T (matches (transition-at first l))) → j < start-of first (s + 1)
@@ -350,43 +373,40 @@ apart-is : (R : Relation) (m : Transition) (ns : List Transition) (i u : ℕ) �
 unfolding apart
 apart-is R m ns i u = refl
 
--- the sets hold what the transitions of t before number k add
+-- m fits none of the transitions of t before number k, and the sets hold what those add
 pub record Gathering (R : Relation) (m : Transition) (second : List ℕ) (t k : ℕ) (sets : List ℕ) : Type 0 where
-  pub low : start-of second t ≤ k
-  pub high : k ≤ start-of second (t + 1)
+  pub scan : Scan second t (fits-step R m) k
   pub gathered : (i : ℕ) → i < length (m .entries) → (u : ℕ)
-      → member (getD sets i 0) u ≡ any-of (λ n. apart-by R m i n u) (take (k - start-of second t) (steps (table-of second) t))
+      → member (row-of sets i) u ≡ any-of (λ n. apart-by R m i n u) (take (k - start-of second t) (steps (table-of second) t))
 
 module _ (R : Relation) (m : Transition) (second : List ℕ) (l : Loaded second) (t : ℕ) (b : t < states-of (table-of second)) where
-  pub gathering-start : (sets : List ℕ) → ((i : ℕ) → i < length (m .entries) → getD sets i 0 ≡ 0) → Gathering R m second t (start-of second t) sets
+  pub gathering-start : (sets : List ℕ) → ((i : ℕ) → i < length (m .entries) → row-of sets i ≡ 0) → Gathering R m second t (start-of second t) sets
   gathering-start sets z =
       record {
-        low = omega arith;
-        high = starts-ascend second l t (t + 1) (omega arith) (omega arith);
+        scan = scan-start second l t b (fits-step R m);
         gathered = λ i a u.
             ap (λ (y : ℕ). member y u) (z i a) ∙ member-none u
             ∙ sym (ap (λ (c : ℕ). any-of (λ n. apart-by R m i n u) (take c (steps (table-of second) t))) (sub-self (start-of second t)) ∙ any-of-nothing (λ n. apart-by R m i n u));
       }
 
-  pub gathering-next : {k : ℕ} {sets sets′ : List ℕ} → Gathering R m second t k sets → k < start-of second (t + 1) → Added R m (transition-at second k) sets sets′
-      → Gathering R m second t (k + 1) sets′
-  gathering-next {k} {sets} {sets′} g h a =
+  pub gathering-next : {k : ℕ} {v : Bool} {sets sets′ : List ℕ} → Gathering R m second t k sets → k < start-of second (t + 1)
+      → Parted R m (transition-at second k) v sets sets′ → v ≡ false → Gathering R m second t (k + 1) sets′
+  gathering-next {k} {v} {sets} {sets′} g h a f =
       let c = k - start-of second t in
-      let e : k + 1 - start-of second t ≡ suc c = let q = g .low in omega arith in
+      let e : k + 1 - start-of second t ≡ suc c = let q = g .scan .low in omega arith in
       record {
-        low = omega (arith, g .low);
-        high = omega arith;
+        scan = scan-next second l t b (fits-step R m) (g .scan) h (sym (a .fit) ∙ f);
         gathered = λ i lt u.
-            a .join i lt u
-            ∙ ap₂ (λ (n : Transition) (v : Bool). apart-by R m i n u || v) (transition-numbered second l t k b (g .low) h) (g .gathered i lt u)
+            a .added f .join i lt u
+            ∙ ap₂ (λ (n : Transition) (v : Bool). apart-by R m i n u || v) (transition-numbered second l t k b (g .scan .low) h) (g .gathered i lt u)
             ∙ sym (ap (λ (c : ℕ). any-of (λ n. apart-by R m i n u) (take c (steps (table-of second) t))) e
-            ∙ any-of-take (λ n. apart-by R m i n u) (steps (table-of second) t) c (omega (arith, counts second l t b, g .low)));
+            ∙ any-of-take (λ n. apart-by R m i n u) (steps (table-of second) t) c (omega (arith, counts second l t b, g .scan .low)));
       }
 
   pub gathering-end : {k : ℕ} {sets : List ℕ} → Gathering R m second t k sets → start-of second (t + 1) ≤ k → (i : ℕ) → i < length (m .entries)
-      → member (getD sets i 0) ≡ apart R m (steps (table-of second) t) i
+      → member (row-of sets i) ≡ apart R m (steps (table-of second) t) i
   gathering-end {k} g h i lt =
       fun-ext (λ u.
       g .gathered i lt u
-      ∙ ap (any-of (λ n. apart-by R m i n u)) (take-all (k - start-of second t) (steps (table-of second) t) (omega (arith, counts second l t b, g .high)))
+      ∙ ap (any-of (λ n. apart-by R m i n u)) (take-all (k - start-of second t) (steps (table-of second) t) (omega (arith, counts second l t b, g .scan .high)))
       ∙ apart-is R m (steps (table-of second) t) i u)

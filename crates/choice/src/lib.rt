@@ -1,73 +1,84 @@
 // The transition of a pair that is not kept, which fits no like-coded transition of the other state, and the sets of its targets.
+use relation::rows;
 use relation::set;
+use relation::set::Set;
+use relation::walk;
 ghost use mathlib.Core.Path.{_≡_};
 ghost use mathlib.Core.Bool.{not, _&&_};
 ghost use Prim.Native.Nat.{ℕ, pred, _+_, _*_, _≤_, _<_};
 ghost use lib.Dec.{eqb};
 ghost use lib.ListN.{length, getD};
-ghost use Rattle.simulation.specs.Sum.{any, any-of};
+ghost use Rattle.simulation.specs.Limits.{most-states};
+ghost use Rattle.simulation.specs.Sum.{any};
 ghost use Rattle.simulation.specs.Fit.{touched};
-ghost use Rattle.simulation.specs.Table.{target-at, states-of, steps};
-ghost use Rattle.simulation.specs.Round.{fits-step, round, rank};
-ghost use Rattle.simulation.specs.Tree.{chosen};
-ghost use Rattle.form.specs.Form.{Loaded, transitions-of, transition-at, table-of};
+ghost use Rattle.simulation.specs.Table.{target-at, states-of};
+ghost use Rattle.simulation.specs.Round.{round, rank};
+ghost use Rattle.form.specs.Form.{Loaded, transitions-of, transition-at, table-of, start-of};
 ghost use Rattle.relation.specs.Mask.{member};
+ghost use Rattle.relation.specs.Words.{mask, row-of, height};
 ghost use Rattle.matrix.specs.Problem.{relates};
 ghost use Rattle.relate.specs.Ranked.{Ranked, Lent};
-ghost use Rattle.choice.specs.Choice.{Compared, Matched, Cut, Names, Added, Joined, Lost, Choice, Sets};
+ghost use Rattle.choice.specs.Choice.{Compared, Cut, Names, Joined, Parted, Lost, Choice, Sets, Tested};
 
 // The rank of the pair (s, t).
 pub fn rank_at(second: &[u16], ranks: &[u16], s: usize, t: usize) -> u16
-    requires { ⌜ Loaded (now second) × (s < 64) × (t < 64) × (s * states-of (table-of (now second)) + t < length (now ranks)) ⌝ }
+    requires { ⌜ Loaded (now second) × (s < most-states) × (t < most-states) × (s * states-of (table-of (now second)) + t < length (now ranks)) ⌝ }
     ensures { λ r. ⌜ r ≡ getD (now (ranks .entry)) (s * states-of (table-of (now (second .entry))) + t) 0 ⌝ }
 {
     ranks[s * form::states(second) + t]
 }
 
-// What some row that the mask names is related to.
-fn touch(rel: &[u64], mask: u64) -> u64
-    requires { ⌜ Names mask (length (now rel)) ⌝ }
-    ensures { λ r. ⌜ ((k : ℕ) → member r k ≡ touched (length (now (rel .entry))) (relates (now (rel .entry))) (member mask) k) ⌝ }
+// What some row that the set names is related to.
+fn touch(rel: &[u64], named: Set) -> Set
+    requires { ⌜ Names (mask named) (height (now rel)) ⌝ }
+    ensures { λ r. ⌜ ((k : ℕ) → member (mask r) k ≡ touched (height (now (rel .entry))) (relates (now (rel .entry))) (member (mask named)) k) ⌝ }
 {
-    let mut near: u64 = 0;
-    let mut left = mask;
-    while left != 0 {
-        let i = set::lowest(left);
-        near = set::union(rel[i], near);
-        left = set::without_lowest(left);
+    let mut near = set::empty();
+    for w in 0..Set::WORDS {
+        let mut left = named.words[w];
+        while left != 0 {
+            let i = walk::lowest(named, w, left);
+            near = set::union(rows::get(rel, i), near);
+            left = walk::without_lowest(named, w, left);
+        }
     }
     near
 }
 
-// The targets of the transition k at the positions that the mask doesn't name.
-fn loose(second: &[u16], k: usize, mask: u64) -> u64
+// The targets of the transition k at the positions that the set doesn't name.
+fn loose(second: &[u16], k: usize, named: Set) -> Set
     requires { ⌜ Loaded (now second) × (k < transitions-of (now second)) ⌝ }
-    ensures { λ r. ⌜ ((u : ℕ) → member r u
-        ≡ any (length (transition-at (now (second .entry)) k .entries)) (λ j. eqb (target-at (transition-at (now (second .entry)) k) j) u && not (member mask j))) ⌝ }
+    ensures { λ r. ⌜ ((u : ℕ) → member (mask r) u
+        ≡ any (length (transition-at (now (second .entry)) k .entries)) (λ j. eqb (target-at (transition-at (now (second .entry)) k) j) u && not (member (mask named) j))) ⌝ }
 {
     let targets = form::targets(second, k);
-    let mut states: u64 = 0;
-    let mut left = set::difference(set::below(targets.len()), mask);
-    while left != 0 {
-        let j = set::lowest(left);
-        let t = targets[j] as usize;
-        states = set::insert(states, t);
-        left = set::without_lowest(left);
+    let mut states = set::empty();
+    let other = set::difference(set::below(targets.len()), named);
+    for w in 0..Set::WORDS {
+        let mut left = other.words[w];
+        while left != 0 {
+            let j = walk::lowest(other, w, left);
+            let t = targets[j] as usize;
+            states = set::insert(states, t);
+            left = walk::without_lowest(other, w, left);
+        }
     }
     states
 }
 
-// Joins a set to each of those that the mask names.
-fn spread(sets: &mut [u64], mask: u64, more: u64)
-    requires { ⌜ Names mask (length (now sets)) ⌝ }
-    ensures { λ _. ⌜ Joined mask more (now (sets .entry)) (now (sets .exit)) ⌝ }
+// Joins a set to each of those that another names.
+fn spread(sets: &mut [u64], named: Set, more: Set)
+    requires { ⌜ Names (mask named) (height (now sets)) ⌝ }
+    ensures { λ _. ⌜ Joined (mask named) (mask more) (now (sets .entry)) (now (sets .exit)) ⌝ }
 {
-    let mut left = mask;
-    while left != 0 {
-        let i = set::lowest(left);
-        let set = set::union(more, sets[i]);
-        sets[i] = set;
-        left = set::without_lowest(left);
+    for w in 0..Set::WORDS {
+        let mut left = named.words[w];
+        while left != 0 {
+            let i = walk::lowest(named, w, left);
+            let set = set::union(more, rows::get(sets, i));
+            rows::put(sets, i, set);
+            left = walk::without_lowest(named, w, left);
+        }
     }
 }
 
@@ -81,10 +92,10 @@ fn cut(
     k: usize,
     rel: &mut [u64],
     x: &mut [u32],
-) -> u64
+) -> Set
     requires { ⌜ Compared (now first) (now second) (now ranks) r j k (now rel) (now x) ⌝ }
-    ensures { λ mask. ⌜ Cut (round (table-of (now (first .entry))) (table-of (now (second .entry))) (pred r))
-        (transition-at (now (first .entry)) j) (transition-at (now (second .entry)) k) (now (rel .exit)) mask ⌝ }
+    ensures { λ found. ⌜ Cut (round (table-of (now (first .entry))) (table-of (now (second .entry))) (pred r))
+        (transition-at (now (first .entry)) j) (transition-at (now (second .entry)) k) (now (rel .exit)) (mask found) ⌝ }
 {
     relate::rows(first, second, ranks, r, j, k, rel);
     let ws = form::weights(first, j);
@@ -92,76 +103,7 @@ fn cut(
     cut::cut(ws, vs, rel, x)
 }
 
-// Whether the transition j has the code of the transition k and fits it, in the round before round r.
-fn fits(
-    first: &[u16],
-    second: &[u16],
-    ranks: &[u16],
-    r: u16,
-    j: usize,
-    k: usize,
-    rel: &mut [u64],
-    x: &mut [u32],
-) -> bool
-    requires { ⌜ Compared (now first) (now second) (now ranks) r j k (now rel) (now x) ⌝ }
-    ensures { λ b. ⌜ b ≡ fits-step (round (table-of (now (first .entry))) (table-of (now (second .entry))) (pred r))
-        (transition-at (now (first .entry)) j) (transition-at (now (second .entry)) k) ⌝ }
-{
-    if form::code(first, j) != form::code(second, k) {
-        return false;
-    }
-    cut(first, second, ranks, r, j, k, rel, x) == 0
-}
-
-// Whether the transition j fits some transition of t with its code, in the round before round r.
-fn fits_some(
-    first: &[u16],
-    second: &[u16],
-    ranks: &[u16],
-    r: u16,
-    j: usize,
-    t: usize,
-    rel: &mut [u64],
-    x: &mut [u32],
-) -> bool
-    requires { ⌜ Matched (now first) (now second) (now ranks) r j t (now rel) (now x) ⌝ }
-    ensures { λ b. ⌜ b ≡ any-of (fits-step (round (table-of (now (first .entry))) (table-of (now (second .entry))) (pred r)) (transition-at (now (first .entry)) j))
-        (steps (table-of (now (second .entry))) t) ⌝ }
-{
-    let end = form::first(second, t + 1);
-    let mut k = form::first(second, t);
-    while k < end {
-        if fits(first, second, ranks, r, j, k, rel, x) {
-            return true;
-        }
-        k += 1;
-    }
-    false
-}
-
-// The number of the first transition of s that fits none of t with its code, in the round before the pair's rank r.
-pub fn choose(
-    first: &[u16],
-    second: &[u16],
-    ranks: &[u16],
-    s: usize,
-    t: usize,
-    r: u16,
-    rel: &mut [u64],
-    x: &mut [u32],
-) -> usize
-    requires { ⌜ Ranked (now first) (now second) (now ranks) × Lost (now first) (now second) s t
-        × (r ≡ rank (table-of (now first)) (table-of (now second)) s t) × Lent (now rel) (now x) ⌝ }
-    ensures { λ j. ⌜ Choice (now (first .entry)) (now (second .entry)) s t j ⌝ }
-{
-    let mut j = form::first(first, s);
-    while fits_some(first, second, ranks, r, j, t, rel, x) {
-        j += 1;
-    }
-    j
-}
-
-// Adds to the sets of the targets of j what they must be told apart from among the targets of k, which has the same code.
+// Whether j fits k, which has the same code. If not, adds to the sets of the targets of j what they must be told apart from among the targets of k.
 fn part_sets(
     first: &[u16],
     second: &[u16],
@@ -172,19 +114,23 @@ fn part_sets(
     sets: &mut [u64],
     rel: &mut [u64],
     x: &mut [u32],
-)
-    requires { ⌜ Compared (now first) (now second) (now ranks) r j k (now rel) (now x) × (length (transition-at (now first) j .entries) ≤ length (now sets))
+) -> bool
+    requires { ⌜ Compared (now first) (now second) (now ranks) r j k (now rel) (now x) × (length (transition-at (now first) j .entries) ≤ height (now sets))
         × (transition-at (now first) j .code ≡ transition-at (now second) k .code) ⌝ }
-    ensures { λ _. ⌜ Added (round (table-of (now (first .entry))) (table-of (now (second .entry))) (pred r))
-        (transition-at (now (first .entry)) j) (transition-at (now (second .entry)) k) (now (sets .entry)) (now (sets .exit)) ⌝ }
+    ensures { λ b. ⌜ Parted (round (table-of (now (first .entry))) (table-of (now (second .entry))) (pred r))
+        (transition-at (now (first .entry)) j) (transition-at (now (second .entry)) k) b (now (sets .entry)) (now (sets .exit)) ⌝ }
 {
-    let mask = cut(first, second, ranks, r, j, k, rel, x);
-    let near = touch(rel, mask);
+    let named = cut(first, second, ranks, r, j, k, rel, x);
+    if set::is_empty(named) {
+        return true;
+    }
+    let near = touch(rel, named);
     let more = loose(second, k, near);
-    spread(sets, mask, more);
+    spread(sets, named, more);
+    false
 }
 
-// The same for any k: one with another code adds nothing.
+// The same for any k: j doesn't fit one with another code, which adds nothing.
 fn add_sets(
     first: &[u16],
     second: &[u16],
@@ -195,28 +141,28 @@ fn add_sets(
     sets: &mut [u64],
     rel: &mut [u64],
     x: &mut [u32],
-)
-    requires { ⌜ Compared (now first) (now second) (now ranks) r j k (now rel) (now x) × (length (transition-at (now first) j .entries) ≤ length (now sets)) ⌝ }
-    ensures { λ _. ⌜ Added (round (table-of (now (first .entry))) (table-of (now (second .entry))) (pred r))
-        (transition-at (now (first .entry)) j) (transition-at (now (second .entry)) k) (now (sets .entry)) (now (sets .exit)) ⌝ }
+) -> bool
+    requires { ⌜ Compared (now first) (now second) (now ranks) r j k (now rel) (now x) × (length (transition-at (now first) j .entries) ≤ height (now sets)) ⌝ }
+    ensures { λ b. ⌜ Parted (round (table-of (now (first .entry))) (table-of (now (second .entry))) (pred r))
+        (transition-at (now (first .entry)) j) (transition-at (now (second .entry)) k) b (now (sets .entry)) (now (sets .exit)) ⌝ }
 {
     if form::code(first, j) != form::code(second, k) {
-        return;
+        return false;
     }
-    part_sets(first, second, ranks, r, j, k, sets, rel, x);
+    part_sets(first, second, ranks, r, j, k, sets, rel, x)
 }
 
 // Empties the first n sets.
 fn clear(sets: &mut [u64], n: usize)
-    requires { ⌜ (n ≤ 64) × (n ≤ length (now sets)) ⌝ }
-    ensures { λ _. ⌜ ((i : ℕ) → i < n → getD (now (sets .exit)) i 0 ≡ 0) ⌝ }
+    requires { ⌜ (n ≤ most-states) × (n ≤ height (now sets)) ⌝ }
+    ensures { λ _. ⌜ ((i : ℕ) → i < n → row-of (now (sets .exit)) i ≡ 0) ⌝ }
 {
     for i in 0..n {
-        sets[i] = 0;
+        rows::put(sets, i, set::empty());
     }
 }
 
-// The set of each target of the transition j, which is the one chosen for the pair (s, t) of rank r.
+// Whether the transition j of s fits none of t with its code, in the round before the pair's rank r. If j is the one chosen, the sets are those of its targets.
 pub fn find_sets(
     first: &[u16],
     second: &[u16],
@@ -228,17 +174,43 @@ pub fn find_sets(
     sets: &mut [u64],
     rel: &mut [u64],
     x: &mut [u32],
-)
+) -> bool
     requires { ⌜ Ranked (now first) (now second) (now ranks) × Lost (now first) (now second) s t
-        × (r ≡ rank (table-of (now first)) (table-of (now second)) s t) × Choice (now first) (now second) s t j × Lent (now rel) (now x)
-        × (length (chosen (table-of (now first)) (table-of (now second)) s t .entries) ≤ length (now sets)) ⌝ }
-    ensures { λ _. ⌜ Sets (now (first .entry)) (now (second .entry)) s t (now (sets .exit)) ⌝ }
+        × (r ≡ rank (table-of (now first)) (table-of (now second)) s t) × (start-of (now first) s ≤ j) × (j < start-of (now first) (s + 1))
+        × Lent (now rel) (now x) × (length (transition-at (now first) j .entries) ≤ height (now sets)) ⌝ }
+    ensures { λ b. ⌜ Tested (now (first .entry)) (now (second .entry)) s t r j b (now (sets .exit)) ⌝ }
 {
     clear(sets, form::targets(first, j).len());
     let last = form::first(second, t + 1);
     let mut l = form::first(second, t);
     while l < last {
-        add_sets(first, second, ranks, r, j, l, sets, rel, x);
+        if add_sets(first, second, ranks, r, j, l, sets, rel, x) {
+            return false;
+        }
         l += 1;
     }
+    true
+}
+
+// The number of the first transition of s that fits none of t with its code, in the round before the pair's rank r, with the sets of its targets.
+pub fn choose(
+    first: &[u16],
+    second: &[u16],
+    ranks: &[u16],
+    s: usize,
+    t: usize,
+    r: u16,
+    sets: &mut [u64],
+    rel: &mut [u64],
+    x: &mut [u32],
+) -> usize
+    requires { ⌜ Ranked (now first) (now second) (now ranks) × Lost (now first) (now second) s t
+        × (r ≡ rank (table-of (now first)) (table-of (now second)) s t) × (most-states ≤ height (now sets)) × Lent (now rel) (now x) ⌝ }
+    ensures { λ j. ⌜ Choice (now (first .entry)) (now (second .entry)) s t j × Sets (now (first .entry)) (now (second .entry)) s t (now (sets .exit)) ⌝ }
+{
+    let mut j = form::first(first, s);
+    while !find_sets(first, second, ranks, s, t, r, j, sets, rel, x) {
+        j += 1;
+    }
+    j
 }

@@ -18,7 +18,8 @@ use Rattle.simulation.specs.Demands.{Kept}
 use Rattle.simulation.proofs.Finite.Tests.{or-cases, or-left, or-right}
 use Rattle.simulation.proofs.Simulation.RankList.{rank-list-length, rank-list-at}
 use Rattle.form.specs.Form.{table-of, Loaded}
-use Rattle.form.proofs.FormLaws.{few-pairs}
+use Rattle.simulation.specs.Limits.{most-pairs}
+use Rattle.witness.proofs.Showing.{count-small}
 use Rattle.flows.specs.Flow.{Right, flow-bytes, flow-room}
 use Rattle.ranking.specs.Rows.{Filled as RanksFilled}
 use Rattle.relate.specs.Ranked.{Ranked}
@@ -121,16 +122,10 @@ module _ (M N : Table) (s t : ℕ) where
               let w = f .written (omega arith) (omega arith) in
               by-condition (tree-fits ready k (omega arith) (omega arith)) nothing fair (ap₂ at (w .0 ∙ done (length (tree-bytes M N s t))) (w .1))
 
--- pairs are few, and their places are small
+-- the places of pairs are small
 module _ (f g : List ℕ) (lf : Loaded f) (lg : Loaded g) {p q : ℕ} (ep : p ≡ states-of (table-of f)) (eq : q ≡ states-of (table-of g)) where
-  pub count-is : p * q ≡ pairs (table-of f) (table-of g)
-  count-is = ap₂ _*_ ep eq
-
-  pub count-small : p * q ≤ 4096
-  count-small = omega (arith, count-is, few-pairs f g lf lg)
-
-  pub place-small : (s t : ℕ) → s < p → t < q → s * q + t < 4096
-  place-small s t a b = omega (arith, place-below s t p q a b, count-small)
+  pub place-small : (s t : ℕ) → s < p → t < q → s * q + t < most-pairs
+  place-small s t a b = omega (arith, place-below s t p q a b, count-small f g lf lg ep eq)
 
 -- an accepted call's answer by its parts; z is the rank of (0, 0)
 abbrev answer-of : (rounds kept z rank written : ℕ) → Answer

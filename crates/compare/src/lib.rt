@@ -3,6 +3,7 @@
 use answer::Answer;
 use ranking;
 use relation::ranks;
+use simulation::Table;
 ghost use mathlib.Core.Path.{_≡_};
 ghost use mathlib.Core.Bool.{_||_};
 ghost use Prim.Native.Nat.{_*_, _≤_, _<_};
@@ -48,7 +49,7 @@ fn show(
     ensures { λ r. ⌜ Compared (table-of (now (first .entry))) (table-of (now (second .entry))) s t
         (lent (now (ranks .entry)) (now (flow .entry)) (now (tree .entry))) (left r (lent (now (ranks .exit)) (now (flow .exit)) (now (tree .exit)))) ⌝ }
 {
-    let mut x = [1u32; 4096];
+    let mut x = [1u32; Table::PAIRS];
     let r = ranking::rank(first, second, ranks, &mut x);
     let place = s * form::states(second) + t;
     let a = found(ranks, place, r.rounds, r.kept);

@@ -9,10 +9,12 @@ use native.Mathlib.Decide.{ℕ-discrete}
 use native.Mathlib.Omega.{arith}
 use borrow.Author.Tests.{lt-ltb, ltb-true, eq-eqb, ne-eqb}
 use lib.Dec.{eqb}
-use lib.ListN.{length, getD}
+use lib.ListN.{length}
+use Rattle.simulation.specs.Limits.{most-states}
 use Rattle.simulation.specs.Fit.{Positive, fits?, cut}
 use Rattle.simulation.proofs.Fit.Quick.{weight-short, cut-products, cut-none, cut-some}
 use Rattle.relation.specs.Mask.{Test, member, up-to, with-member, both, either, except}
+use Rattle.relation.specs.Words.{row-of}
 use Rattle.relation.proofs.Mask.{member-none, below-or-not, no-member}
 use Rattle.matrix.specs.Problem.{relates}
 use Rattle.cut.specs.Quick.{CutOf, Lacking, Settled}
@@ -20,7 +22,7 @@ use Rattle.matrix.proofs.MaskedLaws.{true-or-false, neither, both-in, both-out,
 
 -- ---- the rows that lack a column
 
-pub lacking-none : (rel : List ℕ) (q : ℕ) → Lacking rel 0 q 0 0 0
+lacking-none : (rel : List ℕ) (q : ℕ) → Lacking rel 0 q 0 0 0
 lacking-none rel q =
     record {
       inside = λ i t. absurd (neither t (member-none i));
@@ -30,11 +32,16 @@ lacking-none rel q =
       lacked = λ i j t. absurd (neither t (member-none i));
     }
 
+pub lacking-start : (rel : List ℕ) (q : ℕ) {rows has lacks : ℕ} → rows ≡ 0 → has ≡ 0 → lacks ≡ 0 → Lacking rel 0 q rows has lacks
+lacking-start rel q {rows} {has} {lacks} e f g =
+    subst (λ (n : ℕ). Lacking rel 0 q n has lacks) (sym e)
+    (subst (λ (n : ℕ). Lacking rel 0 q 0 n lacks) (sym f) (subst (λ (n : ℕ). Lacking rel 0 q 0 0 n) (sym g) (lacking-none rel q)))
+
 pub lacking-is : {rel : List ℕ} {n n′ q rows has lacks : ℕ} → n ≡ n′ → Lacking rel n q rows has lacks → Lacking rel n′ q rows has lacks
 lacking-is {rel} {q = q} {rows} {has} {lacks} e s = subst (λ (n : ℕ). Lacking rel n q rows has lacks) e s
 
 module _ {rel : List ℕ} {n q rows has lacks : ℕ} (all gap : ℕ) (s : Lacking rel n q rows has lacks)
-    (ea : member all ≡ up-to q) (eg : member gap ≡ except (member all) (member (getD rel n 0))) where
+    (ea : member all ≡ up-to q) (eg : member gap ≡ except (member all) (member (row-of rel n))) where
   in-all : (j : ℕ) → j < q → member all j ≡ true
   in-all j l = ap (λ (X : Test). X j) ea ∙ lt-ltb j q l
 
@@ -58,10 +65,10 @@ module _ {rel : List ℕ} {n q rows has lacks : ℕ} (all gap : ℕ) (s : Lackin
       here : (j : ℕ) → j < q → relates rel n j ≡ true
       here j b =
           ⊎-elim (λ t. t) (λ f. absurd (neither (in-all j b) f))
-          (except-out (member all) (member (getD rel n 0)) j eg (no-members z j))
+          (except-out (member all) (member (row-of rel n)) j eg (no-members z j))
 
   -- row n lacks a column
-  module _ (row rows′ has′ lacks′ : ℕ) (some : gap ≢ 0) (fits : gap < 2 ^ 64) (er : member row ≡ both (member all) (member (getD rel n 0)))
+  module _ (row rows′ has′ lacks′ : ℕ) (some : gap ≢ 0) (fits : gap < 2 ^ most-states) (er : member row ≡ both (member all) (member (row-of rel n)))
       (e : member rows′ ≡ with-member n (member rows)) (eh : member has′ ≡ either (member row) (member has)) (el : member lacks′ ≡ either (member gap) (member lacks)) where
     row-here : member rows′ n ≡ true
     row-here = ap (λ (X : Test). X n) e ∙ ap (λ (b : Bool). b || member rows n) (eq-eqb n n refl)
@@ -72,7 +79,7 @@ module _ {rel : List ℕ} {n q rows has lacks : ℕ} (all gap : ℕ) (s : Lackin
     gap-here : (j : ℕ) × (j < q) × (relates rel n j ≡ false)
     gap-here =
         let w = some-member gap fits some in
-        let h = except-at (member all) (member (getD rel n 0)) (w .0) eg (w .1) in
+        let h = except-at (member all) (member (row-of rel n)) (w .0) eg (w .1) in
         (w .0, ltb-true (w .0) q (sym (ap (λ (X : Test). X (w .0)) ea) ∙ h .0), h .1)
 
     pub lacking-next : Lacking rel (n + 1) q rows′ has′ lacks′
@@ -88,7 +95,7 @@ module _ {rel : List ℕ} {n q rows has lacks : ℕ} (all gap : ℕ) (s : Lackin
             | no o ↦ s .others i j (omega arith) (sym (row-there i o) ∙ f) b
           ];
           had = λ i j t b r. elim (ℕ-discrete i n) [
-            | yes c ↦ either-left (member row) (member has) j eh (both-in (member all) (member (getD rel n 0)) j er (in-all j b) (subst (λ (k : ℕ). relates rel k j ≡ true) c r))
+            | yes c ↦ either-left (member row) (member has) j eh (both-in (member all) (member (row-of rel n)) j er (in-all j b) (subst (λ (k : ℕ). relates rel k j ≡ true) c r))
             | no o ↦ either-right (member row) (member has) j eh (s .had i j (sym (row-there i o) ∙ t) b r)
           ];
           lacked = λ i j t b r. elim (ℕ-discrete i n) [
@@ -118,14 +125,14 @@ module _ (p rows has lacks : ℕ) where
 
 -- ---- the cut
 
-module _ (ws vs rel : List ℕ) (r : ℕ) (fits : r < 2 ^ 64)
+module _ (ws vs rel : List ℕ) (r : ℕ) (fits : r < 2 ^ most-states)
     (smallest : (i : ℕ) → i < length ws → cut (relates rel) ws vs i ≡ member r i) (no-others : (i : ℕ) → length ws ≤ i → member r i ≡ false) where
   -- a cut has no member exactly if m fits n
   empty-fits : fits? (relates rel) ws vs ≡ eqb r 0
   empty-fits =
       ⊎-elim
       (λ t.
-      let none : r ≡ 0 = no-member 64 r fits (λ i _. ⊎-elim (λ l. sym (smallest i l) ∙ cut-none (relates rel) ws vs t i l) (no-others i) (below-or-not i (length ws))) in
+      let none : r ≡ 0 = no-member most-states r fits (λ i _. ⊎-elim (λ l. sym (smallest i l) ∙ cut-none (relates rel) ws vs t i l) (no-others i) (below-or-not i (length ws))) in
       t ∙ sym (eq-eqb r 0 none))
       (λ f.
       let w = cut-some (relates rel) ws vs f in
@@ -137,7 +144,7 @@ module _ (ws vs rel : List ℕ) (r : ℕ) (fits : r < 2 ^ 64)
 
 -- the rows that lack a column are the cut
 pub cut-settled :
-    {ws vs rel : List ℕ} {rows has lacks : ℕ} → Positive ws → Positive vs → rows < 2 ^ 64
+    {ws vs rel : List ℕ} {rows has lacks : ℕ} → Positive ws → Positive vs → rows < 2 ^ most-states
     → Lacking rel (length ws) (length vs) rows has lacks → Settled (length ws) rows has lacks → CutOf ws vs rel rows
 cut-settled {ws} {vs} {rel} {rows} pw pv fits s e =
     cut-of ws vs rel rows fits

@@ -9,6 +9,7 @@ use lib.Dec.{eqb}
 use native.Mathlib.Nat.{mul-le-mul}
 use lib.ListN.{length, getD, take, drop}
 use lib.Seq.{length-take-le, drop-append-seam, drop-drop}
+use Rattle.simulation.specs.Limits.{most-states}
 use Rattle.simulation.specs.Sum.{sum, when}
 use Rattle.simulation.specs.Fit.{Amounts}
 use Rattle.simulation.proofs.Finite.Sums.{sum-ext, sum-mul, sum-bound, one-most}
@@ -76,11 +77,11 @@ pub flow-length : (k : ℕ) (ms ns : List ℕ) (x : Amounts) → length (flow-of
 unfolding flow-of
 flow-length k ms ns x = omega (arith, records-most ms ns x)
 
--- at most 4096 records
-pub bytes-few : (mt nt : List ℕ) (x : Amounts) (r : ℕ) → length mt ≤ 64 → length nt ≤ 64 → r ≡ length (flow-records mt nt x) → r ≤ 24576
+-- at most most-pairs records
+pub bytes-few : (mt nt : List ℕ) (x : Amounts) (r : ℕ) → length mt ≤ most-states → length nt ≤ most-states → r ≡ length (flow-records mt nt x) → r ≤ 98304
 bytes-few mt nt x r a b e = omega (arith, records-most mt nt x, mul-le-mul a b′)
   where
-    b′ : length nt * 6 ≤ 384
+    b′ : length nt * 6 ≤ 768
     b′ = omega arith
 
 -- the records behind room for the head, then the head

@@ -10,10 +10,10 @@ use Rattle.simulation.specs.Sum.{sum}
 use Rattle.simulation.specs.Fit.{Amounts}
 use Rattle.simulation.specs.Table.{Table, states-of, steps, transition}
 use Rattle.simulation.proofs.Finite.Sums.{sum-mono}
-use Rattle.form.specs.Limits.{most-states, most-transitions, most-entries}
-use Rattle.form.specs.Items.{all-transitions, all-entries}
+use Rattle.simulation.specs.Limits.{most-states, most-of-state, most-entries}
+use Rattle.form.specs.Items.{all-entries}
 use Rattle.form.specs.Form.{table-of, start-of}
-use Rattle.form.proofs.Items.{transitions-most, entries-most}
+use Rattle.form.proofs.Items.{entries-most}
 use Rattle.flows.specs.Flow.{step-room, most-flow, flow-bytes, flow-room}
 use Rattle.flows.specs.FlowSteps.{Chosen}
 use Rattle.flows.proofs.Pieces.{pieces-length}
@@ -25,13 +25,13 @@ unfolding sum
 rooms zero w e = omega arith
 rooms (suc n) w e = omega (arith, rooms n w e)
 
-pub room-most : (M N : Table) → length (all-transitions M) ≤ most-transitions → length (all-entries M) ≤ most-entries → states-of N ≤ most-states
-    → (s : ℕ) → flow-room M N s ≤ most-flow
+pub room-most : (M N : Table) (s : ℕ) → length (steps M s) ≤ most-of-state → length (all-entries M) ≤ most-entries → states-of N ≤ most-states
+    → flow-room M N s ≤ most-flow
 unfolding flow-room
-room-most M N a b c s =
+room-most M N s a b c =
     let e : ℕ → ℕ = λ k. length (transition M s k .entries) in
     let few : 6 * sum (length (steps M s)) e ≤ 6 * most-entries = omega (arith, entries-most M s) in
-    omega (arith, rooms (length (steps M s)) (states-of N) e, mul-le-mul few c, transitions-most M s)
+    omega (arith, rooms (length (steps M s)) (states-of N) e, mul-le-mul few c)
 
 pub flow-within : {f g ranks x : List ℕ} {s t : ℕ} → Chosen f g ranks x s t → (xs : ℕ → Amounts) → length (flow-bytes (table-of f) (table-of g) s t xs) ≤ flow-room (table-of f) (table-of g) s
 unfolding flow-bytes flow-room

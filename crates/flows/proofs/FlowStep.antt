@@ -15,7 +15,7 @@ use Rattle.buffer.specs.Buffer.{Filled}
 use Rattle.flows.specs.Flow.{flow-of, step-room}
 use Rattle.flows.specs.FlowSteps.{SharesKept, Records, Searched, Found, Shown}
 
--- targets are states, of which there are at most 64
+-- targets are states, of which there are at most most-states
 pub target-byte : (f : List ℕ) → Loaded f → (j : ℕ) → j < transitions-of f → (k : ℕ) → k < length (targets (transition-at f j))
     → getD (targets (transition-at f j)) k 0 < 256
 target-byte f l j h k lt = omega (arith, distribution-at f l j h .in-range k (omega (arith, targets-length (transition-at f j))), limits f l .states-few)

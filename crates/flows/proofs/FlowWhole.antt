@@ -10,13 +10,14 @@ use native.Mathlib.Omega.{arith}
 use lib.Dec.{T, eqb}
 use lib.ListN.{length, set, length-set}
 use borrow.Author.Tests.{eq-eqb, ne-eqb}
+use Rattle.simulation.specs.Limits.{most-transitions, most-of-state}
 use Rattle.simulation.specs.Fit.{Amounts}
 use Rattle.simulation.specs.Table.{Table, targets, states-of, steps, transition}
 use Rattle.simulation.specs.Round.{fits-step, pairs}
 use Rattle.simulation.proofs.Simulation.Rounds.{in-matched}
 use Rattle.simulation.proofs.Simulation.Greatest.{kept-in}
 use Rattle.form.specs.Form.{table-of, start-of, transitions-of, transition-at}
-use Rattle.form.proofs.FormLaws.{limits, counts, start-bound, transition-number, transition-of}
+use Rattle.form.proofs.FormLaws.{limits, counts, transition-number, transition-of}
 use Rattle.matrix.specs.Matrix.{cell}
 use Rattle.buffer.specs.Buffer.{Filled}
 use Rattle.flows.specs.Flow.{count, one-flow, place-of, partner, step-room, Right, flow-bytes, flow-room}
@@ -78,19 +79,13 @@ module _ {f g ranks x : List ℕ} {s t start : ℕ} (p : Pair f g ranks x s t st
   pub count-ordered : {end : ℕ} → end ≡ start-of f (s + 1) → start ≤ end
   count-ordered e = omega (arith, counts f (q .ready .ranked .first-loaded) s (q .first), p .from)
 
-  pub count-few : n ≤ 128
-  count-few =
-      omega (
-        arith,
-        counts f (q .ready .ranked .first-loaded) s (q .first),
-        start-bound f (q .ready .ranked .first-loaded) (s + 1) (omega (arith, q .first)),
-        limits f (q .ready .ranked .first-loaded) .transitions-few,
-      )
+  pub count-few : n ≤ most-of-state
+  count-few = omega (arith, q .ready .ranked .first-loaded .valid .few-each s (q .first))
 
   number-below : (k : ℕ) → k < n → start + k < transitions-of f
   number-below k lt = omega (arith, transition-number f (q .ready .ranked .first-loaded) s k (q .first) lt, p .from)
 
-  pub number-fits : (k : ℕ) → k < n → start + k < 128
+  pub number-fits : (k : ℕ) → k < n → start + k < most-transitions
   number-fits k lt = omega (arith, number-below k lt, limits f (q .ready .ranked .first-loaded) .transitions-few)
 
   step-is : (k : ℕ) → k < n → transition-at f (start + k) ≡ transition M s k

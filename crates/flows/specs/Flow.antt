@@ -9,7 +9,7 @@ use Rattle.simulation.specs.Sum.{sum, when, below, concat}
 use Rattle.simulation.specs.Fit.{Amounts, Shares}
 use Rattle.simulation.specs.Table.{Transition, Table, weights, targets, states-of, steps, transition}
 use Rattle.simulation.specs.Round.{Relation, between, fits-step, round}
-use Rattle.form.specs.Limits.{most-states, most-transitions, most-entries}
+use Rattle.simulation.specs.Limits.{most-states, most-of-state, most-entries}
 use Rattle.relate.specs.Ranked.{kept-relation}
 
 -- the place of the first like-coded transition that m fits in R
@@ -85,6 +85,6 @@ module _ (M N : Table) where
   unfolding sum
   flow-room s = 1 + sum (length (steps M s)) (λ k. step-room N (transition M s k))
 
--- the most that it must have: all transitions and all entries are those of one state, over a table with all states
+-- the most that it must have: a state has all the transitions that it can have, and they have all entries, over a table with all states
 abbrev pub most-flow : ℕ
-most-flow = 1 + 3 * most-transitions + 6 * most-entries * most-states
+most-flow = 1 + 3 * most-of-state + 6 * most-entries * most-states

@@ -6,6 +6,7 @@ use mathlib.Core.List.{List}
 use Prim.Native.Nat.{ℕ, _≤_, _<_}
 use lib.Dec.{T}
 use lib.ListN.{length, getD}
+use Rattle.simulation.specs.Limits.{most-pairs, most-states}
 use Rattle.simulation.specs.Fit.{Amounts, Shares}
 use Rattle.simulation.specs.Table.{Transition, Table, weights, states-of, steps, transition}
 use Rattle.simulation.specs.Round.{between, fits-step}
@@ -16,25 +17,25 @@ use Rattle.buffer.specs.Buffer.{Filled}
 use Rattle.relate.specs.Ranked.{Ranked, kept-relation}
 use Rattle.flows.specs.Flow.{place, one-flow, Right, flow-bytes}
 
--- at most 64 targets to share a target out over, all of one byte, and a row of amounts
+-- at most most-states targets to share a target out over, all of one byte, and a row of amounts
 pub record Row (nt x : List ℕ) (i : ℕ) : Type 0 where
-  pub row : i < 64
-  pub few : length nt ≤ 64
+  pub row : i < most-states
+  pub few : length nt ≤ most-states
   pub targets : (j : ℕ) → j < length nt → getD nt j 0 < 256
-  pub cells : 4096 ≤ length x
+  pub cells : most-pairs ≤ length x
 
 -- the same for all rows
 pub record Records (mt nt x : List ℕ) : Type 0 where
-  pub rows : length mt ≤ 64
-  pub few : length nt ≤ 64
+  pub rows : length mt ≤ most-states
+  pub few : length nt ≤ most-states
   pub sources : (i : ℕ) → i < length mt → getD mt i 0 < 256
   pub targets : (j : ℕ) → j < length nt → getD nt j 0 < 256
-  pub cells : 4096 ≤ length x
+  pub cells : most-pairs ≤ length x
 
 -- two tables, the ranks of all pairs, and room for amounts
 pub record Ready (f g ranks x : List ℕ) : Type 0 where
   pub ranked : Ranked f g ranks
-  pub cells : 4096 ≤ length x
+  pub cells : most-pairs ≤ length x
 
 -- a transition of each table, by its number
 pub record Numbered (f g ranks x : List ℕ) (i j : ℕ) : Type 0 where

@@ -1,6 +1,9 @@
 // The flows of a kept pair: each transition of s with the transition of t that it is shared out over, and the amounts.
 use crate::records;
 use crate::records::Record;
+use relation::Relation;
+use relation::set;
+use simulation::Table;
 ghost use mathlib.Core.Path.{_≡_};
 ghost use Prim.Native.Nat.{_+_, _*_, _<_, _≤_};
 ghost use lib.ListN.{length};
@@ -22,7 +25,7 @@ fn put_row(s: u8, nt: &[u16], x: &[u32], i: usize, buf: &mut [u8]) -> usize
         from: 0,
         to: 0,
         amount: 0,
-    }; 64];
+    }; Table::STATES];
     let n = records::gather(s, nt, x, i, &mut rs);
     records::write_all(&rs, n, buf) * 6
 }
@@ -60,8 +63,8 @@ fn put_one(place: usize, mt: &[u16], nt: &[u16], x: &[u32], buf: &mut [u8]) -> u
 }
 
 // The rows of a relation before they are written.
-fn no_rows() -> [u64; 64] {
-    [0u64; 64]
+fn no_rows() -> [u64; Relation::WORDS] {
+    [0u64; Relation::WORDS]
 }
 
 // The transition i of the first table fits the transition j of the second in the relation of kept pairs; if it does, x has the amounts.
@@ -74,7 +77,7 @@ fn fits(first: &[u16], second: &[u16], ranks: &[u16], i: usize, j: usize, x: &mu
     }
     let mut rel = no_rows();
     relate::rows(first, second, ranks, KEPT, i, j, &mut rel);
-    transport::transport(form::weights(first, i), form::weights(second, j), &rel, x) == 0
+    set::is_empty(transport::transport(form::weights(first, i), form::weights(second, j), &rel, x))
 }
 
 // The place in t of the first transition that the transition i of the first table fits, of which there is one; x has the amounts.

@@ -1,4 +1,5 @@
 // The amounts of a flow as a lent slice of records, gathered row by row, and written out by a thin function over it.
+use simulation::Table;
 ghost use mathlib.Core.Path.{_≡_};
 ghost use mathlib.Core.Bool.{not};
 ghost use Prim.Native.Nat.{_≤_, _<_, _+_, _*_};
@@ -20,7 +21,7 @@ fn record_at(s: u8, nt: &[u16], x: &[u32], i: usize, j: usize) -> Record
     requires { ⌜ Row (now nt) (now x) i × (j < length (now nt)) ⌝ }
     ensures { λ r. ⌜ r ≡ cell-record s (now (nt .entry)) (cell (now (x .entry)) i) j ⌝ }
 {
-    let amount = x[i * 64 + j];
+    let amount = x[i * Table::STATES + j];
     Record {
         from: s,
         to: nt[j] as u8,

@@ -12,7 +12,7 @@ use Rattle.simulation.specs.Fit.{total}
 use Rattle.simulation.specs.Table.{Entry, Transition, weights, targets, states-of, steps, no-transition, transition}
 use Rattle.simulation.specs.Demands.{Sound}
 use Rattle.simulation.proofs.Finite.Lists.{below-at, below-past, below-length}
-use Rattle.form.specs.Limits.{most-states, most-transitions, most-entries, most-total}
+use Rattle.simulation.specs.Limits.{most-states, most-transitions, most-entries, most-total, most-of-state, most-pairs}
 use Rattle.form.specs.Valid.{Distribution}
 use Rattle.form.specs.Form.{Loaded, targets-from, weights-from, count-of, start-of, transitions-of, entry-start, size-of, column-of, entry-at, transition-at, table-of, Span}
 use Rattle.form.proofs.Lists.{getD-below, map-below}
@@ -103,6 +103,9 @@ module _ (f : List ℕ) (l : Loaded f) where
       let b : s < count-of f = omega (arith, states-count f) in
       omega (arith, steps-count f s b, l .ordered s b)
 
+  pub few-each : (s : ℕ) → s < states-of (table-of f) → start-of f (s + 1) ≤ start-of f s + most-of-state
+  few-each s h = omega (arith, counts s h, l .valid .few-each s h)
+
   -- the transition k of the state s is one of all transitions
   pub transition-number : (s k : ℕ) → s < states-of (table-of f) → k < length (steps (table-of f) s) → start-of f s + k < transitions-of f
   transition-number s k h b = omega (arith, counts s h, start-bound (s + 1) (omega arith))
@@ -171,6 +174,6 @@ module _ (f : List ℕ) (l : Loaded f) where
   pub sound : Sound (table-of f)
   sound = shaped-sound (table-of f) (l .valid .shape)
 
--- two tables have at most 4,096 pairs
-pub few-pairs : (f g : List ℕ) → Loaded f → Loaded g → states-of (table-of f) * states-of (table-of g) ≤ 4096
+-- two tables have no more pairs than the limits allow
+pub few-pairs : (f g : List ℕ) → Loaded f → Loaded g → states-of (table-of f) * states-of (table-of g) ≤ most-pairs
 few-pairs f g l k = mul-le-mul (limits f l .states-few) (limits g k .states-few)

@@ -6,7 +6,7 @@ use Prim.Native.Nat.{ℕ, _+_, _-_, _≤_, _<_}
 use lib.ListN.{length, getD}
 use Rattle.simulation.specs.Sum.{below}
 use Rattle.simulation.specs.Table.{Entry, Transition, Table}
-use Rattle.form.specs.Limits.{most-codes, most-states, most-transitions, most-entries}
+use Rattle.simulation.specs.Limits.{most-codes, most-states, most-transitions, most-entries}
 use Rattle.form.specs.Valid.{Valid}
 
 -- where each part begins: the count of states, the count of listed codes, the starts of the states' transitions, the starts of the transitions' entries,

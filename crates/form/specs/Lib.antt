@@ -1,6 +1,5 @@
 -- The definitions, in reading order.
 -- Assumes nothing.
-pub mod Limits
 pub mod Items
 pub mod Valid
 pub mod Form

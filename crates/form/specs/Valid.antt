@@ -7,7 +7,7 @@ use lib.ListN.{length, getD}
 use Rattle.simulation.specs.Fit.{weight, total}
 use Rattle.simulation.specs.Table.{Transition, Table, weights, target-at, states-of, steps, transition}
 use Rattle.form.specs.Items.{all-transitions, all-entries}
-use Rattle.form.specs.Limits.{most-codes, most-states, most-transitions, most-entries, most-total}
+use Rattle.simulation.specs.Limits.{most-codes, most-states, most-transitions, most-of-state, most-entries, most-total}
 
 -- action codes: few enough for their count, bytes, strictly ascending
 pub record Codes (codes : List ℕ) : Type 0 where
@@ -27,7 +27,7 @@ pub record Distribution (n : ℕ) (m : Transition) : Type 0 where
   pub positive : (i : ℕ) → i < length (m .entries) → 0 < weight (weights m) i
   pub small : total (weights m) ≤ most-total
 
--- all but the codes: states, transitions and entries. Of accepted numbers this holds even if they are not bytes
+-- states, transitions and entries, but for what follows from a byte's size: of accepted numbers this holds even if they are not bytes
 pub record Shaped (M : Table) : Type 0 where
   pub some : 0 < states-of M
   pub few-states : states-of M ≤ most-states
@@ -39,3 +39,4 @@ pub record Shaped (M : Table) : Type 0 where
 pub record Valid (M : Table) : Type 0 where
   pub codes : Codes (M .codes)
   pub shape : Shaped M
+  pub few-each : (s : ℕ) → s < states-of M → length (steps M s) ≤ most-of-state

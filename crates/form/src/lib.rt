@@ -1,25 +1,9 @@
 // The decoded form of a table: one slice of 16-bit numbers, in compressed sparse rows, that all later code reads.
+use simulation::Table;
 ghost use mathlib.Core.Path.{_≡_};
 ghost use Prim.Native.Nat.{_≤_, _<_};
 ghost use Rattle.simulation.specs.Table.{weights, targets, states-of};
 ghost use Rattle.form.specs.Form.{start-of, transitions-of, column-of, transition-at, table-of, Loaded, Span};
-
-// The limits of a table.
-pub struct Table {}
-
-impl Table {
-    // The codes listed.
-    pub const CODES: usize = 255;
-
-    pub const STATES: usize = 64;
-
-    pub const TRANSITIONS: usize = 128;
-
-    pub const ENTRIES: usize = 512;
-
-    // The total of a transition's weights.
-    pub const TOTAL: usize = 65535;
-}
 
 // Where the parts of a form begin.
 pub struct Form {}

@@ -1,7 +1,7 @@
 -- The greedy start's loops: the columns of a row, and the rows.
 -- Assumes nothing.
-use mathlib.Core.Path.{_≡_, refl, sym, ap, ap₂, _∙_, subst}
-use mathlib.Core.Bool.{Bool, true, false, not}
+use mathlib.Core.Path.{_≡_, refl, sym, ap, ap₂, _∙_, subst, fun-ext}
+use mathlib.Core.Bool.{Bool, true, false, not, _&&_}
 use mathlib.Core.List.{List}
 use mathlib.Core.Logic.{_≢_, ⊎-elim}
 use Prim.Native.Nat.{ℕ, zero, suc, _+_, _-_, _≤_, _<_, min}
@@ -9,12 +9,15 @@ use native.Mathlib.Decide.{ℕ-discrete}
 use native.Mathlib.Omega.{arith}
 use lib.Dec.{eqb}
 use lib.ListN.{getD}
-use borrow.Author.Tests.{ne-eqb}
+use borrow.Author.Tests.{eq-eqb, ne-eqb}
+use Rattle.simulation.specs.Limits.{most-states}
 use Rattle.simulation.specs.Sum.{sum, when}
-use Rattle.relation.specs.Mask.{member, without-member, both, Lowest}
-use Rattle.relation.proofs.Mask.{below-or-not}
-use Rattle.matrix.specs.Matrix.{cell, delta, row-sum, column-sum, Adds}
+use Rattle.relation.specs.Mask.{Test, member, without-member, both, Lowest}
+use Rattle.relation.specs.Words.{row-of}
+use Rattle.relation.proofs.Mask.{member-none, below-or-not}
+use Rattle.matrix.specs.Matrix.{cell}
 use Rattle.matrix.specs.Problem.{relates}
+use Rattle.matrix.specs.Matrix.{delta, row-sum, column-sum, Adds}
 use Rattle.matrix.specs.Masks.{MaskOf}
 use Rattle.matrix.specs.Flow.{Preserves}
 use Rattle.greedy.specs.Greedy.{Greedy, RowFilled}
@@ -54,6 +57,13 @@ column-idle : (k n j : ℕ) (x : List ℕ) → k ≤ n → ((i : ℕ) → k ≤ 
 unfolding column-sum
 column-idle k n j x l h = sum-idle-to k n (λ i. cell x i j) l h
 
+-- what is left to visit: nothing once the row has nothing left to send
+pub stopped : {v : ℕ} (X : Test) → v ≡ 0 → member 0 ≡ both (λ k. not (eqb v 0)) X
+stopped X e = fun-ext (λ k. member-none k ∙ ap (λ b. not b && X k) (sym (eq-eqb _ 0 e)))
+
+pub going : {v : ℕ} {Z : Test} (X : Test) → v ≢ 0 → Z ≡ X → Z ≡ both (λ k. not (eqb v 0)) X
+going X n e = e ∙ fun-ext (λ k. ap (λ b. not b && X k) (sym (ne-eqb _ 0 n)))
+
 -- row i is filled up to column `next`; a column from there on that is not left gets nothing
 pub record Filling (q i : ℕ) (rel a₀ b₀ x₀ x a b : List ℕ) (left : ℕ) : Type 0 where
   pub next : ℕ
@@ -64,20 +74,20 @@ pub record Filling (q i : ℕ) (rel a₀ b₀ x₀ x a b : List ℕ) (left : ℕ
   pub later : (j : ℕ) → member left j ≡ true → next ≤ j
   pub idle : (j : ℕ) → next ≤ j → j < q → member left j ≡ false → when (relates rel i j) (min (getD a i 0) (getD b₀ j 0)) ≡ 0
   pub sent : row-sum q x i + getD a i 0 ≡ getD a₀ i 0
-  pub others : (k j : ℕ) → k ≢ i → j < 64 → cell x k j ≡ cell x₀ k j
+  pub others : (k j : ℕ) → k ≢ i → j < most-states → cell x k j ≡ cell x₀ k j
 
 pub filling-none : {q i : ℕ} {rel x a b : List ℕ} {free left : ℕ} → ((j : ℕ) → j < q → cell x i j ≡ 0) → MaskOf q (λ j. getD b j 0) free
-    → member left ≡ both (member (getD rel i 0)) (member free) → Filling q i rel a b x x a b left
+    → member left ≡ both (member (row-of rel i)) (member free) → Filling q i rel a b x x a b left
 filling-none {q} {i} {rel} {x} {a} {b} {free} {left} z m e = record {
   next = 0;
   each = λ j l. absurd (omega arith);
   clean = λ j l h. z j h;
   same = λ j l. refl;
-  part = λ j t. let w = both-at (member (getD rel i 0)) (member free) j e t in (m .below j (w .1), w .0);
+  part = λ j t. let w = both-at (member (row-of rel i)) (member free) j e t in (m .below j (w .1), w .0);
   later = λ j t. omega arith;
   idle = λ j l h t. when-none (relates rel i j) (min (getD a i 0) (getD b j 0)) (λ r. elim (ℕ-discrete (getD b j 0) 0) [
     | yes c ↦ omega arith
-    | no o ↦ absurd (neither (m .there j h o) (both-out (member (getD rel i 0)) (member free) j e t r))
+    | no o ↦ absurd (neither (m .there j h o) (both-out (member (row-of rel i)) (member free) j e t r))
   ]);
   sent = omega (arith, row-none q i x z);
   others = λ k j o l. refl;
@@ -98,14 +108,14 @@ module _ {q i : ℕ} {rel a₀ b₀ x₀ x a b : List ℕ} {left : ℕ} (s : Fil
   }
 
   -- the lowest column that is left gets as much as both have
-  module _ {j : ℕ} (l : Lowest (member left) j) (w : q ≤ 64) {x′ : List ℕ} (t : Adds x x′ i j (min (getD a i 0) (getD b j 0))) where
+  module _ {j : ℕ} (l : Lowest (member left) j) (w : q ≤ most-states) {x′ : List ℕ} (t : Adds x x′ i j (min (getD a i 0) (getD b j 0))) where
     h : j < q
     h = s .part j (l .here) .0
 
     before : (k : ℕ) → k < j → k < q → cell x i k ≡ when (relates rel i k) (min (getD a₀ i 0 - row-sum k x i) (getD b₀ k 0))
     before k m n = ⊎-elim (λ c. s .each k c n) (λ c. skipped k c n (l .before k m)) (below-or-not k (s .next))
 
-    kept : (k : ℕ) → k < 64 → k ≢ j → cell x′ i k ≡ cell x i k
+    kept : (k : ℕ) → k < most-states → k ≢ j → cell x′ i k ≡ cell x i k
     kept k m n = adds-column t i k m (λ e. n (sym e))
 
     row-before : (k : ℕ) → k ≤ j → row-sum k x′ i ≡ row-sum k x i
@@ -148,7 +158,7 @@ module _ {q i : ℕ} {rel a₀ b₀ x₀ x a b : List ℕ} {left : ℕ} (s : Fil
 pub greedy-none : {q : ℕ} {rel : List ℕ} {s d : ℕ → ℕ} {x : List ℕ} → Greedy 0 q rel s d x
 greedy-none = record { each = λ i j h. absurd (omega arith) }
 
-module _ {p q n : ℕ} {rel a₀ b₀ x₀ x a b x′ : List ℕ} (hp : n < p) (w : q ≤ 64) (z₀ : (i j : ℕ) → i < p → j < q → cell x₀ i j ≡ 0) (z : (i j : ℕ) → n ≤ i → i < p → j < q → cell x i j ≡ 0)
+module _ {p q n : ℕ} {rel a₀ b₀ x₀ x a b x′ : List ℕ} (hp : n < p) (w : q ≤ most-states) (z₀ : (i j : ℕ) → i < p → j < q → cell x₀ i j ≡ 0) (z : (i j : ℕ) → n ≤ i → i < p → j < q → cell x i j ≡ 0)
     (k : Preserves p q x₀ a₀ b₀ x a b) (f : RowFilled q n rel a b x x′) where
   row-left : getD a n 0 ≡ getD a₀ n 0
   row-left = omega (arith, k .sent n hp, row-none q n x (λ j h. z n j (omega arith) hp h), row-none q n x₀ (λ j h. z₀ n j hp h))

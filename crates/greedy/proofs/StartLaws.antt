@@ -8,10 +8,13 @@ use native.Mathlib.Decide.{ℕ-discrete}
 use native.Mathlib.Omega.{arith}
 use lib.ListN.{length, getD, set}
 use lib.Seq.{getD-set-same, getD-set-other}
+use Rattle.simulation.specs.Limits.{most-states}
 use Rattle.simulation.specs.Fit.{weight, total}
 use Rattle.simulation.proofs.Finite.Sums.{sum-mono, sum-mul, sum-term}
-use Rattle.matrix.specs.Matrix.{cell, row-sum, column-sum}
+use Rattle.relation.specs.Words.{row-of, height}
+use Rattle.matrix.specs.Matrix.{cell}
 use Rattle.matrix.specs.Problem.{Given}
+use Rattle.matrix.specs.Matrix.{row-sum, column-sum}
 use Rattle.matrix.specs.Flow.{missing, Flow, Preserves}
 use Rattle.greedy.specs.Start.{Supplies, RowCleared, Cleared, Begun, Balanced}
 use Rattle.matrix.proofs.MatrixLaws.{row-none, column-none, outside-refl}
@@ -42,14 +45,14 @@ weight-le ws i h = sum-term (length ws) (weight ws) i h
 pub row-cleared-none : {i : ℕ} (x : List ℕ) → RowCleared i 0 x x
 row-cleared-none x = record { zero = λ j h. absurd (omega arith); other-rows = λ k j h l. refl; later = λ k j h l. refl }
 
-pub row-cleared-next : {i n : ℕ} {x y : List ℕ} → n < 64 → i * 64 + n < length y → RowCleared i n x y → RowCleared i (n + 1) x (set y (i * 64 + n) 0)
+pub row-cleared-next : {i n : ℕ} {x y : List ℕ} → n < most-states → i * most-states + n < length y → RowCleared i n x y → RowCleared i (n + 1) x (set y (i * most-states + n) 0)
 row-cleared-next {i} {n} {x} {y} w h s = record {
   zero = λ j l. elim (ℕ-discrete j n) [
-    | yes c ↦ subst (λ (k : ℕ). cell (set y (i * 64 + n) 0) i k ≡ 0) (sym c) (getD-set-same y (i * 64 + n) 0 0 h)
-    | no o ↦ getD-set-other y (i * 64 + n) (i * 64 + j) 0 0 (λ c. o (omega arith)) ∙ s .zero j (omega arith)
+    | yes c ↦ subst (λ (k : ℕ). cell (set y (i * most-states + n) 0) i k ≡ 0) (sym c) (getD-set-same y (i * most-states + n) 0 0 h)
+    | no o ↦ getD-set-other y (i * most-states + n) (i * most-states + j) 0 0 (λ c. o (omega arith)) ∙ s .zero j (omega arith)
   ];
-  other-rows = λ k j o l. getD-set-other y (i * 64 + n) (k * 64 + j) 0 0 (λ c. o (omega arith)) ∙ s .other-rows k j o l;
-  later = λ k j o l. getD-set-other y (i * 64 + n) (k * 64 + j) 0 0 (λ c. omega arith) ∙ s .later k j (omega arith) l;
+  other-rows = λ k j o l. getD-set-other y (i * most-states + n) (k * most-states + j) 0 0 (λ c. o (omega arith)) ∙ s .other-rows k j o l;
+  later = λ k j o l. getD-set-other y (i * most-states + n) (k * most-states + j) 0 0 (λ c. omega arith) ∙ s .later k j (omega arith) l;
 }
 
 pub row-cleared-end : {i n m : ℕ} {x y : List ℕ} → n ≡ m → RowCleared i n x y → RowCleared i m x y
@@ -58,7 +61,7 @@ row-cleared-end {i} {x = x} {y = y} e s = subst (λ (n : ℕ). RowCleared i n x 
 pub cleared-none : {q : ℕ} (x : List ℕ) → Cleared 0 q x x
 cleared-none x = record { zero = λ i j h. absurd (omega arith); outside = outside-refl x }
 
-pub cleared-next : {i q : ℕ} {x y z : List ℕ} → q ≤ 64 → Cleared i q x y → RowCleared i q y z → Cleared (i + 1) q x z
+pub cleared-next : {i q : ℕ} {x y z : List ℕ} → q ≤ most-states → Cleared i q x y → RowCleared i q y z → Cleared (i + 1) q x z
 cleared-next {i} {q} {x} {y} {z} w s t = record {
   zero = λ k j h l. elim (ℕ-discrete k i) [
     | yes c ↦ subst (λ (k : ℕ). cell z k j ≡ 0) (sym c) (t .zero j l)
@@ -81,8 +84,8 @@ module _ {ws vs x₀ x a b : List ℕ} (s : Begun ws vs x₀ x a b) where
   no-column j h = column-none (length ws) j x (λ i l. s .cleared .zero i j l h)
 
   -- nothing is sent
-  pub begun : {rel : List ℕ} (users : List ℕ) → Given ws vs rel x₀ → length x ≡ length x₀ → length ws ≤ length a → length vs ≤ length b → 64 ≤ length users
-      → ((j : ℕ) → getD users j 0 ≡ 0) → Flow (length ws) (length vs) rel x a b users
+  pub begun : {rel : List ℕ} (users : List ℕ) → Given ws vs rel x₀ → length x ≡ length x₀ → length ws ≤ length a → length vs ≤ length b → most-states ≤ height users
+      → ((j : ℕ) → row-of users j ≡ 0) → Flow (length ws) (length vs) rel x a b users
   begun users g lx la lb lu u = record {
     sized = record { few-rows = g .few-rows; few-columns = g .few-columns; masks = g .masks; cells = omega (arith, g .cells); supplies = la; demands = lb; columns = lu };
     supported = record { support = λ i j h l n. absurd (n (s .cleared .zero i j h l)) };

@@ -5,6 +5,7 @@ use mathlib.Core.List.{List}
 use mathlib.Core.Logic.{_≢_}
 use Prim.Native.Nat.{ℕ, _-_, _<_, min}
 use lib.ListN.{getD}
+use Rattle.simulation.specs.Limits.{most-states}
 use Rattle.simulation.specs.Sum.{when}
 use Rattle.matrix.specs.Matrix.{cell, row-sum, column-sum}
 use Rattle.matrix.specs.Problem.{relates}
@@ -16,4 +17,4 @@ pub record Greedy (p q : ℕ) (rel : List ℕ) (s d : ℕ → ℕ) (x : List ℕ
 -- one row of it, with what was left before the row in a and b; the other rows stay
 pub record RowFilled (q i : ℕ) (rel a b x x′ : List ℕ) : Type 0 where
   pub each : (j : ℕ) → j < q → cell x′ i j ≡ when (relates rel i j) (min (getD a i 0 - row-sum j x′ i) (getD b j 0))
-  pub others : (k j : ℕ) → k ≢ i → j < 64 → cell x′ k j ≡ cell x k j
+  pub others : (k j : ℕ) → k ≢ i → j < most-states → cell x′ k j ≡ cell x k j

@@ -5,6 +5,7 @@ use mathlib.Core.List.{List}
 use mathlib.Core.Logic.{_≢_}
 use Prim.Native.Nat.{ℕ, _+_, _*_, _≤_, _<_}
 use lib.ListN.{length, getD}
+use Rattle.simulation.specs.Limits.{most-states}
 use Rattle.simulation.specs.Fit.{weight, total}
 use Rattle.matrix.specs.Matrix.{cell, Outside, row-sum, column-sum}
 
@@ -15,8 +16,8 @@ pub record Supplies (ws : List ℕ) (other n : ℕ) (a : List ℕ) : Type 0 wher
 -- y is x with zeros in the first n cells of row i
 pub record RowCleared (i n : ℕ) (x y : List ℕ) : Type 0 where
   pub zero : (j : ℕ) → j < n → cell y i j ≡ 0
-  pub other-rows : (k j : ℕ) → k ≢ i → j < 64 → cell y k j ≡ cell x k j
-  pub later : (k j : ℕ) → n ≤ j → j < 64 → cell y k j ≡ cell x k j
+  pub other-rows : (k j : ℕ) → k ≢ i → j < most-states → cell y k j ≡ cell x k j
+  pub later : (k j : ℕ) → n ≤ j → j < most-states → cell y k j ≡ cell x k j
 
 -- y is x with zeros in the first q cells of the first p rows
 pub record Cleared (p q : ℕ) (x y : List ℕ) : Type 0 where

@@ -4,17 +4,22 @@ use matrix::place;
 use matrix::positive;
 use matrix::smaller;
 use matrix::wide;
+use relation::rows;
 use relation::set;
+use relation::set::Set;
+use relation::walk;
+use simulation::Table;
 ghost use mathlib.Core.Path.{_≡_};
-ghost use mathlib.Core.Bool.{true, not};
+ghost use mathlib.Core.Bool.{true};
 ghost use mathlib.Core.Logic.{_≢_};
 ghost use Prim.Native.Nat.{ℕ, _≤_, _<_, min};
-ghost use lib.Dec.{eqb};
 ghost use lib.ListN.{length, getD};
+ghost use Rattle.simulation.specs.Limits.{most-pairs, most-states};
 ghost use Rattle.simulation.specs.Fit.{total};
-ghost use Rattle.relation.specs.Mask.{member, without-member, both, Lowest};
-ghost use Rattle.matrix.specs.Matrix.{cell, Adds};
+ghost use Rattle.relation.specs.Words.{mask};
+ghost use Rattle.matrix.specs.Matrix.{cell};
 ghost use Rattle.matrix.specs.Problem.{relates};
+ghost use Rattle.matrix.specs.Matrix.{Adds};
 ghost use Rattle.matrix.specs.Masks.{MaskOf};
 ghost use Rattle.matrix.specs.Flow.{Flow, Improves};
 ghost use Rattle.greedy.specs.Greedy.{RowFilled, Greedy};
@@ -22,7 +27,7 @@ ghost use Rattle.greedy.specs.Start.{Supplies, RowCleared, Cleared, Begu
 
 // The total of a distribution's weights.
 pub fn total_weight(w: &[u16]) -> u32
-    requires { ⌜ length (now w) ≤ 64 ⌝ }
+    requires { ⌜ length (now w) ≤ most-states ⌝ }
     ensures { λ r. ⌜ r ≡ total (now (w .entry)) ⌝ }
 {
     let mut s = 0u32;
@@ -48,12 +53,12 @@ fn supply(w: &[u16], other: u32, a: &mut [u32])
 
 // Zeros in the first q cells of row i.
 fn clear_row(x: &mut [u32], i: usize, q: usize)
-    requires { ⌜ (i < 64) × (q ≤ 64) × (4096 ≤ length (now x)) ⌝ }
+    requires { ⌜ (i < most-states) × (q ≤ most-states) × (most-pairs ≤ length (now x)) ⌝ }
     ensures { λ r. ⌜ RowCleared i q (now (x .entry)) (now (x .exit)) ⌝ }
 {
     let mut j = 0;
     while j < q {
-        let at = i * 64 + j;
+        let at = i * Table::STATES + j;
         x[at] = 0;
         j += 1;
     }
@@ -61,7 +66,7 @@ fn clear_row(x: &mut [u32], i: usize, q: usize)
 
 // Zeros in the first q cells of the first p rows.
 fn clear(x: &mut [u32], p: usize, q: usize)
-    requires { ⌜ (p ≤ 64) × (q ≤ 64) × (4096 ≤ length (now x)) ⌝ }
+    requires { ⌜ (p ≤ most-states) × (q ≤ most-states) × (most-pairs ≤ length (now x)) ⌝ }
     ensures { λ r. ⌜ Cleared p q (now (x .entry)) (now (x .exit)) ⌝ }
 {
     let mut i = 0;
@@ -73,7 +78,7 @@ fn clear(x: &mut [u32], p: usize, q: usize)
 
 // What there is to send and to take, and nothing sent.
 pub fn begin(m: &[u16], n: &[u16], x: &mut [u32], a: &mut [u32], b: &mut [u32])
-    requires { ⌜ (length (now m) ≤ 64) × (length (now n) ≤ 64) × (length (now m) ≤ length (now a)) × (length (now n) ≤ length (now b)) × (4096 ≤ length (now x)) × (total (now m) < 65536) × (total (now n) < 65536) ⌝ }
+    requires { ⌜ (length (now m) ≤ most-states) × (length (now n) ≤ most-states) × (length (now m) ≤ length (now a)) × (length (now n) ≤ length (now b)) × (most-pairs ≤ length (now x)) × (total (now m) < 65536) × (total (now n) < 65536) ⌝ }
     ensures { λ r. ⌜ Begun (now (m .entry)) (now (n .entry)) (now (x .entry)) (now (x .exit)) (now (a .exit)) (now (b .exit)) ⌝ }
 {
     supply(m, total_weight(n), a);
@@ -102,17 +107,6 @@ fn fill_cell(
     b[j] = b[j] - d;
 }
 
-// What is left to visit while there is something to send.
-fn rest(left: u64, more: u32) -> u64
-    requires { ⌜ 0 < left ⌝ }
-    ensures { λ r. ⌜ ((t : ℕ) → Lowest (member left) t → member r ≡ both (λ k. not (eqb more 0)) (without-member t (member left))) × (r < left) ⌝ }
-{
-    if more == 0 {
-        return 0;
-    }
-    set::without_lowest(left)
-}
-
 // Row i sends to its free columns in turn. Returns the columns that are still free. Only the contract reads p and q.
 fn fill_row(
     x: &mut [u32],
@@ -123,18 +117,24 @@ fn fill_row(
     p: usize,
     q: usize,
     i: usize,
-    free: u64,
-) -> u64
-    requires { ⌜ Flow p q (now rel) (now x) (now a) (now b) (now users) × (i < p) × MaskOf q (λ j. getD (now b) j 0) free × ((j : ℕ) → j < q → cell (now x) i j ≡ 0) ⌝ }
-    ensures { λ r. ⌜ Improves p q (now (rel .entry)) (now (x .entry)) (now (a .entry)) (now (b .entry)) (now (users .entry)) (now (x .exit)) (now (a .exit)) (now (b .exit)) (now (users .exit)) × MaskOf q (λ j. getD (now (b .exit)) j 0) r × RowFilled q i (now (rel .entry)) (now (a .entry)) (now (b .entry)) (now (x .entry)) (now (x .exit)) ⌝ }
+    free: Set,
+) -> Set
+    requires { ⌜ Flow p q (now rel) (now x) (now a) (now b) (now users) × (i < p) × MaskOf q (λ j. getD (now b) j 0) (mask free) × ((j : ℕ) → j < q → cell (now x) i j ≡ 0) ⌝ }
+    ensures { λ r. ⌜ Improves p q (now (rel .entry)) (now (x .entry)) (now (a .entry)) (now (b .entry)) (now (users .entry)) (now (x .exit)) (now (a .exit)) (now (b .exit)) (now (users .exit)) × MaskOf q (λ j. getD (now (b .exit)) j 0) (mask r) × RowFilled q i (now (rel .entry)) (now (a .entry)) (now (b .entry)) (now (x .entry)) (now (x .exit)) ⌝ }
 {
     let mut still = free;
-    let mut left = set::intersection(rel[i], free);
-    while left != 0 {
-        let j = set::lowest(left);
-        fill_cell(x, a, b, users, rel, p, q, i, j);
-        still = marked(still, j, b[j]);
-        left = rest(left, a[i]);
+    let near = set::intersection(rows::get(rel, i), free);
+    for w in 0..Set::WORDS {
+        let mut left = near.words[w];
+        while left != 0 {
+            let j = walk::lowest(near, w, left);
+            fill_cell(x, a, b, users, rel, p, q, i, j);
+            still = marked(still, j, b[j]);
+            if a[i] == 0 {
+                return still;
+            }
+            left = walk::without_lowest(near, w, left);
+        }
     }
     still
 }
@@ -148,9 +148,9 @@ pub fn fill(
     rel: &[u64],
     p: usize,
     q: usize,
-) -> u64
+) -> Set
     requires { ⌜ Flow p q (now rel) (now x) (now a) (now b) (now users) × ((i j : ℕ) → i < p → j < q → cell (now x) i j ≡ 0) ⌝ }
-    ensures { λ r. ⌜ Improves p q (now (rel .entry)) (now (x .entry)) (now (a .entry)) (now (b .entry)) (now (users .entry)) (now (x .exit)) (now (a .exit)) (now (b .exit)) (now (users .exit)) × MaskOf q (λ j. getD (now (b .exit)) j 0) r × Greedy p q (now (rel .entry)) (λ i. getD (now (a .entry)) i 0) (λ j. getD (now (b .entry)) j 0) (now (x .exit)) ⌝ }
+    ensures { λ r. ⌜ Improves p q (now (rel .entry)) (now (x .entry)) (now (a .entry)) (now (b .entry)) (now (users .entry)) (now (x .exit)) (now (a .exit)) (now (b .exit)) (now (users .exit)) × MaskOf q (λ j. getD (now (b .exit)) j 0) (mask r) × Greedy p q (now (rel .entry)) (λ i. getD (now (a .entry)) i 0) (λ j. getD (now (b .entry)) j 0) (now (x .exit)) ⌝ }
 {
     let mut free = positive(b, q);
     let mut i = 0;

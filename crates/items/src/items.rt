@@ -1,13 +1,13 @@
 // The items of each section: the first refusal among them, 0 where there is none.
 use crate::cursor::byte_at;
 use crate::cursor::half_at;
-use form::Table;
+use simulation::Table;
 ghost use mathlib.Core.Path.{_≡_};
 ghost use Prim.Native.Nat.{ℕ, pred, _+_, _*_, _≤_, _<_};
 ghost use lib.Dec.{eqb};
 ghost use lib.ListN.{length};
 ghost use Rattle.simulation.specs.Sum.{sum, any};
-ghost use Rattle.form.specs.Limits.{most-total, most-transitions};
+ghost use Rattle.simulation.specs.Limits.{most-total, most-transitions};
 ghost use Rattle.layout.specs.Bytes.{_then_, refuse_unless_, actions, byte, code, first, code-refusal, transition-refusal, target-right, weight-from, weight-right, entry-refusal, size-from, run-refusal};
 
 // Section 1: the n codes ascend strictly.

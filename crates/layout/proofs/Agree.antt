@@ -12,7 +12,7 @@ use borrow.Author.Tests.{leb-true, le-leb, lt-leb}
 use Rattle.simulation.specs.Sum.{sum, any}
 use Rattle.simulation.proofs.Finite.Sums.{sum-ext, sum-le}
 use Rattle.simulation.proofs.Finite.Tests.{any-ext}
-use Rattle.form.specs.Limits.{most-states, most-transitions, most-entries, most-total}
+use Rattle.simulation.specs.Limits.{most-states, most-transitions, most-entries, most-total}
 use Rattle.layout.specs.Bytes.{_then_, refuse_unless_, first, byte, half, size-from, actions, code, states-at, states, count, transitions-at, transitions, size, entries-at, entries, end, weight-from, target-right, weight-right, code-refusal, transition-refusal, entry-refusal, run-refusal, refusal, actions-refusal, states-refusal, transitions-refusal, entries-refusal}
 use Rattle.layout.proofs.SectionLaws.{first-ext, section-items, section-broken, section-whole}
 use Rattle.layout.proofs.Bounds.{passes, accepted, states-is, transitions-at-is, transitions-is, entries-at-is, entries-is, end-is}

@@ -10,7 +10,7 @@ use lib.ListN.{length}
 use borrow.Author.Tests.{leb-true, ltb-true, eqb-true}
 use Rattle.simulation.specs.Sum.{sum}
 use Rattle.simulation.proofs.Finite.Sums.{sum-ext}
-use Rattle.form.specs.Limits.{most-states, most-transitions, most-entries}
+use Rattle.simulation.specs.Limits.{most-states, most-transitions, most-entries}
 use Rattle.layout.specs.Bytes.{_then_, byte, half, actions, states-at, states, count, transitions-at, transitions, size, entries-at, entries, end, refuse_unless_, actions-refusal, states-refusal, transitions-refusal, entries-refusal, refusal}
 use Rattle.layout.proofs.Laws.{and-left, and-right}
 use Rattle.layout.proofs.SectionLaws.{holds, section-whole, then-parts}

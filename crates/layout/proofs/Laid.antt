@@ -14,7 +14,7 @@ use Rattle.simulation.specs.Fit.{total, weight as weight-at}
 use Rattle.simulation.specs.Table.{Entry, Table, weights, target-at, states-of, steps, no-transition}
 use Rattle.simulation.proofs.Finite.Sums.{sum-ext, sum-le, sum-more}
 use Rattle.simulation.proofs.Finite.Tests.{is-true, same-eqb, some-any}
-use Rattle.form.specs.Limits.{most-states, most-transitions, most-entries, most-total}
+use Rattle.simulation.specs.Limits.{most-states, most-transitions, most-entries, most-total}
 use Rattle.form.specs.Items.{all-transitions, all-entries}
 use Rattle.form.specs.Valid.{Distribution, Valid}
 use Rattle.layout.specs.Bytes.{_then_, refuse_unless_, byte, actions, code, states-at, states, count, transitions-at, transitions, label, size, start, entries-at, entries, target, weight, weight-from, target-right, weight-right, code-refusal, transition-refusal, entry-refusal, run-refusal, entry, transition, end, table, refusal, actions-refusal, states-refusal, transitions-refusal, entries-refusal}

@@ -10,12 +10,12 @@ use Rattle.simulation.specs.Sum.{concat}
 use Rattle.simulation.specs.Fit.{total, weight}
 use Rattle.simulation.specs.Table.{Entry, Transition, Table, weights, states-of, no-transition}
 use Rattle.simulation.proofs.Finite.Sums.{sum-term}
-use Rattle.form.specs.Limits.{most-total}
+use Rattle.simulation.specs.Limits.{most-total}
 use Rattle.form.specs.Items.{all-transitions, all-entries}
 use Rattle.form.specs.Valid.{Distribution, Valid}
 use Rattle.layout.specs.Bytes.{Octets, byte}
 use Rattle.layout.specs.Encode.{half-bytes, transition-bytes, entry-bytes, actions-section, states-section, transitions-section, entries-section, encode}
-use Rattle.form.proofs.Lists.{sizes, length-concat, concat-find}
+use Rattle.form.proofs.Lists.{concat-find}
 use Rattle.layout.proofs.PlaceLaws.{no-entry}
 use Rattle.layout.proofs.Numbered.{lists, lists-many, list-is, numbered, listed-at, distribution-at}
 use Rattle.form.proofs.Sound.{few-targets}
@@ -52,9 +52,7 @@ module _ (M : Table) (v : Valid M) where
   counts = within (map length (M .states)) (λ q l.
       let n = length-map (M .states) length in
       let is = List·getD-map length (M .states) q [] in
-      let term = sum-term (states-of M) (sizes (M .states)) q (omega arith) in
-      let all = length-concat (M .states) in
-      let few = v .shape .few-transitions in
+      let few = v .few-each q (omega arith) in
       omega arith)
 
   transition-octets : (j : ℕ) → j < length (all-transitions M) → Every (transition-bytes (numbered M j))

@@ -14,8 +14,8 @@ use Rattle.simulation.specs.Table.{Entry, weights}
 use Rattle.simulation.proofs.Finite.Lists.{below-length}
 use Rattle.simulation.proofs.Finite.Sums.{sum-ext}
 use Rattle.simulation.proofs.Finite.Tests.{any-some}
-use Rattle.form.specs.Limits.{most-total}
-use Rattle.layout.specs.Bytes.{_then_, refuse_unless_, first, Octets, actions, code, byte, states, count, transitions-at, transitions, label, size, start, state-start, entries-at, entries, target, weight, weight-from, target-right, weight-right, code-refusal, transition-refusal, entry-refusal, run-refusal, entry, transition, table, refusal}
+use Rattle.simulation.specs.Limits.{most-total}
+use Rattle.layout.specs.Bytes.{_then_, refuse_unless_, first, Octets, actions, code, byte, states-at, states, count, transitions-at, transitions, label, size, start, state-start, entries-at, entries, target, weight, weight-from, target-right, weight-right, code-refusal, transition-refusal, entry-refusal, run-refusal, entry, transition, table, refusal}
 use Rattle.form.specs.Valid.{Codes, Listed, Distribution, Shaped, Valid}
 use Rattle.layout.proofs.Laws.{and-left, and-right}
 use Rattle.layout.proofs.SectionLaws.{then-parts, holds, none-at, section-whole}
@@ -141,4 +141,8 @@ module _ (s : List ℕ) (e : refusal s ≡ 0) where
       }
 
 pub valid : (s : List ℕ) → Octets s → refusal s ≡ 0 → Valid (table s)
-valid s bytes e = record { codes = codes s e bytes; shape = shaped s e }
+valid s bytes e = record {
+  codes = codes s e bytes;
+  shape = shaped s e;
+  few-each = λ q l. omega (arith, step-count s q (rw state-count at l), bytes (states-at s + 1 + q));
+}

@@ -8,7 +8,7 @@ use lib.Dec.{leb, ltb, eqb}
 use lib.ListN.{length, getD}
 use Rattle.simulation.specs.Sum.{sum, any, below}
 use Rattle.simulation.specs.Table.{Entry, Transition, Table}
-use Rattle.form.specs.Limits.{most-states, most-transitions, most-entries, most-total}
+use Rattle.simulation.specs.Limits.{most-states, most-transitions, most-entries, most-total}
 
 infixl 20 _then_
 infix 25 refuse_unless_

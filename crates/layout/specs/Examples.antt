@@ -1,8 +1,9 @@
 -- The tables of 01 in bytes, with what decoding makes of them and of bytes beside them, and a row for each edge of a rule.
 -- Assumes nothing.
 use mathlib.Core.List.{List, [], _∷_, _++_}
-use Prim.Native.Nat.{ℕ, _/_}
+use Prim.Native.Nat.{ℕ, _+_, _/_}
 use lib.ListN.{length, take, replicate}
+use Rattle.simulation.specs.Limits.{most-states, most-total}
 use Rattle.simulation.specs.Table.{Transition, Table}
 use Rattle.simulation.specs.Examples.{P, C}
 use Rattle.layout.specs.Bytes.{Decoded, refused, accepted}
@@ -51,19 +52,21 @@ rows =
     -- limits
     ∷ (with-codes 0x0A 0x0A 3, refused 3)
     ∷ (states-only 0, refused 4)
-    ∷ (states-only 64, accepted (record { codes = []; states = replicate 64 [] }))
-    ∷ (states-only 65, refused 4)
-    ∷ (1 ∷ 5 ∷ 1 ∷ 128 ∷ 128 ∷ 0 ∷ [], refused 1)
-    ∷ (1 ∷ 5 ∷ 1 ∷ 129 ∷ 129 ∷ 0 ∷ [], refused 5)
+    ∷ (states-only most-states, accepted (record { codes = []; states = replicate most-states [] }))
+    ∷ (states-only (most-states + 1), refused 4)
+    -- 255 transitions of one state, 256 of two, and 257
+    ∷ (1 ∷ 5 ∷ 1 ∷ 255 ∷ 255 ∷ 0 ∷ [], refused 1)
+    ∷ (1 ∷ 5 ∷ 2 ∷ 255 ∷ 1 ∷ 0 ∷ 1 ∷ [], refused 1)
+    ∷ (1 ∷ 5 ∷ 2 ∷ 255 ∷ 2 ∷ 1 ∷ 1 ∷ [], refused 5)
     ∷ (1 ∷ 5 ∷ 1 ∷ 1 ∷ 0 ∷ 0 ∷ 0 ∷ 0 ∷ [], refused 5)
     ∷ (one-state (5 ∷ 1 ∷ []) [], refused 7)
-    ∷ (one-state (5 ∷ 1 ∷ []) (0 ∷ 255 ∷ 255 ∷ []), accepted (loops (loop 65535 ∷ [])))
+    ∷ (one-state (5 ∷ 1 ∷ []) (0 ∷ 255 ∷ 255 ∷ []), accepted (loops (loop most-total ∷ [])))
     ∷ (1 ∷ 5 ∷ 2 ∷ 1 ∷ 0 ∷ 1 ∷ 0 ∷ 5 ∷ 2 ∷ 2 ∷ 0 ∷ 0 ∷ 255 ∷ 255 ∷ 1 ∷ 1 ∷ 0 ∷ [], refused 10)
     -- two equal transitions, and two equal targets
     ∷ (one-state (5 ∷ 1 ∷ 5 ∷ 1 ∷ []) (0 ∷ 1 ∷ 0 ∷ 0 ∷ 1 ∷ 0 ∷ []), accepted (loops (loop 1 ∷ loop 1 ∷ [])))
     ∷ (one-state (5 ∷ 2 ∷ []) (0 ∷ 1 ∷ 0 ∷ 0 ∷ 1 ∷ 0 ∷ []), refused 9)
     -- the order of checks
-    ∷ (0 ∷ 65 ∷ [], refused 4)
+    ∷ (0 ∷ (most-states + 1) ∷ [], refused 4)
     ∷ (one-state (6 ∷ 0 ∷ []) [], refused 6)
     ∷ (one-state (5 ∷ 0 ∷ 6 ∷ 0 ∷ []) [], refused 8)
     ∷ (one-state (5 ∷ 1 ∷ []) (1 ∷ 0 ∷ 0 ∷ []), refused 9)

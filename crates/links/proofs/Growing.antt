@@ -9,13 +9,15 @@ use native.Mathlib.Omega.{arith}
 use native.Mathlib.Decide.{ℕ-discrete}
 use borrow.Author.Tests.{eq-eqb, ne-eqb}
 use lib.Dec.{eqb}
-use lib.ListN.{length, getD, set}
-use lib.Seq.{getD-set-same, getD-set-other}
+use lib.ListN.{length, getD}
 use Rattle.simulation.proofs.Finite.Tests.{is-true, is-false, last-or-below}
 use Rattle.simulation.specs.Table.{targets}
 use Rattle.form.specs.Form.{transition-at}
 use Rattle.relation.specs.Mask.{Test, member, with-member, without-member, either}
+use Rattle.relation.specs.Words.{mask, row-of, height, put-row}
+use Rattle.relation.specs.declared.set.Set.{Set}
 use Rattle.relation.proofs.Mask.{member-none}
+use Rattle.relation.proofs.Sets.{row-put, row-put-other}
 use Rattle.relation.specs.Related.{holds}
 use Rattle.links.specs.Links.{Covered, Within, Grown, Joins, Doubted}
 use Rattle.links.proofs.Walks.{left-self, left-other}
@@ -48,17 +50,17 @@ pub grown-more : {a b c : List ℕ} → Grown a b → Grown b c → Grown a c
 grown-more f g = record { still = λ s t h. g .still s t (f .still s t h) }
 
 -- one row grows
-pub grown-set : (rows : List ℕ) (a x : ℕ) → a < length rows → ((t : ℕ) → holds rows a t ≡ true → member x t ≡ true) → Grown rows (set rows a x)
+pub grown-set : (rows : List ℕ) (a : ℕ) (x : Set) → a < height rows → ((t : ℕ) → holds rows a t ≡ true → member (mask x) t ≡ true) → Grown rows (put-row rows a x)
 grown-set rows a x room h = record { still = λ s t m. go s t m (ℕ-discrete s a) }
   where
-    go : (s t : ℕ) → holds rows s t ≡ true → Dec (s ≡ a) → holds (set rows a x) s t ≡ true
+    go : (s t : ℕ) → holds rows s t ≡ true → Dec (s ≡ a) → holds (put-row rows a x) s t ≡ true
     go s t m (yes e) =
-        subst (λ (s : ℕ). holds (set rows a x) s t ≡ true) (sym e)
-        (ap (λ (y : ℕ). member y t) (getD-set-same rows a x 0 room) ∙ h t (ap (λ (s : ℕ). holds rows s t) (sym e) ∙ m))
-    go s t m (no d) = ap (λ (y : ℕ). member y t) (getD-set-other rows a s x 0 d) ∙ m
+        subst (λ (s : ℕ). holds (put-row rows a x) s t ≡ true) (sym e)
+        (ap (λ (y : ℕ). member y t) (row-put rows a x room) ∙ h t (ap (λ (s : ℕ). holds rows s t) (sym e) ∙ m))
+    go s t m (no d) = ap (λ (y : ℕ). member y t) (row-put-other rows a s x d) ∙ m
 
-pub set-here : (rows : List ℕ) (a x t : ℕ) → a < length rows → member x t ≡ true → holds (set rows a x) a t ≡ true
-set-here rows a x t room h = ap (λ (y : ℕ). member y t) (getD-set-same rows a x 0 room) ∙ h
+pub set-here : (rows : List ℕ) (a : ℕ) (x : Set) (t : ℕ) → a < height rows → member (mask x) t ≡ true → holds (put-row rows a x) a t ≡ true
+set-here rows a x t room h = ap (λ (y : ℕ). member y t) (row-put rows a x room) ∙ h
 
 -- what holds of each number passed
 pub each-next : (P : ℕ → Type 0) (n : ℕ) → ((k : ℕ) → k < n → P k) → P n → (k : ℕ) → k < n + 1 → P k
@@ -96,29 +98,29 @@ joins-none = record { grown = grown-none; within = λ n a h. h }
 pub joins-more : {s : ℕ} {a b c : List ℕ} → Joins s a b → Joins s b c → Joins s a c
 joins-more f g = record { grown = grown-more (f .grown) (g .grown); within = λ n a h. g .within n a (f .within n a h) }
 
-pub joins-set : (rows : List ℕ) (s t x : ℕ) → t < length rows → member x ≡ with-member s (holds rows t) → Joins s rows (set rows t x)
+pub joins-set : (rows : List ℕ) (s t : ℕ) (x : Set) → t < height rows → member (mask x) ≡ with-member s (holds rows t) → Joins s rows (put-row rows t x)
 joins-set rows s t x room e =
     record {
-      grown = grown-set rows t x room (λ k h. with-old (getD rows t 0) x s k e h);
+      grown = grown-set rows t x room (λ k h. with-old (row-of rows t) (mask x) s k e h);
       within = λ n a h u k m. go n a h u k m (ℕ-discrete u t) (ℕ-discrete k s);
     }
   where
-    go : (n : ℕ) → s < n → Within n rows → (u k : ℕ) → holds (set rows t x) u k ≡ true → Dec (u ≡ t) → Dec (k ≡ s) → k < n
+    go : (n : ℕ) → s < n → Within n rows → (u k : ℕ) → holds (put-row rows t x) u k ≡ true → Dec (u ≡ t) → Dec (k ≡ s) → k < n
     go n a h u k m c (yes q) = omega arith
-    go n a h u k m (no d) (no q) = h u k (ap (λ (y : ℕ). member y k) (sym (getD-set-other rows t u x 0 d)) ∙ m)
+    go n a h u k m (no d) (no q) = h u k (ap (λ (y : ℕ). member y k) (sym (row-put-other rows t u x d)) ∙ m)
     go n a h u k m (yes c) (no q) =
         h t k
         (ap (λ (b : Bool). b || holds rows t k) (sym (ne-eqb k s q))
         ∙ sym (ap (λ (X : Test). X k) e)
-        ∙ ap (λ (y : ℕ). member y k) (sym (getD-set-same rows t x 0 room))
-        ∙ ap (λ (u : ℕ). holds (set rows t x) u k) (sym c)
+        ∙ ap (λ (y : ℕ). member y k) (sym (row-put rows t x room))
+        ∙ ap (λ (u : ℕ). holds (put-row rows t x) u k) (sym c)
         ∙ m)
 
 -- the lost pairs of the rows that are not left have raised their doubts, and are gone from lost′
 pub record Raised (lost before behind : List ℕ) (left doubtful : ℕ) (doubt lost′ : List ℕ) : Type 0 where
   pub raised : (a : ℕ) → member left a ≡ false → (s u t : ℕ) → holds before a s ≡ true → holds lost a u ≡ true → holds behind u t ≡ true → (member doubtful s ≡ true) × (holds doubt s t ≡ true)
   pub within : (n : ℕ) → Within n before → (s : ℕ) → member doubtful s ≡ true → s < n
-  pub same : (a : ℕ) → member left a ≡ true → getD lost′ a 0 ≡ getD lost a 0
+  pub same : (a : ℕ) → member left a ≡ true → row-of lost′ a ≡ row-of lost a
   pub empty : (a t : ℕ) → member left a ≡ false → holds lost′ a t ≡ false
 
 pub raised-none : {fell : ℕ} {lost before behind doubt : List ℕ} → Covered fell lost → Raised lost before behind fell 0 doubt lost
@@ -131,11 +133,11 @@ raised-none {fell} {lost} covered =
     }
 
 -- the lost pairs of one row more raise their doubts
-pub raised-next : {lost before behind doubt doubt′ lost′ : List ℕ} {a left rest doubtful doubtful′ : ℕ} → a < length lost′
+pub raised-next : {lost before behind doubt doubt′ lost′ : List ℕ} {a left rest doubtful doubtful′ : ℕ} (z : Set) → a < height lost′ → mask z ≡ 0
     → member left a ≡ true → member rest ≡ without-member a (member left) → member doubtful′ ≡ either (member doubtful) (holds before a) → Grown doubt doubt′
     → ((s u t : ℕ) → holds before a s ≡ true → holds lost′ a u ≡ true → holds behind u t ≡ true → holds doubt′ s t ≡ true)
-    → Raised lost before behind left doubtful doubt lost′ → Raised lost before behind rest doubtful′ doubt′ (set lost′ a 0)
-raised-next {lost} {before} {behind} {doubt} {doubt′} {lost′} {a} {left} {rest} {doubtful} {doubtful′} room has e d grows here h =
+    → Raised lost before behind left doubtful doubt lost′ → Raised lost before behind rest doubtful′ doubt′ (put-row lost′ a z)
+raised-next {lost} {before} {behind} {doubt} {doubt′} {lost′} {a} {left} {rest} {doubtful} {doubtful′} z room none has e d grows here h =
     record {
       raised = λ b l. step b l (ℕ-discrete b a);
       within = λ n w s m. split n w s (either-of (member doubtful s) (holds before a s) (sym (ap (λ (X : Test). X s) d) ∙ m));
@@ -147,10 +149,10 @@ raised-next {lost} {before} {behind} {doubt} {doubt′} {lost′} {a} {left} {re
     step b l (yes c) s u t x y z =
         let x′ : holds before a s ≡ true = ap (λ (b : ℕ). holds before b s) (sym c) ∙ x in
         let y′ : holds lost′ a u ≡ true = ap (λ (n : ℕ). member n u) (h .same a has) ∙ ap (λ (b : ℕ). holds lost b u) (sym c) ∙ y in
-        (union-right doubtful (getD before a 0) doubtful′ s d x′, here s u t x′ y′ z)
+        (union-right doubtful (row-of before a) doubtful′ s d x′, here s u t x′ y′ z)
     step b l (no c) s u t x y z =
         let r = h .raised b (sym (left-other left rest a e b c) ∙ l) s u t x y z in
-        (union-left doubtful (getD before a 0) doubtful′ s d (r .0), grows .still s t (r .1))
+        (union-left doubtful (row-of before a) doubtful′ s d (r .0), grows .still s t (r .1))
 
     either-of : (x y : Bool) → (x || y) ≡ true → (x ≡ true) ⊎ (y ≡ true)
     either-of true y q = inl refl
@@ -160,13 +162,13 @@ raised-next {lost} {before} {behind} {doubt} {doubt′} {lost′} {a} {left} {re
     split n w s (inl x) = h .within n w s x
     split n w s (inr x) = w a s x
 
-    kept : (b : ℕ) → member rest b ≡ true → Dec (b ≡ a) → getD (set lost′ a 0) b 0 ≡ getD lost b 0
+    kept : (b : ℕ) → member rest b ≡ true → Dec (b ≡ a) → row-of (put-row lost′ a z) b ≡ row-of lost b
     kept b l (yes c) = absurd (true≢false (sym l ∙ ap (member rest) c ∙ left-self left rest a e))
-    kept b l (no c) = getD-set-other lost′ a b 0 0 c ∙ h .same b (sym (left-other left rest a e b c) ∙ l)
+    kept b l (no c) = row-put-other lost′ a b z c ∙ h .same b (sym (left-other left rest a e b c) ∙ l)
 
-    gone : (b t : ℕ) → member rest b ≡ false → Dec (b ≡ a) → holds (set lost′ a 0) b t ≡ false
-    gone b t l (yes c) = ap (λ (b : ℕ). holds (set lost′ a 0) b t) c ∙ ap (λ (y : ℕ). member y t) (getD-set-same lost′ a 0 0 room) ∙ member-none t
-    gone b t l (no c) = ap (λ (y : ℕ). member y t) (getD-set-other lost′ a b 0 0 c) ∙ h .empty b t (sym (left-other left rest a e b c) ∙ l)
+    gone : (b t : ℕ) → member rest b ≡ false → Dec (b ≡ a) → holds (put-row lost′ a z) b t ≡ false
+    gone b t l (yes c) = ap (λ (b : ℕ). holds (put-row lost′ a z) b t) c ∙ ap (λ (y : ℕ). member y t) (row-put lost′ a z room ∙ none) ∙ member-none t
+    gone b t l (no c) = ap (λ (y : ℕ). member y t) (row-put-other lost′ a b z c) ∙ h .empty b t (sym (left-other left rest a e b c) ∙ l)
 
 pub raised-all : {lost before behind doubt lost′ : List ℕ} {left doubtful : ℕ} → left ≡ 0 → Raised lost before behind left doubtful doubt lost′ → Doubted lost before behind doubtful doubt lost′
 raised-all {left = left} e h =

@@ -7,12 +7,13 @@ use Prim.Native.Nat.{ℕ, _-_, _^_, _<_}
 use native.Mathlib.Omega.{arith}
 use borrow.Author.Tests.{eq-eqb, ne-eqb}
 use lib.Dec.{T, eqb}
+use Rattle.simulation.specs.Limits.{most-states}
 use Rattle.relation.specs.Mask.{Test, member, without-member}
 use Rattle.relation.proofs.Mask.{lowest-of}
 
 -- a mask that is not 0 has a member
-pub some-member : (x : ℕ) → x < 2 ^ 64 → x ≢ 0 → (t : ℕ) × T (member x t)
-some-member x h d = let r = lowest-of 64 x h (omega arith) in (_, subst T (sym (r .1 .here)) tt)
+pub some-member : (x : ℕ) → x < 2 ^ most-states → x ≢ 0 → (t : ℕ) × T (member x t)
+some-member x h d = let r = lowest-of most-states x h (omega arith) in (_, subst T (sym (r .1 .here)) tt)
 
 -- what is left of a set without one of its members
 module _ (x y t : ℕ) (rest : member y ≡ without-member t (member x)) where

@@ -5,6 +5,8 @@ use mathlib.Core.Bool.{true, false}
 use mathlib.Core.List.{List}
 use Prim.Native.Nat.{ℕ, _+_, _≤_, _<_}
 use lib.ListN.{length, getD}
+use Rattle.simulation.specs.Limits.{most-states}
+use Rattle.relation.specs.Words.{height}
 use Rattle.relation.specs.Mask.{member}
 use Rattle.form.specs.Form.{start-of, transition-at, table-of}
 use Rattle.relation.specs.Related.{holds}
@@ -29,7 +31,7 @@ Within n rows = (s t : ℕ) → holds rows s t ≡ true → t < n
 
 -- before holds, for each state of a form, the states that have a transition to it, and no number that is not a state
 pub record Linked (f before : List ℕ) : Type 0 where
-  pub room : 64 ≤ length before
+  pub room : most-states ≤ height before
   pub links : (s : ℕ) → s < states-of (table-of f) → Links f s before
   pub states : Within (states-of (table-of f)) before
 

@@ -11,7 +11,7 @@ use lib.Seq.{ext-getD, getD-drop, getD-set-same, getD-set-other}
 use Rattle.simulation.specs.Sum.{sum}
 use Rattle.simulation.proofs.Finite.Sums.{sum-ext}
 use Rattle.table.specs.declared.parts.Layout.{Layout}
-use Rattle.form.specs.Limits.{most-codes, most-states, most-transitions, most-entries}
+use Rattle.simulation.specs.Limits.{most-codes, most-states, most-transitions, most-entries}
 use Rattle.layout.specs.Bytes.{byte, half, Octets, actions, states-at, states, count, transitions-at, transitions, size, entries-at, entries, refusal}
 use Rattle.table.specs.Stages.{layout}
 use Rattle.form.specs.Form.{form-size, states-from, actions-from, starts-from, entry-starts-from, codes-from, targets-from, weights-from, listed-from, at, start-of, entry-start}

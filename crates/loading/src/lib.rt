@@ -8,7 +8,7 @@ ghost use mathlib.Core.Path.{_≡_};
 ghost use Prim.Native.Nat.{_+_, _*_, _≤_, _<_};
 ghost use lib.ListN.{length};
 ghost use Rattle.simulation.specs.Sum.{sum};
-ghost use Rattle.form.specs.Limits.{most-transitions};
+ghost use Rattle.simulation.specs.Limits.{most-transitions};
 ghost use Rattle.layout.specs.Bytes.{half, refusal};
 ghost use Rattle.table.specs.Stages.{layout};
 ghost use Rattle.form.specs.Form.{form-size, codes-from};

@@ -9,8 +9,10 @@ use native.Mathlib.Omega.{arith}
 use borrow.Author.Tests.{not-true, not-false}
 use lib.Count.{trailingZeros}
 use lib.ListN.{length, getD}
+use Rattle.simulation.specs.Limits.{most-states}
 use Rattle.simulation.proofs.Finite.Tests.{last-or-below}
 use Rattle.relation.specs.Mask.{Test, member, either, both, except}
+use Rattle.relation.specs.Words.{row-of}
 use Rattle.relation.proofs.Mask.{member-none, lowest-of}
 use Rattle.relation.specs.Related.{holds}
 use Rattle.matching.specs.Quick.{RowMissing, Scanned, Covers}
@@ -31,10 +33,10 @@ neither-holds true b e = (e, absurd (true≢false e))
 neither-holds false b e = (refl, e)
 
 -- a difference that is not empty has a member that one mask has and the other lacks
-pub missing : (to some d : ℕ) → d < 2 ^ 64 → d ≢ 0 → member d ≡ except (member to) (member some) → (u : ℕ) × (member to u ≡ true) × (member some u ≡ false)
+pub missing : (to some d : ℕ) → d < 2 ^ most-states → d ≢ 0 → member d ≡ except (member to) (member some) → (u : ℕ) × (member to u ≡ true) × (member some u ≡ false)
 missing to some d h n e =
-    let r = lowest-of 64 d h (omega arith) in
-    let u = trailingZeros 64 d in
+    let r = lowest-of most-states d h (omega arith) in
+    let u = trailingZeros most-states d in
     let b = both-hold (member to u) (not (member some u)) (sym (ap (λ (X : Test). X u) e) ∙ r .1 .here) in
     (u, b .0, not-true (member some u) (b .1))
 
@@ -53,7 +55,7 @@ module _ (rows ms : List ℕ) (to : ℕ) where
   pub passed-start : Passed rows ms to 0 0 to
   passed-start = record { others = λ i u a _ _. absurd (omega arith); within = λ i u a _. absurd (omega arith) }
 
-  module _ (n near : ℕ) (e : member near ≡ both (member (getD rows (getD ms n 0) 0)) (member to)) where
+  module _ (n near : ℕ) (e : member near ≡ both (member (row-of rows (getD ms n 0))) (member to)) where
     near-at : (u : ℕ) (b : Bool) → member near u ≡ b → (holds rows (getD ms n 0) u && member to u) ≡ b
     near-at u b h = sym (ap (λ (X : Test). X u) e) ∙ h
 

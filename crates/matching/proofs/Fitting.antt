@@ -9,6 +9,7 @@ use native.Mathlib.Omega.{arith}
 use borrow.Author.Tests.{eq-eqb, ne-eqb}
 use lib.Dec.{eqb}
 use lib.ListN.{length}
+use Rattle.simulation.specs.Limits.{most-states}
 use Rattle.simulation.specs.Fit.{weight, total, fits?}
 use Rattle.simulation.specs.Table.{Transition, weights, targets, target-at, states-of}
 use Rattle.simulation.specs.Round.{Relation, between, fits-step}
@@ -31,7 +32,7 @@ pub targets-ascend : (f : List ℕ) (loaded : Loaded f) (j : ℕ) → j < transi
 targets-ascend f loaded j b i h = distribution-at f loaded j b .ascending i (omega (arith, targets-length (transition-at f j)))
 
 -- the targets of a transition of a form
-pub places-of : (n : ℕ) (f : List ℕ) (loaded : Loaded f) (j : ℕ) → j < transitions-of f → 64 ≤ n → Places n (targets (transition-at f j))
+pub places-of : (n : ℕ) (f : List ℕ) (loaded : Loaded f) (j : ℕ) → j < transitions-of f → most-states ≤ n → Places n (targets (transition-at f j))
 places-of n f loaded j b room =
     let m = transition-at f j in
     record {

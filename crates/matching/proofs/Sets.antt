@@ -8,12 +8,14 @@ use Prim.Native.Nat.{ℕ, _+_, _<_}
 use native.Mathlib.Omega.{arith}
 use borrow.Author.Tests.{eq-eqb, eqb-true}
 use lib.Dec.{eqb}
-use lib.ListN.{length, getD, set}
-use lib.Seq.{getD-set-same, getD-set-other}
+use lib.ListN.{length, getD}
 use Rattle.simulation.specs.Table.{targets, states-of}
 use Rattle.simulation.proofs.Finite.Tests.{last-or-below}
 use Rattle.relation.specs.Mask.{Test, member, with-member}
+use Rattle.relation.specs.Words.{mask, row-of, height, put-row}
+use Rattle.relation.specs.declared.set.Set.{Set}
 use Rattle.relation.proofs.Mask.{member-none}
+use Rattle.relation.proofs.Sets.{row-put, row-put-other}
 use Rattle.form.specs.Form.{start-of, transitions-of, transition-at, table-of}
 use Rattle.form.proofs.FormLaws.{states-count}
 use Rattle.matching.specs.Known.{SetOf, TargetSets}
@@ -43,18 +45,18 @@ set-next ts i x y h e =
 
 -- the first l places have the target sets of their transitions
 abbrev pub SetsTo : List ℕ → ℕ → List ℕ → Type 0
-SetsTo g l masks = (k : ℕ) → k < l → SetOf (targets (transition-at g k)) (length (targets (transition-at g k))) (getD masks k 0)
+SetsTo g l masks = (k : ℕ) → k < l → SetOf (targets (transition-at g k)) (length (targets (transition-at g k))) (row-of masks k)
 
-pub sets-next : (g masks : List ℕ) (l x : ℕ) {ts : List ℕ} → l < length masks → ts ≡ targets (transition-at g l) → SetOf ts (length ts) x → SetsTo g l masks → SetsTo g (l + 1) (set masks l x)
+pub sets-next : (g masks : List ℕ) (l : ℕ) (x : Set) {ts : List ℕ} → l < height masks → ts ≡ targets (transition-at g l) → SetOf ts (length ts) (mask x) → SetsTo g l masks → SetsTo g (l + 1) (put-row masks l x)
 sets-next g masks l x room e h before k a =
     ⊎-elim
     (λ q.
-    subst (λ (k : ℕ). SetOf (targets (transition-at g k)) (length (targets (transition-at g k))) (getD (set masks l x) k 0)) (sym q)
-    (subst (SetOf _ _) (sym (getD-set-same masks l x 0 room)) (subst (λ (ts : List ℕ). SetOf ts (length ts) x) e h)))
-    (λ b. subst (SetOf _ _) (sym (getD-set-other masks l k x 0 (omega arith))) (before k b))
+    subst (λ (k : ℕ). SetOf (targets (transition-at g k)) (length (targets (transition-at g k))) (row-of (put-row masks l x) k)) (sym q)
+    (subst (SetOf _ _) (sym (row-put masks l x room)) (subst (λ (ts : List ℕ). SetOf ts (length ts) (mask x)) e h)))
+    (λ b. subst (SetOf _ _) (sym (row-put-other masks l k x (λ q. omega arith))) (before k b))
     (last-or-below k l (omega arith))
 
-pub set-at : {g masks : List ℕ} → TargetSets g masks → (l : ℕ) → l < transitions-of g → SetOf (targets (transition-at g l)) (length (targets (transition-at g l))) (getD masks l 0)
+pub set-at : {g masks : List ℕ} → TargetSets g masks → (l : ℕ) → l < transitions-of g → SetOf (targets (transition-at g l)) (length (targets (transition-at g l))) (row-of masks l)
 set-at h l a = record { has = λ i b. h .has l i a b; only = λ u m. h .only l u a m }
 
 -- the transitions of all states are all transitions

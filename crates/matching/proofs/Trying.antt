@@ -9,6 +9,7 @@ use native.Mathlib.Omega.{arith}
 use native.Mathlib.Decide.{ℕ-discrete}
 use lib.ListN.{length, getD, set, length-set}
 use lib.Seq.{getD-set-same, getD-set-other}
+use Rattle.simulation.specs.Limits.{most-states, most-transitions}
 use Rattle.simulation.specs.Table.{states-of}
 use Rattle.simulation.specs.Round.{Relation, related, fits-step}
 use Rattle.simulation.proofs.Finite.Tests.{last-or-below}
@@ -40,15 +41,15 @@ tried-less {f} {g} R R′ less h =
     }
 
 -- zeros count nothing
-pub none-tried : {f g tried : List ℕ} (R : Relation) → 8192 ≤ length tried → ((i : ℕ) → getD tried i 0 ≡ 0) → Tried f g R tried
-none-tried R room zero-at = record { room = room; passed = λ j t l a b c d. absurd (omega (arith, zero-at (j * 64 + t))) }
+pub none-tried : {f g tried : List ℕ} (R : Relation) → transitions-of f * most-states ≤ length tried → ((i : ℕ) → getD tried i 0 ≡ 0) → Tried f g R tried
+none-tried R room zero-at = record { room = room; passed = λ j t l a b c d. absurd (omega (arith, zero-at (j * most-states + t))) }
 
 -- each pair of a transition and a state has its place
-pub place-room : {f g tried : List ℕ} {R : Relation} → Loaded f → Loaded g → Tried f g R tried → (j t : ℕ) → j < transitions-of f → t < states-of (table-of g) → j * 64 + t < length tried
+pub place-room : {f g tried : List ℕ} {R : Relation} → Loaded f → Loaded g → Tried f g R tried → (j t : ℕ) → j < transitions-of f → t < states-of (table-of g) → j * most-states + t < length tried
 place-room {f} {g} first second h j t a b = omega (arith, h .room, limits f first .transitions-few, limits g second .states-few)
 
--- the start of a state's transitions is below a byte's end
-pub start-few : (g : List ℕ) → Loaded g → (t : ℕ) → t ≤ states-of (table-of g) → start-of g t ≤ 128
+-- the start of a state's transitions
+pub start-few : (g : List ℕ) → Loaded g → (t : ℕ) → t ≤ states-of (table-of g) → start-of g t ≤ most-transitions
 start-few g loaded t a = omega (arith, start-bound g loaded t a, limits g loaded .transitions-few)
 
 -- of the transitions of the state t, those before l are not fitted by the transition j
@@ -57,7 +58,7 @@ Passing f g R j t l = (k : ℕ) → start-of g t ≤ k → k < l → k < start-o
 
 module _ (f g : List ℕ) (R : Relation) (j t : ℕ) where
   -- a search begins behind those tried
-  pub passing-start : {tried : List ℕ} {l : ℕ} → Tried f g R tried → j < transitions-of f → t < states-of (table-of g) → l ≡ start-of g t + getD tried (j * 64 + t) 0 → Passing f g R j t l
+  pub passing-start : {tried : List ℕ} {l : ℕ} → Tried f g R tried → j < transitions-of f → t < states-of (table-of g) → l ≡ start-of g t + getD tried (j * most-states + t) 0 → Passing f g R j t l
   passing-start h a b e k from to end =
       let x : start-of g t + (k - start-of g t) ≡ k = omega arith in
       rw x at (h .passed j t (k - start-of g t) a b (omega arith) (omega arith))
@@ -67,21 +68,21 @@ module _ (f g : List ℕ) (R : Relation) (j t : ℕ) where
       ⊎-elim (λ q. ap (λ (k : ℕ). fits-step R (transition-at f j) (transition-at g k)) q ∙ sym e ∙ w) (λ v. h k from v end) (last-or-below k l (omega arith))
 
   -- where it ends, those passed are counted
-  module _ (tried : List ℕ) (n : ℕ) (few : states-of (table-of g) ≤ 64) (within : t < states-of (table-of g)) (room : j * 64 + t < length tried) (h : Tried f g R tried)
+  module _ (tried : List ℕ) (n : ℕ) (few : states-of (table-of g) ≤ most-states) (within : t < states-of (table-of g)) (room : j * most-states + t < length tried) (h : Tried f g R tried)
       (none : Passing f g R j t (start-of g t + n)) where
-    counted : (k u l : ℕ) → k < transitions-of f → u < states-of (table-of g) → l < getD (set tried (j * 64 + t) n) (k * 64 + u) 0 → start-of g u + l < start-of g (u + 1)
-        → Dec (k * 64 + u ≡ j * 64 + t) → fits-step R (transition-at f k) (transition-at g (start-of g u + l)) ≡ false
+    counted : (k u l : ℕ) → k < transitions-of f → u < states-of (table-of g) → l < getD (set tried (j * most-states + t) n) (k * most-states + u) 0 → start-of g u + l < start-of g (u + 1)
+        → Dec (k * most-states + u ≡ j * most-states + t) → fits-step R (transition-at f k) (transition-at g (start-of g u + l)) ≡ false
     counted k u l a b c d (yes e) =
         let x : k ≡ j = omega arith in
         let y : u ≡ t = omega arith in
-        let s : l < n = omega (arith, getD-set-same tried (j * 64 + t) n 0 room, ap (λ (i : ℕ). getD (set tried (j * 64 + t) n) i 0) e) in
+        let s : l < n = omega (arith, getD-set-same tried (j * most-states + t) n 0 room, ap (λ (i : ℕ). getD (set tried (j * most-states + t) n) i 0) e) in
         subst₂ (λ (k u : ℕ). start-of g u + l < start-of g (u + 1) → fits-step R (transition-at f k) (transition-at g (start-of g u + l)) ≡ false) (sym x) (sym y)
         (λ v. none (start-of g t + l) (omega arith) (omega arith) v) d
-    counted k u l a b c d (no e) = h .passed k u l a b (omega (arith, getD-set-other tried (j * 64 + t) (k * 64 + u) n 0 e)) d
+    counted k u l a b c d (no e) = h .passed k u l a b (omega (arith, getD-set-other tried (j * most-states + t) (k * most-states + u) n 0 e)) d
 
-    pub tried-next : Tried f g R (set tried (j * 64 + t) n)
+    pub tried-next : Tried f g R (set tried (j * most-states + t) n)
     tried-next =
         record {
-          room = omega (arith, h .room, length-set tried (j * 64 + t) n);
-          passed = λ k u l a b c d. counted k u l a b c d (ℕ-discrete (k * 64 + u) (j * 64 + t));
+          room = omega (arith, h .room, length-set tried (j * most-states + t) n);
+          passed = λ k u l a b c d. counted k u l a b c d (ℕ-discrete (k * most-states + u) (j * most-states + t));
         }

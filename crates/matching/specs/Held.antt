@@ -5,8 +5,9 @@ use mathlib.Core.Bool.{Bool}
 use mathlib.Core.List.{List}
 use Prim.Native.Nat.{ℕ, _+_, _≤_, _<_}
 use lib.ListN.{length, getD}
-use Rattle.relation.specs.Mask.{Test, member}
+use Rattle.simulation.specs.Limits.{most-states}
 use Rattle.relation.specs.Related.{holds}
+use Rattle.relation.specs.Mask.{Test, member}
 use Rattle.form.specs.Form.{transition-at, table-of}
 use Rattle.simulation.specs.Sum.{all-of, any-of}
 use Rattle.simulation.specs.Fit.{fits?}
@@ -35,7 +36,7 @@ answered R f j g t = any-of (fits-step R (transition-at f j)) (steps (table-of g
 
 -- places of targets: few, and each a state below n
 pub record Places (n : ℕ) (ts : List ℕ) : Type 0 where
-  pub few : length ts ≤ 64
+  pub few : length ts ≤ most-states
   pub below : (j : ℕ) → j < length ts → getD ts j 0 < n
 
 -- they ascend strictly

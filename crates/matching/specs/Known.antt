@@ -5,16 +5,18 @@ use mathlib.Core.Bool.{Bool, true, false}
 use mathlib.Core.List.{List}
 use Prim.Native.Nat.{ℕ, _+_, _*_, _≤_, _<_}
 use lib.ListN.{length, getD}
+use Rattle.simulation.specs.Limits.{most-pairs, most-states, most-transitions}
 use Rattle.relation.specs.Mask.{member}
+use Rattle.relation.specs.Words.{row-of, height}
 use Rattle.form.specs.Form.{Loaded, start-of, transitions-of, transition-at, table-of}
 use Rattle.simulation.specs.Table.{targets, states-of}
 use Rattle.simulation.specs.Round.{Relation, fits-step}
 
 -- place l has the set of the targets of the transition l
 pub record TargetSets (g masks : List ℕ) : Type 0 where
-  pub room : 128 ≤ length masks
-  pub has : (l i : ℕ) → l < transitions-of g → i < length (targets (transition-at g l)) → member (getD masks l 0) (getD (targets (transition-at g l)) i 0) ≡ true
-  pub only : (l u : ℕ) → l < transitions-of g → member (getD masks l 0) u ≡ true → (i : ℕ) × (i < length (targets (transition-at g l))) × (getD (targets (transition-at g l)) i 0 ≡ u)
+  pub room : most-transitions ≤ height masks
+  pub has : (l i : ℕ) → l < transitions-of g → i < length (targets (transition-at g l)) → member (row-of masks l) (getD (targets (transition-at g l)) i 0) ≡ true
+  pub only : (l u : ℕ) → l < transitions-of g → member (row-of masks l) u ≡ true → (i : ℕ) × (i < length (targets (transition-at g l))) × (getD (targets (transition-at g l)) i 0 ≡ u)
 
 -- a mask has the first n numbers of a list, and no others
 pub record SetOf (ts : List ℕ) (n : ℕ) (mask : ℕ) : Type 0 where
@@ -26,13 +28,13 @@ pub record Lent (f g sets rows x : List ℕ) : Type 0 where
   pub first : Loaded f
   pub second : Loaded g
   pub masks : TargetSets g sets
-  pub rows-room : 64 ≤ length rows
-  pub x-room : 4096 ≤ length x
+  pub rows-room : most-states ≤ height rows
+  pub x-room : most-pairs ≤ length x
 
--- the byte at j * 64 + t counts the first transitions of the state t that the transition j is known not to fit in R
+-- the byte at j * most-states + t counts the first transitions of the state t that the transition j is known not to fit in R
 pub record Tried (f g : List ℕ) (R : Relation) (tried : List ℕ) : Type 0 where
-  pub room : 8192 ≤ length tried
-  pub passed : (j t l : ℕ) → j < transitions-of f → t < states-of (table-of g) → l < getD tried (j * 64 + t) 0 → start-of g t + l < start-of g (t + 1)
+  pub room : transitions-of f * most-states ≤ length tried
+  pub passed : (j t l : ℕ) → j < transitions-of f → t < states-of (table-of g) → l < getD tried (j * most-states + t) 0 → start-of g t + l < start-of g (t + 1)
       → fits-step R (transition-at f j) (transition-at g (start-of g t + l)) ≡ false
 
 -- r is the answer b, and what has been tried by then is known

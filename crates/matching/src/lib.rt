@@ -1,11 +1,17 @@
 // Whether each transition of one state fits some transition of another that has the same code, in a relation held as rows.
+use relation::Relation;
 use relation::rows;
 use relation::set;
+use relation::set::Set;
+use relation::word;
+use simulation::Table;
 ghost use mathlib.Core.Path.{_≡_};
-ghost use Prim.Native.Nat.{_<_, _≤_};
-ghost use lib.ListN.{length, getD};
+ghost use Prim.Native.Nat.{_<_, _≤_, _*_};
+ghost use lib.ListN.{length};
+ghost use Rattle.simulation.specs.Limits.{most-pairs, most-states, most-transitions};
 ghost use Rattle.relation.specs.Mask.{member, part};
-ghost use Rattle.simulation.specs.Table.{states-of};
+ghost use Rattle.relation.specs.Words.{words, mask, row-of, height};
+ghost use Rattle.simulation.specs.Table.{targets, states-of};
 ghost use Rattle.simulation.specs.Round.{fits-step};
 ghost use Rattle.form.specs.Form.{Loaded, transitions-of, transition-at, table-of};
 ghost use Rattle.matching.specs.Held.{row-at, Places, Ascending, Gathered, relation-of, fitting, answered, matched};
@@ -25,11 +31,11 @@ fn index(b: u8) -> usize
 }
 
 // The set of the targets.
-fn set_of(to: &[u16]) -> u64
-    requires { ⌜ Places 64 (now to) ⌝ }
-    ensures { λ r. ⌜ SetOf (now (to .entry)) (length (now (to .entry))) r ⌝ }
+fn set_of(to: &[u16]) -> Set
+    requires { ⌜ Places most-states (now to) ⌝ }
+    ensures { λ r. ⌜ SetOf (now (to .entry)) (length (now (to .entry))) (mask r) ⌝ }
 {
-    let mut r = 0u64;
+    let mut r = set::empty();
     let mut i = 0;
     while i < to.len() {
         r = set::insert(r, wide(to[i]));
@@ -40,77 +46,117 @@ fn set_of(to: &[u16]) -> u64
 
 // The set of the targets of each transition.
 pub fn target_sets(f: &[u16], masks: &mut [u64])
-    requires { ⌜ Loaded (now f) × (128 ≤ length (now masks)) ⌝ }
+    requires { ⌜ Loaded (now f) × (most-transitions ≤ height (now masks)) ⌝ }
     ensures { λ r. ⌜ TargetSets (now (f .entry)) (now (masks .exit)) ⌝ }
 {
     let n = form::first(f, form::states(f));
     let mut l = 0;
     while l < n {
-        masks[l] = set_of(form::targets(f, l));
+        rows::put(masks, l, set_of(form::targets(f, l)));
         l += 1;
     }
 }
 
-// Row s by positions, place by place: place j has the bit of the state there.
-fn sparse_row(rows: &[u64], s: usize, to: &[u16]) -> u64
-    requires { ⌜ (s < length (now rows)) × Places 64 (now to) ⌝ }
-    ensures { λ r. ⌜ member r ≡ part (length (now (to .entry))) (row-at (getD (now (rows .entry)) s 0) (now (to .entry))) ⌝ }
+// Row s by at most 64 positions: bit j is that of the state at place j.
+fn row_word(rows: &[u64], s: usize, to: &[u16]) -> u64
+    requires { ⌜ (s < height (now rows)) × Places most-states (now to) × (length (now to) ≤ 64) ⌝ }
+    ensures { λ r. ⌜ member r ≡ part (length (now (to .entry))) (row-at (row-of (now (rows .entry)) s) (now (to .entry))) ⌝ }
 {
     let mut r = 0u64;
     let mut j = 0;
     while j < to.len() {
-        r = set::with_bit(r, j, rows::bit(rows, s, wide(to[j])));
+        r = word::with_bit(r, j, rows::bit(rows, s, wide(to[j])));
         j += 1;
     }
     r
 }
 
+// Row s by positions, place by place: place j is a member if the state there is one of the row.
+fn sparse_row(rows: &[u64], s: usize, to: &[u16]) -> Set
+    requires { ⌜ (s < height (now rows)) × Places most-states (now to) ⌝ }
+    ensures { λ r. ⌜ member (mask r) ≡ part (length (now (to .entry))) (row-at (row-of (now (rows .entry)) s) (now (to .entry))) ⌝ }
+{
+    if to.len() <= 64 {
+        return Set {
+            words: [row_word(rows, s, to), 0],
+        };
+    }
+    Set {
+        words: [row_word(rows, s, &to[..64]), row_word(rows, s, &to[64..])],
+    }
+}
+
 // Row s by positions. Targets that ascend to their number less one are all states in order, and positions are then states.
-fn gather_row(rows: &[u64], s: usize, to: &[u16]) -> u64
-    requires { ⌜ (s < length (now rows)) × Places 64 (now to) × Ascending (now to) ⌝ }
-    ensures { λ r. ⌜ member r ≡ part (length (now (to .entry))) (row-at (getD (now (rows .entry)) s 0) (now (to .entry))) ⌝ }
+fn gather_row(rows: &[u64], s: usize, to: &[u16]) -> Set
+    requires { ⌜ (s < height (now rows)) × Places most-states (now to) × Ascending (now to) ⌝ }
+    ensures { λ r. ⌜ member (mask r) ≡ part (length (now (to .entry))) (row-at (row-of (now (rows .entry)) s) (now (to .entry))) ⌝ }
 {
     let n = to.len();
     if n == 0 {
-        return 0;
+        return set::empty();
     }
     if wide(to[n - 1]) + 1 == n {
-        return set::intersection(rows[s], set::below(n));
+        return set::intersection(rows::get(rows, s), set::below(n));
     }
     sparse_row(rows, s, to)
 }
 
 // The rows between the targets of two transitions, by positions.
 fn gather(from: &[u16], to: &[u16], rows: &[u64], rel: &mut [u64])
-    requires { ⌜ Places (length (now rows)) (now from) × Places 64 (now to) × Ascending (now to) × (length (now from) ≤ length (now rel)) ⌝ }
+    requires { ⌜ Places (height (now rows)) (now from) × Places most-states (now to) × Ascending (now to) × (length (now from) ≤ height (now rel)) ⌝ }
     ensures { λ r. ⌜ Gathered (now (rows .entry)) (now (from .entry)) (now (to .entry)) (length (now (from .entry))) (now (rel .exit)) ⌝ }
 {
     let mut i = 0;
     while i < from.len() {
-        rel[i] = gather_row(rows, wide(from[i]), to);
+        rows::put(rel, i, gather_row(rows, wide(from[i]), to));
         i += 1;
     }
 }
 
-fn no_rows() -> [u64; 64]
-    ensures { λ r. ⌜ length r ≡ 64 ⌝ }
+// Most transitions have no more targets than this: then few rows need to be made.
+const FEW: usize = 8;
+
+fn few_rows() -> [u64; FEW * Set::WORDS]
+    ensures { λ r. ⌜ length r ≡ 8 * words ⌝ }
 {
-    [0u64; 64]
+    [0u64; FEW * Set::WORDS]
+}
+
+fn no_rows() -> [u64; Relation::WORDS]
+    ensures { λ r. ⌜ length r ≡ most-states * words ⌝ }
+{
+    [0u64; Relation::WORDS]
+}
+
+// The same, in room for the rows.
+fn flow_over(
+    first: &[u16],
+    j: usize,
+    second: &[u16],
+    l: usize,
+    rows: &[u64],
+    rel: &mut [u64],
+    x: &mut [u32],
+) -> bool
+    requires { ⌜ Loaded (now first) × Loaded (now second) × (most-states ≤ height (now rows)) × (most-pairs ≤ length (now x)) × (j < transitions-of (now first)) × (l < transitions-of (now second))
+        × (length (targets (transition-at (now first) j)) ≤ height (now rel)) ⌝ }
+    ensures { λ r. ⌜ r ≡ fitting (relation-of (now (first .entry)) (now (second .entry)) (now (rows .entry))) (transition-at (now (first .entry)) j) (transition-at (now (second .entry)) l) ⌝ }
+{
+    gather(form::targets(first, j), form::targets(second, l), rows, rel);
+    set::is_empty(transport::transport(form::weights(first, j), form::weights(second, l), rel, x))
 }
 
 // Transition j of the first table fits transition l of the second, whatever their codes: a flow over the gathered rows decides.
 fn flow(first: &[u16], j: usize, second: &[u16], l: usize, rows: &[u64], x: &mut [u32]) -> bool
-    requires { ⌜ Loaded (now first) × Loaded (now second) × (64 ≤ length (now rows)) × (4096 ≤ length (now x)) × (j < transitions-of (now first)) × (l < transitions-of (now second)) ⌝ }
+    requires { ⌜ Loaded (now first) × Loaded (now second) × (most-states ≤ height (now rows)) × (most-pairs ≤ length (now x)) × (j < transitions-of (now first)) × (l < transitions-of (now second)) ⌝ }
     ensures { λ r. ⌜ r ≡ fitting (relation-of (now (first .entry)) (now (second .entry)) (now (rows .entry))) (transition-at (now (first .entry)) j) (transition-at (now (second .entry)) l) ⌝ }
 {
+    if form::targets(first, j).len() <= FEW {
+        let mut rel = few_rows();
+        return flow_over(first, j, second, l, rows, &mut rel, x);
+    }
     let mut rel = no_rows();
-    gather(
-        form::targets(first, j),
-        form::targets(second, l),
-        rows,
-        &mut rel,
-    );
-    transport::transport(form::weights(first, j), form::weights(second, l), &rel, x) == 0
+    flow_over(first, j, second, l, rows, &mut rel, x)
 }
 
 // What sets of targets tell of a fit, before any flow.
@@ -121,29 +167,29 @@ enum Settled {
 }
 
 // `some` is what one of the targets of m is related to, `every` what all of them are, and `to` has the targets of n.
-fn settle(some: u64, every: u64, to: u64) -> Settled
-    ensures { λ r. ⌜ Covers some every to r ⌝ }
+fn settle(some: Set, every: Set, to: Set) -> Settled
+    ensures { λ r. ⌜ Covers (mask some) (mask every) (mask to) r ⌝ }
 {
-    if set::difference(to, some) != 0 {
-        return Settled::Misfits;
-    }
-    if set::difference(to, every) == 0 {
+    if set::is_empty(set::difference(to, every)) {
         return Settled::Fits;
+    }
+    if !set::is_empty(set::difference(to, some)) {
+        return Settled::Misfits;
     }
     Settled::Open
 }
 
 // A target related to none, or to which none is related, is a misfit; targets that are all related fit.
-fn scan(from: &[u16], rows: &[u64], to: u64) -> Settled
-    requires { ⌜ Places (length (now rows)) (now from) ⌝ }
-    ensures { λ r. ⌜ Scanned (now (rows .entry)) (now (from .entry)) to r ⌝ }
+fn scan(from: &[u16], rows: &[u64], to: Set) -> Settled
+    requires { ⌜ Places (height (now rows)) (now from) ⌝ }
+    ensures { λ r. ⌜ Scanned (now (rows .entry)) (now (from .entry)) (mask to) r ⌝ }
 {
-    let mut some = 0u64;
+    let mut some = set::empty();
     let mut every = to;
     let mut i = 0;
     while i < from.len() {
-        let near = set::intersection(rows[wide(from[i])], to);
-        if near == 0 {
+        let near = set::intersection(rows::get(rows, wide(from[i])), to);
+        if set::is_empty(near) {
             return Settled::Misfits;
         }
         some = set::union(some, near);
@@ -169,7 +215,7 @@ fn fits_step(
     if form::code(first, j) != form::code(second, l) {
         return false;
     }
-    let settled = scan(form::targets(first, j), rows, masks[l]);
+    let settled = scan(form::targets(first, j), rows, rows::get(masks, l));
     match settled {
         Settled::Fits => true,
         Settled::Misfits => false,
@@ -193,7 +239,7 @@ fn answers(
     ensures { λ r. ⌜ Matching (now (first .entry)) (now (second .entry)) (relation-of (now (first .entry)) (now (second .entry)) (now (rows .entry)))
         (answered (relation-of (now (first .entry)) (now (second .entry)) (now (rows .entry))) (now (first .entry)) j (now (second .entry)) t) (now (tried .exit)) r ⌝ }
 {
-    let place = j * 64 + t;
+    let place = j * Table::STATES + t;
     let start = form::first(second, t);
     let end = form::first(second, t + 1);
     let mut l = start + index(tried[place]);

@@ -8,6 +8,7 @@ use Prim.Native.Nat.{ℕ, _+_, _≤_, _<_, _^_}
 use native.Mathlib.Decide.{ℕ-discrete}
 use native.Mathlib.Omega.{arith}
 use lib.ListN.{length, getD}
+use Rattle.simulation.specs.Limits.{most-states}
 use Rattle.simulation.specs.Sum.{sum}
 use Rattle.simulation.proofs.Finite.Sums.{sum-ext, sum-add}
 use Rattle.matrix.specs.Matrix.{cell, delta, AddsAt, Adds}
@@ -73,7 +74,7 @@ improved f lx la lb lu e s t u = let w = f .sized in let k = preserved e s t in 
 }
 
 -- the amounts after d was added at a related place
-pub added-support : {p q : ℕ} {rel y y′ : List ℕ} {r c d : ℕ} → q ≤ 64 → relates rel r c ≡ true → Adds y y′ r c d
+pub added-support : {p q : ℕ} {rel y y′ : List ℕ} {r c d : ℕ} → q ≤ most-states → relates rel r c ≡ true → Adds y y′ r c d
     → ((i j : ℕ) → i < p → j < q → cell y i j ≢ 0 → relates rel i j ≡ true) → Supported p q rel y′
 added-support {rel = rel} {r = r} {c = c} {d = d} w e a s = record {
   support = λ i j hi hj n. elim (ℕ-discrete r i) [

@@ -4,18 +4,21 @@ use mathlib.Core.Path.{_≡_, refl, sym, ap, _∙_, subst, subst⁻¹, fun-ext}
 use mathlib.Core.Bool.{Bool, true, false, not, cond, _&&_, _||_, true≢false}
 use mathlib.Core.List.{List}
 use mathlib.Core.Logic.{_≢_, _⊎_, inl, inr, ⊎-elim}
-use Prim.Native.Nat.{ℕ, _+_, _^_, _≤_, _<_}
+use Prim.Native.Nat.{ℕ, _^_, _≤_, _<_}
 use native.Mathlib.Decide.{ℕ-discrete}
 use native.Mathlib.Omega.{arith}
-use lib.Dec.{eqb}
-use lib.ListN.{length, getD, set, replicate, length-replicate, getD-replicate, List·getD-eq-default}
-use lib.Seq.{getD-set-same, getD-set-other}
-use borrow.Author.Tests.{eq-eqb, ne-eqb, eqb-true, eqb-false}
-use Rattle.relation.specs.Mask.{Test, member, with-member, without-member, both, except, either}
+use lib.Dec.{eqb, ltb}
+use borrow.Author.Tests.{eq-eqb, ne-eqb, eqb-true, eqb-false, lt-ltb, ltb-true}
+use Rattle.simulation.specs.Limits.{most-states}
+use Rattle.relation.specs.Mask.{Test, member, part, with-member, without-member, both, except, either}
+use Rattle.relation.specs.Words.{mask, row-of, height, put-row}
+use Rattle.relation.specs.declared.set.Set.{Set}
 use Rattle.relation.proofs.Mask.{member-none, lowest-of, below-or-not}
-use Rattle.matrix.specs.Matrix.{cell, Adds}
+use Rattle.relation.proofs.Sets.{row-put, row-put-other}
+use Rattle.matrix.specs.Matrix.{cell}
 use Rattle.matrix.specs.Problem.{relates}
-use Rattle.matrix.specs.Masks.{put, MaskOf, Used, Noted}
+use Rattle.matrix.specs.Matrix.{Adds}
+use Rattle.matrix.specs.Masks.{nonzero, put, MaskOf, Used, Noted}
 use Rattle.matrix.proofs.MatrixLaws.{adds-row, adds-column}
 
 and-true : (a b : Bool) → (a && b) ≡ true → (a ≡ true) × (b ≡ true)
@@ -85,8 +88,8 @@ module _ (X : Test) (t : ℕ) {Z : Test} (i : ℕ) where
   drop-out e h = elim (not-and (X i) (eqb i t) (sym (ap (λ (W : Test). W i) e) ∙ h)) [ inl c ↦ inl (eqb-true i t c) | inr f ↦ inr f ]
 
 -- a mask that is not 0 has a member
-pub some-member : (m : ℕ) → m < 2 ^ 64 → m ≢ 0 → (k : ℕ) × (member m k ≡ true)
-some-member m h n = let t = lowest-of 64 m h (omega arith) in (_, t .1 .here)
+pub some-member : (m : ℕ) → m < 2 ^ most-states → m ≢ 0 → (k : ℕ) × (member m k ≡ true)
+some-member m h n = let t = lowest-of most-states m h (omega arith) in (_, t .1 .here)
 
 pub no-members : {m : ℕ} → m ≡ 0 → (k : ℕ) → member m k ≡ false
 no-members e k = ap (λ (n : ℕ). member n k) e ∙ member-none k
@@ -138,25 +141,16 @@ mask-put {n} {k} {v} {m} m′ {f} {g} s h c o e = record {
   ];
 }
 
--- one place more
-pub mask-next : {n v m m′ : ℕ} {f : ℕ → ℕ} → MaskOf n f m → f n ≡ v → member m′ ≡ put n v (member m) → MaskOf (n + 1) f m′
-mask-next {n} {v} {m} {m′} {f} s c e = record {
-  there = λ i l d. elim (ℕ-discrete i n) [
-    | yes w ↦ put-here (member m) n v i e w ∙ not-zero-test v (λ z. d (ap f w ∙ c ∙ z))
-    | no w ↦ put-there (member m) n v i e w ∙ s .there i (omega arith) d
-  ];
-  below = λ i t. elim (ℕ-discrete i n) [ yes w ↦ omega arith | no w ↦ omega (arith, s .below i (sym (put-there (member m) n v i e w) ∙ t)) ];
-  some = λ i t. elim (ℕ-discrete i n) [
-    | yes w ↦ λ z. neither (sym (put-here (member m) n v i e w) ∙ t) (zero-test v (sym c ∙ ap f (sym w) ∙ z))
-    | no w ↦ s .some i (sym (put-there (member m) n v i e w) ∙ t)
-  ];
+-- the places that pass a test for not being 0
+pub mask-of-part : {n m : ℕ} {f : ℕ → ℕ} → member m ≡ part n (λ i. nonzero (f i)) → MaskOf n f m
+mask-of-part {n} {m} {f} e = record {
+  there = λ i l d. at i ∙ ap (λ b. b && nonzero (f i)) (lt-ltb i n l) ∙ not-zero-test (f i) d;
+  below = λ i t. ltb-true i n (and-true (ltb i n) (nonzero (f i)) (sym (at i) ∙ t) .0);
+  some = λ i t z. neither (and-true (ltb i n) (nonzero (f i)) (sym (at i) ∙ t) .1) (zero-test (f i) z);
 }
-
-pub mask-none : {f : ℕ → ℕ} → MaskOf 0 f 0
-mask-none = record { there = λ i l. absurd (omega arith); below = λ i t. absurd (neither t (member-none i)); some = λ i t. absurd (neither t (member-none i)) }
-
-pub mask-is : {n n′ m : ℕ} {f : ℕ → ℕ} → n ≡ n′ → MaskOf n f m → MaskOf n′ f m
-mask-is {m = m} {f = f} e s = subst (λ (n : ℕ). MaskOf n f m) e s
+  where
+    at : (i : ℕ) → member m i ≡ (ltb i n && nonzero (f i))
+    at i = ap (λ (X : Test). X i) e
 
 mask-same : {n m m′ : ℕ} {f g : ℕ → ℕ} → ((i : ℕ) → g i ≡ f i) → m′ ≡ m → MaskOf n f m → MaskOf n g m′
 mask-same {n} {m} {m′} {f} {g} o e s = subst⁻¹ (λ (m : ℕ). MaskOf n g m) e (record {
@@ -174,28 +168,30 @@ mask-zero z e = record {
 }
 
 -- one cell changes, and its column's users with it
-module _ {p q : ℕ} {x x′ users users′ : List ℕ} {i j : ℕ} (w : q ≤ 64) (hi : i < p) (hj : j < q)
-    (row : (k l : ℕ) → l < 64 → i ≢ k → cell x′ k l ≡ cell x k l) (column : (k l : ℕ) → l < 64 → j ≢ l → cell x′ k l ≡ cell x k l) where
+module _ {p q : ℕ} {x x′ users users′ : List ℕ} {i j : ℕ} (w : q ≤ most-states) (hi : i < p) (hj : j < q)
+    (row : (k l : ℕ) → l < most-states → i ≢ k → cell x′ k l ≡ cell x k l) (column : (k l : ℕ) → l < most-states → j ≢ l → cell x′ k l ≡ cell x k l) where
   pub used-kept : Used p q x users → Noted x′ users users′ i j → Used p q x′ users′
   used-kept u n = record {
     column = λ l h. elim (ℕ-discrete l j) [
-      | yes c ↦ subst⁻¹ (λ (l : ℕ). MaskOf p (λ k. cell x′ k l) (getD users′ l 0)) c (mask-put (getD users′ j 0) (u .column j hj) hi refl (λ k o. row k j (omega arith) (λ e. o (sym e))) (n .here))
+      | yes c ↦ subst⁻¹ (λ (l : ℕ). MaskOf p (λ k. cell x′ k l) (row-of users′ l)) c (mask-put (row-of users′ j) (u .column j hj) hi refl (λ k o. row k j (omega arith) (λ e. o (sym e))) (n .here))
       | no o ↦ mask-same (λ k. column k l (omega arith) (λ e. o (sym e))) (n .other l o) (u .column l h)
     ];
     none = λ l h. n .other l (λ c. omega arith) ∙ u .none l h;
   }
 
-pub used-adds : {p q : ℕ} {x x′ users users′ : List ℕ} {i j d : ℕ} → q ≤ 64 → i < p → j < q → Adds x x′ i j d → Used p q x users → Noted x′ users users′ i j → Used p q x′ users′
+pub used-adds : {p q : ℕ} {x x′ users users′ : List ℕ} {i j d : ℕ} → q ≤ most-states → i < p → j < q → Adds x x′ i j d → Used p q x users → Noted x′ users users′ i j → Used p q x′ users′
 used-adds w hi hj a = used-kept w hi hj (adds-row a) (adds-column a)
 
-pub used-takes : {p q : ℕ} {x x′ users users′ : List ℕ} {i j d : ℕ} → q ≤ 64 → i < p → j < q → Adds x′ x i j d → Used p q x users → Noted x′ users users′ i j → Used p q x′ users′
+pub used-takes : {p q : ℕ} {x x′ users users′ : List ℕ} {i j d : ℕ} → q ≤ most-states → i < p → j < q → Adds x′ x i j d → Used p q x users → Noted x′ users users′ i j → Used p q x′ users′
 used-takes w hi hj a = used-kept w hi hj (λ k l h o. sym (adds-row a k l h o)) (λ k l h o. sym (adds-column a k l h o))
 
--- a cell and its column's mask are written
-pub noted : {x : List ℕ} (users : List ℕ) (m : ℕ) {i j v : ℕ} → j < length users → cell x i j ≡ v → member m ≡ put i v (member (getD users j 0)) → Noted x users (set users j m) i j
-noted {x} users m {i} {j} {v} h e c = record {
-  here = ap member (getD-set-same users j m 0 h) ∙ c ∙ ap (λ (n : ℕ). put i n (member (getD users j 0))) (sym e);
-  other = λ k o. getD-set-other users j k m 0 o;
+-- a cell and its column's users are written: g is what the column had, m what it has now
+pub noted : {x : List ℕ} (users users′ : List ℕ) (g m : Set) {i j v : ℕ} → j < height users → cell x i j ≡ v → mask g ≡ row-of users j
+    → member (mask m) ≡ put i v (member (mask g)) → users′ ≡ put-row users j m → Noted x users users′ i j
+noted {x} users users′ g m {i} {j} {v} h e eg c eu = record {
+  here = ap (λ (u : List ℕ). member (row-of u j)) eu ∙ ap member (row-put users j m h) ∙ c ∙ ap (λ (n : ℕ). put i v (member n)) eg
+      ∙ ap (λ (n : ℕ). put i n (member (row-of users j))) (sym e);
+  other = λ k o. ap (λ (u : List ℕ). row-of u k) eu ∙ row-put-other users j k m o;
 }
 
 -- a user is a row, and has a column
@@ -204,6 +200,3 @@ user-column {q = q} u i j m = ⊎-elim (λ l. l) (λ l. absurd (neither m (no-me
 
 pub user-row : {p q : ℕ} {x users : List ℕ} → Used p q x users → (i j : ℕ) → relates users j i ≡ true → i < p
 user-row u i j m = u .column j (user-column u i j m) .below i m
-
-pub zeros-get : (n j : ℕ) → getD {A = ℕ} (replicate n 0) j 0 ≡ 0
-zeros-get n j = ⊎-elim (λ l. getD-replicate {A = ℕ} n j 0 0 l) (λ l. List·getD-eq-default {A = ℕ} (replicate n 0) 0 (omega (arith, length-replicate {A = ℕ} n 0))) (below-or-not j n)

@@ -12,6 +12,7 @@ use native.Mathlib.Omega.{arith}
 use lib.ListN.{length, getD, set}
 use lib.Seq.{getD-set-same, getD-set-other}
 use borrow.Author.Tests.{eq-eqb, ne-eqb}
+use Rattle.simulation.specs.Limits.{most-states}
 use Rattle.simulation.specs.Sum.{sum, when}
 use Rattle.simulation.proofs.Finite.Sums.{sum-ext, sum-zero, sum-add, sum-term, sum-pick}
 use Rattle.matrix.specs.Matrix.{cell, Outside, delta, row-sum, column-sum, AddsAt, Adds}
@@ -65,8 +66,8 @@ set-takes-at x k v d h e = record {
   ];
 }
 
--- a place in a row of 64 has one row and one column
-delta-place : (i j i′ j′ d : ℕ) → j < 64 → j′ < 64 → delta (i * 64 + j) (i′ * 64 + j′) d ≡ delta i i′ (delta j j′ d)
+-- a place in a row of most-states has one row and one column
+delta-place : (i j i′ j′ d : ℕ) → j < most-states → j′ < most-states → delta (i * most-states + j) (i′ * most-states + j′) d ≡ delta i i′ (delta j j′ d)
 delta-place i j i′ j′ d h h′ = elim (ℕ-discrete i i′) [
   | yes e ↦ elim (ℕ-discrete j j′) [
     | yes f ↦ delta-eq d (omega arith) ∙ sym (delta-eq (delta j j′ d) e ∙ delta-eq d f)
@@ -75,13 +76,13 @@ delta-place i j i′ j′ d h h′ = elim (ℕ-discrete i i′) [
   | no e ↦ delta-other d (λ c. e (omega arith)) ∙ sym (delta-other (delta j j′ d) e)
 ]
 
-pub adds : {x y : List ℕ} (i j : ℕ) {d : ℕ} → j < 64 → AddsAt x y (i * 64 + j) d → Adds x y i j d
-adds {x} {y} i j {d} h a = record { more = λ i′ j′ h′. a .more (i′ * 64 + j′) ∙ ap (λ (m : ℕ). cell x i′ j′ + m) (delta-place i j i′ j′ d h h′) }
+pub adds : {x y : List ℕ} (i j : ℕ) {d : ℕ} → j < most-states → AddsAt x y (i * most-states + j) d → Adds x y i j d
+adds {x} {y} i j {d} h a = record { more = λ i′ j′ h′. a .more (i′ * most-states + j′) ∙ ap (λ (m : ℕ). cell x i′ j′ + m) (delta-place i j i′ j′ d h h′) }
 
 pub adds-is : {x y : List ℕ} {i j d d′ : ℕ} → d ≡ d′ → Adds x y i j d → Adds x y i j d′
 adds-is {x} {y} {i} {j} e a = subst (λ (d : ℕ). Adds x y i j d) e a
 
-module _ (p q : ℕ) {x y : List ℕ} {i j d : ℕ} (w : q ≤ 64) (a : Adds x y i j d) where
+module _ (p q : ℕ) {x y : List ℕ} {i j d : ℕ} (w : q ≤ most-states) (a : Adds x y i j d) where
   pub row-adds : j < q → (i′ : ℕ) → row-sum q y i′ ≡ row-sum q x i′ + delta i i′ d
   unfolding row-sum
   row-adds h i′ =
@@ -118,10 +119,10 @@ unfolding row-sum
 cell-le q x i j h = sum-term q (λ k. cell x i k) j h
 
 -- cells of other rows and of other columns stay
-pub adds-row : {x y : List ℕ} {i j d : ℕ} → Adds x y i j d → (i′ j′ : ℕ) → j′ < 64 → i ≢ i′ → cell y i′ j′ ≡ cell x i′ j′
+pub adds-row : {x y : List ℕ} {i j d : ℕ} → Adds x y i j d → (i′ j′ : ℕ) → j′ < most-states → i ≢ i′ → cell y i′ j′ ≡ cell x i′ j′
 adds-row {j = j} {d = d} a i′ j′ h o = omega (arith, a .more i′ j′ h, delta-other (delta j j′ d) o)
 
-pub adds-column : {x y : List ℕ} {i j d : ℕ} → Adds x y i j d → (i′ j′ : ℕ) → j′ < 64 → j ≢ j′ → cell y i′ j′ ≡ cell x i′ j′
+pub adds-column : {x y : List ℕ} {i j d : ℕ} → Adds x y i j d → (i′ j′ : ℕ) → j′ < most-states → j ≢ j′ → cell y i′ j′ ≡ cell x i′ j′
 adds-column {i = i} {j = j} {d = d} a i′ j′ h o = omega (arith, a .more i′ j′ h, delta-swap i i′ j j′ d, delta-other (delta i i′ d) o)
 
 pub outside-refl : {p q : ℕ} (x : List ℕ) → Outside p q x x

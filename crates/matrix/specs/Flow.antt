@@ -7,9 +7,12 @@ use mathlib.Core.List.{List}
 use mathlib.Core.Logic.{_≢_}
 use Prim.Native.Nat.{ℕ, _+_, _≤_, _<_, _^_}
 use lib.ListN.{length, getD}
+use Rattle.simulation.specs.Limits.{most-pairs, most-states}
 use Rattle.simulation.specs.Sum.{sum}
-use Rattle.matrix.specs.Matrix.{cell, Outside, delta, row-sum, column-sum}
+use Rattle.relation.specs.Words.{height}
+use Rattle.matrix.specs.Matrix.{cell, Outside}
 use Rattle.matrix.specs.Problem.{relates}
+use Rattle.matrix.specs.Matrix.{delta, row-sum, column-sum}
 use Rattle.matrix.specs.Masks.{Used}
 
 -- what the columns lack together
@@ -19,13 +22,13 @@ missing q b = sum q (λ j. getD b j 0)
 
 -- the lists are long enough
 pub record Sized (p q : ℕ) (rel x a b users : List ℕ) : Type 0 where
-  pub few-rows : p ≤ 64
-  pub few-columns : q ≤ 64
-  pub masks : p ≤ length rel
-  pub cells : 4096 ≤ length x
+  pub few-rows : p ≤ most-states
+  pub few-columns : q ≤ most-states
+  pub masks : p ≤ height rel
+  pub cells : most-pairs ≤ length x
   pub supplies : p ≤ length a
   pub demands : q ≤ length b
-  pub columns : 64 ≤ length users
+  pub columns : most-states ≤ height users
 
 pub record Supported (p q : ℕ) (rel x : List ℕ) : Type 0 where
   pub support : (i j : ℕ) → i < p → j < q → cell x i j ≢ 0 → relates rel i j ≡ true

@@ -1,11 +1,18 @@
-// One cell of the matrix of amounts and the mask of its column, and numbers in other widths.
+// One cell of the matrix of amounts and the users of its column, and numbers in other widths.
+use relation::rows;
 use relation::set;
+use relation::set::Set;
+use relation::word;
+use simulation::Table;
 ghost use mathlib.Core.Path.{_≡_};
 ghost use Prim.Native.Nat.{_+_, _^_, _≤_, _<_, min};
 ghost use lib.ListN.{length, getD};
-ghost use Rattle.relation.specs.Mask.{member};
-ghost use Rattle.matrix.specs.Matrix.{cell, Adds};
-ghost use Rattle.matrix.specs.Masks.{put, MaskOf, Noted};
+ghost use Rattle.simulation.specs.Limits.{most-pairs, most-states};
+ghost use Rattle.relation.specs.Mask.{member, part};
+ghost use Rattle.relation.specs.Words.{mask, height};
+ghost use Rattle.matrix.specs.Matrix.{cell};
+ghost use Rattle.matrix.specs.Matrix.{Adds};
+ghost use Rattle.matrix.specs.Masks.{nonzero, put, MaskOf, Noted};
 
 pub fn smaller(x: u32, y: u32) -> u32
     ensures { λ r. ⌜ r ≡ min x y ⌝ }
@@ -26,57 +33,78 @@ pub fn index(b: u8) -> usize
 }
 
 pub fn byte(i: usize) -> u8
-    requires { ⌜ i < 64 ⌝ }
+    requires { ⌜ i < most-states ⌝ }
     ensures { λ r. ⌜ r ≡ i ⌝ }
 {
     i as u8
 }
 
-// The mask with bit k if v isn't 0, and else without.
-pub fn marked(mask: u64, k: usize, v: u32) -> u64
-    requires { ⌜ k < 64 ⌝ }
-    ensures { λ r. ⌜ member r ≡ put k v (member mask) ⌝ }
+// The set with k if v isn't 0, and else without.
+pub fn marked(set: Set, k: usize, v: u32) -> Set
+    requires { ⌜ k < most-states ⌝ }
+    ensures { λ r. ⌜ member (mask r) ≡ put k v (member (mask set)) ⌝ }
 {
     if v == 0 {
-        return set::remove(mask, k);
+        return set::remove(set, k);
     }
-    set::insert(mask, k)
+    set::insert(set, k)
+}
+
+// The places of a, at most 64, where it isn't 0.
+fn positive_word(a: &[u32]) -> u64
+    requires { ⌜ length (now a) ≤ 64 ⌝ }
+    ensures { λ r. ⌜ member r ≡ part (length (now (a .entry))) (λ i. nonzero (getD (now (a .entry)) i 0)) ⌝ }
+{
+    let mut r = 0u64;
+    let mut i = 0;
+    while i < a.len() {
+        r = word::with_bit(r, i, (a[i] != 0) as u64);
+        i += 1;
+    }
+    r
+}
+
+// The places of a where it isn't 0, word by word: a set that grows by one place after the other goes through memory each time.
+fn positive_places(a: &[u32]) -> Set
+    requires { ⌜ length (now a) ≤ most-states ⌝ }
+    ensures { λ r. ⌜ member (mask r) ≡ part (length (now (a .entry))) (λ i. nonzero (getD (now (a .entry)) i 0)) ⌝ }
+{
+    if a.len() <= 64 {
+        return Set {
+            words: [positive_word(a), 0],
+        };
+    }
+    Set {
+        words: [positive_word(&a[..64]), positive_word(&a[64..])],
+    }
 }
 
 // The places below n where a isn't 0.
-pub fn positive(a: &[u32], n: usize) -> u64
-    requires { ⌜ (n ≤ 64) × (n ≤ length (now a)) ⌝ }
-    ensures { λ r. ⌜ MaskOf n (λ i. getD (now (a .entry)) i 0) r ⌝ }
+pub fn positive(a: &[u32], n: usize) -> Set
+    requires { ⌜ (n ≤ most-states) × (n ≤ length (now a)) ⌝ }
+    ensures { λ r. ⌜ MaskOf n (λ i. getD (now (a .entry)) i 0) (mask r) ⌝ }
 {
-    let mut mask = 0u64;
-    let mut i = 0;
-    while i < n {
-        mask = marked(mask, i, a[i]);
-        i += 1;
-    }
-    mask
+    positive_places(&a[..n])
 }
 
 // d more at row i, column j.
 pub fn place(x: &mut [u32], users: &mut [u64], i: usize, j: usize, d: u32)
-    requires { ⌜ (i < 64) × (j < 64) × (4096 ≤ length (now x)) × (64 ≤ length (now users)) × (cell (now x) i j + d < 2 ^ 32) ⌝ }
+    requires { ⌜ (i < most-states) × (j < most-states) × (most-pairs ≤ length (now x)) × (most-states ≤ height (now users)) × (cell (now x) i j + d < 2 ^ 32) ⌝ }
     ensures { λ r. ⌜ Adds (now (x .entry)) (now (x .exit)) i j d × Noted (now (x .exit)) (now (users .entry)) (now (users .exit)) i j ⌝ }
 {
-    let at = i * 64 + j;
+    let at = i * Table::STATES + j;
     let v = x[at] + d;
     x[at] = v;
-    let old = users[j];
-    users[j] = marked(old, i, v);
+    rows::put(users, j, marked(rows::get(users, j), i, v));
 }
 
 // d less at row i, column j.
 pub fn take(x: &mut [u32], users: &mut [u64], i: usize, j: usize, d: u32)
-    requires { ⌜ (i < 64) × (j < 64) × (4096 ≤ length (now x)) × (64 ≤ length (now users)) × (d ≤ cell (now x) i j) ⌝ }
+    requires { ⌜ (i < most-states) × (j < most-states) × (most-pairs ≤ length (now x)) × (most-states ≤ height (now users)) × (d ≤ cell (now x) i j) ⌝ }
     ensures { λ r. ⌜ Adds (now (x .exit)) (now (x .entry)) i j d × Noted (now (x .exit)) (now (users .entry)) (now (users .exit)) i j ⌝ }
 {
-    let at = i * 64 + j;
+    let at = i * Table::STATES + j;
     let v = x[at] - d;
     x[at] = v;
-    let old = users[j];
-    users[j] = marked(old, i, v);
+    rows::put(users, j, marked(rows::get(users, j), i, v));
 }

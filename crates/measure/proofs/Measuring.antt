@@ -11,6 +11,7 @@ use native.Mathlib.Decide.{ℕ-discrete}
 use lib.Dec.{T, eqb, eqb→eq, ltb, ltb→lt, lt→ltb}
 use lib.ListN.{length, getD, set, length-set}
 use lib.Seq.{getD-set-same, getD-set-other}
+use Rattle.simulation.specs.Limits.{most-states, most-pairs}
 use Rattle.simulation.specs.Sum.{sum, any, when}
 use Rattle.simulation.specs.Table.{Table, targets, target-at, states-of}
 use Rattle.simulation.specs.Round.{pairs}
@@ -22,24 +23,25 @@ use Rattle.simulation.proofs.Trees.Length.{pair-length-step}
 use Rattle.form.specs.Form.{Loaded, table-of, transition-at}
 use Rattle.form.proofs.FormLaws.{limits, sound, few-pairs}
 use Rattle.relation.specs.Mask.{Test, member}
+use Rattle.relation.specs.Words.{row-of}
 use Rattle.relate.specs.Ranked.{Ranked}
 use Rattle.choice.specs.Choice.{Lost, Choice, Sets}
 use Rattle.choice.proofs.Choices.{below-lost}
 use Rattle.order.proofs.Pairs.{from-number, lost-place, lost-low, number-place}
 use Rattle.order.proofs.Targets.{ChoiceGiven, targets-are, count-is, few-targets, state-low, state-row, set-at, child-lost, length-parts}
-use Rattle.measure.specs.Lengths.{set-length, SumGiven, Measured, most, children-length, ChildrenGiven, Holds, MeasureGiven, PairGiven, AllHold, TreeMeasured}
+use Rattle.measure.specs.Lengths.{set-length, SumGiven, Measured, most, children-length, most-children, ChildrenGiven, Holds, MeasureGiven, PairGiven, AllHold, TreeMeasured}
 use Rattle.order.specs.Count.{longest}
 use Rattle.order.specs.Order.{Found, Later, Noted, number, row, column, Ordered}
 
 -- ---- the loop over the children
 
--- a set of pairs has at most 64, each of at most the greatest length
-set-small : (width : ℕ) (lengths : List ℕ) (s : ℕ) (X : Test) → width ≤ 64 → ((i : ℕ) → getD lengths i 0 ≤ 4294967296) → set-length width lengths s X ≤ 274877906944
+-- a set of pairs has at most one of each state, each of at most the greatest length
+set-small : (width : ℕ) (lengths : List ℕ) (s : ℕ) (X : Test) → width ≤ most-states → ((i : ℕ) → getD lengths i 0 ≤ most) → set-length width lengths s X ≤ most-states * most
 set-small width lengths s X w h =
     omega (
       arith,
-      sum-bound width 4294967296 (λ t. when (X t) (getD lengths (s * width + t) 0)) (λ t _. omega (arith, when-most (X t) (getD lengths (s * width + t) 0), h (s * width + t))),
-      mul-le-mul-right 4294967296 w,
+      sum-bound width most (λ t. when (X t) (getD lengths (s * width + t) 0)) (λ t _. omega (arith, when-most (X t) (getD lengths (s * width + t) 0), h (s * width + t))),
+      mul-le-mul-right most w,
     )
 
 -- the length of the children before i
@@ -51,42 +53,47 @@ pub record LengthLoop (second lengths targets sets : List ℕ) (len i : ℕ) : T
 pub length-start : (second lengths targets sets : List ℕ) → LengthLoop second lengths targets sets 0 0
 length-start second lengths targets sets = record { is = sum-none _; inside = zero-le }
 
-module _ {second lengths targets sets : List ℕ} (g : ChildrenGiven second lengths targets sets) (small : (i : ℕ) → getD lengths i 0 ≤ 4294967296) where
+module _ {second lengths targets sets : List ℕ} (g : ChildrenGiven second lengths targets sets) (small : (i : ℕ) → getD lengths i 0 ≤ most) where
   abbrev width : ℕ
   width = states-of (table-of second)
 
-  node-small : (i : ℕ) → set-length width lengths (getD targets i 0) (member (getD sets i 0)) ≤ 274877906944
-  node-small i = set-small width lengths (getD targets i 0) (member (getD sets i 0)) (limits second (g .loaded) .states-few) small
+  node-small : (i : ℕ) → set-length width lengths (getD targets i 0) (member (row-of sets i)) ≤ most-states * most
+  node-small i = set-small width lengths (getD targets i 0) (member (row-of sets i)) (limits second (g .loaded) .states-few) small
 
-  all-small : (n : ℕ) → n ≤ 64 → children-length width lengths targets sets n ≤ 17592186044672
+  all-small : (n : ℕ) → n ≤ most-states → children-length width lengths targets sets n ≤ most-children
   all-small n h =
       omega (
         arith,
-        sum-bound n 274877906948 (λ i. 4 + set-length width lengths (getD targets i 0) (member (getD sets i 0))) (λ i _. omega (arith, node-small i)),
-        mul-le-mul-right 274877906948 h,
+        sum-bound n (4 + most-states * most) (λ i. 4 + set-length width lengths (getD targets i 0) (member (row-of sets i))) (λ i _. omega (arith, node-small i)),
+        mul-le-mul-right (4 + most-states * most) h,
       )
 
   module _ {len i : ℕ} (l : LengthLoop second lengths targets sets len i) where
     -- after the last child it is the length of all, and small
-    pub length-end : length targets ≤ i → (len ≡ children-length width lengths targets sets (length targets)) × (len ≤ 17592186044672)
+    pub length-end : length targets ≤ i → (len ≡ children-length width lengths targets sets (length targets)) × (len ≤ most-children)
     length-end h =
         let e : i ≡ length targets = omega (arith, l .inside) in
         (l .is ∙ ap (children-length width lengths targets sets) e, omega (arith, l .is, all-small i (omega (arith, g .few))))
 
-    module _ (lt : i < length targets) where
+    module _ (lt : i < length targets) {m : ℕ} (em : m ≡ row-of sets i) where
       -- the next child's length can be added up, and fits
-      pub length-node : SumGiven second lengths (getD targets i 0) (getD sets i 0)
-      length-node = record { loaded = g .loaded; low = g .low i lt; inside = λ t h. g .inside i t lt h; room = g .room i lt; small = omega (arith, node-small i) }
+      pub length-node : SumGiven second lengths (getD targets i 0) m
+      length-node =
+          subst (SumGiven second lengths (getD targets i 0)) (sym em)
+          (record { loaded = g .loaded; low = g .low i lt; inside = λ t h. g .inside i t lt h; room = g .room i lt; small = omega (arith, node-small i) })
 
-      module _ (r : ℕ) (er : r ≡ 1 + set-length width lengths (getD targets i 0) (member (getD sets i 0))) where
-        pub length-fits : (r ≤ 274877906945) × (len + (3 + r) ≤ 17867063951620)
-        length-fits = (omega (arith, er, node-small i), omega (arith, er, node-small i, l .is, all-small i (omega (arith, g .few))))
+      module _ (r : ℕ) (er : r ≡ 1 + set-length width lengths (getD targets i 0) (member m)) where
+        by-row : r ≡ 1 + set-length width lengths (getD targets i 0) (member (row-of sets i))
+        by-row = er ∙ ap (λ (k : ℕ). 1 + set-length width lengths (getD targets i 0) (member k)) em
+
+        pub length-fits : (3 + r ≤ 4 + most-states * most) × (len + (3 + r) ≤ most-children + (4 + most-states * most))
+        length-fits = (omega (arith, by-row, node-small i), omega (arith, by-row, node-small i, l .is, all-small i (omega (arith, g .few))))
 
         -- it is added
         pub length-next : LengthLoop second lengths targets sets (len + (3 + r)) (i + 1)
         length-next =
             record {
-              is = omega (arith, er, l .is, sum-more i (λ i. 4 + set-length width lengths (getD targets i 0) (member (getD sets i 0))) refl);
+              is = omega (arith, by-row, l .is, sum-more i (λ i. 4 + set-length width lengths (getD targets i 0) (member (row-of sets i))) refl);
               inside = omega arith;
             }
 
@@ -134,10 +141,10 @@ module _ {first second ranks lengths sets rel x : List ℕ} {s t : ℕ} (g : Pai
             room = λ i b. omega (arith, state-row pair-choice et i b, g .given .room);
           }
 
-      same-child : (i v : ℕ) → i < length ts → min most (when (member (getD sets′ i 0) v) (getD lengths (getD ts i 0 * states-of N + v) 0))
-          ≡ min most (when (member (getD sets′ i 0) v) (pair-length M N (getD ts i 0) v))
+      same-child : (i v : ℕ) → i < length ts → min most (when (member (row-of sets′ i) v) (getD lengths (getD ts i 0 * states-of N + v) 0))
+          ≡ min most (when (member (row-of sets′ i) v) (pair-length M N (getD ts i 0) v))
       same-child i v b =
-          min-when most (member (getD sets′ i 0) v) _ _ (λ h.
+          min-when most (member (row-of sets′ i) v) _ _ (λ h.
           ap (min most) (subst (λ (u : ℕ). Holds first second lengths u v) (sym (targets-are pair-choice et i))
           (g .below i v (omega (arith, count-is pair-choice et)) (subst (λ (X : Test). T (X v)) (set-at pair-choice et z i b) h)))
           ∙ min-same most _)
@@ -198,7 +205,7 @@ module _ {first second ranks order : List ℕ} {n : ℕ} {lengths₀ sets₀ rel
     place = omega (arith, l .inside)
 
     -- the place before i, and the places of its pair
-    pub place-known : (i - 1 < length order) × (i - 1 < 4096)
+    pub place-known : (i - 1 < length order) × (i - 1 < most-pairs)
     place-known = (omega (arith, place, o .fits), omega (arith, place, o .few))
 
     is-number : number first second (row first second p) (column first second p) ≡ p
@@ -210,7 +217,7 @@ module _ {first second ranks order : List ℕ} {n : ℕ} {lengths₀ sets₀ rel
     pub pair-noted : (choices : List ℕ) → pairs (table-of first) (table-of second) ≤ length choices → p < length choices
     pair-noted choices room = omega (arith, low)
 
-    pub pair-in : (p < length lengths) × (p < 4096)
+    pub pair-in : (p < length lengths) × (p < most-pairs)
     pair-in = (omega (arith, low, l .given .room), omega (arith, low, few-pairs first second (l .given .ranked .first-loaded) (l .given .ranked .second-loaded)))
 
     here-given : PairGiven first second ranks lengths sets rel x (row first second p) (column first second p)
@@ -268,7 +275,7 @@ module _ {first second ranks order : List ℕ} {n : ℕ} {lengths₀ sets₀ rel
 
 module _ {first second ranks lengths sets rel x : List ℕ} {s t : ℕ} (g : MeasureGiven first second ranks lengths sets rel x) (lost : Lost first second s t) where
   -- what asking for the root's length rests on
-  pub root-low : Loaded second × (s < 64) × (t < 64)
+  pub root-low : Loaded second × (s < most-states) × (t < most-states)
   root-low = let low = lost-low lost (g .ranked .first-loaded) (g .ranked .second-loaded) in (g .ranked .second-loaded, low .0, low .1)
 
   pub root-place : number first second s t < length lengths

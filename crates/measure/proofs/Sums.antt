@@ -36,6 +36,10 @@ pub record SumLoop (second lengths : List ℕ) (s members len left : ℕ) : Type
   pub total : len + set-length (states-of (table-of second)) lengths s (member left) ≡ 1 + set-length (states-of (table-of second)) lengths s (member members)
   pub kept : (t : ℕ) → T (member left t) → T (member members t)
 
+-- at first all are left
+pub sum-start : (second lengths : List ℕ) (s members : ℕ) → SumLoop second lengths s members 1 members
+sum-start second lengths s members = record { total = refl; kept = λ t h. h }
+
 module _ {second lengths : List ℕ} {s members len left : ℕ} (g : SumGiven second lengths s members) (l : SumLoop second lengths s members len left)
     {t : ℕ} (low : Lowest (member left) t) where
   -- the lowest member left is a state, and its length can be added

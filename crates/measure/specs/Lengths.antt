@@ -6,6 +6,7 @@ use mathlib.Core.List.{List}
 use Prim.Native.Nat.{ℕ, _+_, _*_, _^_, _≤_, _<_, min}
 use lib.Dec.{T}
 use lib.ListN.{length, getD}
+use Rattle.simulation.specs.Limits.{most-states}
 use Rattle.simulation.specs.Sum.{sum, when}
 use Rattle.simulation.specs.Table.{target-at, states-of}
 use Rattle.simulation.specs.Round.{pairs}
@@ -13,6 +14,7 @@ use Rattle.simulation.specs.Tree.{chosen, set-of}
 use Rattle.simulation.specs.Length.{pair-length, tree-length}
 use Rattle.form.specs.Form.{Loaded, table-of}
 use Rattle.relation.specs.Mask.{member}
+use Rattle.relation.specs.Words.{row-of, height}
 use Rattle.relate.specs.Ranked.{Ranked, Lent}
 use Rattle.choice.specs.Choice.{Lost, Choice}
 use Rattle.order.specs.Count.{longest}
@@ -29,22 +31,26 @@ set-length width lengths s X = sum width (λ t. when (X t) (getD lengths (s * wi
 -- what adding them up rests on
 pub record SumGiven (second lengths : List ℕ) (s members : ℕ) : Type 0 where
   pub loaded : Loaded second
-  pub low : s < 64
+  pub low : s < most-states
   pub inside : (t : ℕ) → T (member members t) → t < states-of (table-of second)
   pub room : s * states-of (table-of second) + states-of (table-of second) ≤ length lengths
   pub small : 1 + set-length (states-of (table-of second)) lengths s (member members) < 2 ^ 64
 
 -- the bytes of a transition's children, from the lengths of pairs
 abbrev pub children-length : (width : ℕ) (lengths targets sets : List ℕ) → ℕ → ℕ
-children-length width lengths targets sets n = sum n (λ i. 4 + set-length width lengths (getD targets i 0) (member (getD sets i 0)))
+children-length width lengths targets sets n = sum n (λ i. 4 + set-length width lengths (getD targets i 0) (member (row-of sets i)))
+
+-- they are at most this: a state, a weight, a count and the length of a pair of each member, for each target
+abbrev pub most-children : ℕ
+most-children = most-states * (4 + most-states * most)
 
 -- what adding them up rests on
 pub record ChildrenGiven (second lengths targets sets : List ℕ) : Type 0 where
   pub loaded : Loaded second
-  pub few : length targets ≤ 64
-  pub words : length targets ≤ length sets
-  pub low : (i : ℕ) → i < length targets → getD targets i 0 < 64
-  pub inside : (i t : ℕ) → i < length targets → T (member (getD sets i 0) t) → t < states-of (table-of second)
+  pub few : length targets ≤ most-states
+  pub words : length targets ≤ height sets
+  pub low : (i : ℕ) → i < length targets → getD targets i 0 < most-states
+  pub inside : (i t : ℕ) → i < length targets → T (member (row-of sets i) t) → t < states-of (table-of second)
   pub room : (i : ℕ) → i < length targets → getD targets i 0 * states-of (table-of second) + states-of (table-of second) ≤ length lengths
 
 module _ (first second : List ℕ) where
@@ -62,11 +68,11 @@ module _ (first second : List ℕ) where
   abbrev pub Holds : (lengths : List ℕ) (s t : ℕ) → Type 0
   Holds lengths s t = getD lengths (number first second s t) 0 ≡ min most (pair-length (table-of first) (table-of second) s t)
 
-  -- what measuring rests on: a length for each pair, a word for each target of a transition
+  -- what measuring rests on: a length for each pair, a set for each target of a transition
   pub record MeasureGiven (ranks lengths sets rel x : List ℕ) : Type 0 where
     pub ranked : Ranked first second ranks
     pub room : pairs (table-of first) (table-of second) ≤ length lengths
-    pub words : 64 ≤ length sets
+    pub words : most-states ≤ height sets
     pub lent : Lent rel x
 
   -- a pair that is not kept, and the lengths of the pairs below it

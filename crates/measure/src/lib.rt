@@ -4,42 +4,50 @@ use choice::rank_at;
 use order::count::LONGEST;
 use order::list::list;
 use order::pair::number;
-use relation::set;
+use relation::Relation;
+use relation::rows;
+use relation::set::Set;
+use relation::walk;
 ghost use mathlib.Core.Path.{_≡_};
 ghost use Prim.Native.Nat.{_+_, _*_, _≤_, _<_, min};
 ghost use lib.ListN.{length, getD};
+ghost use Rattle.simulation.specs.Limits.{most-states};
 ghost use Rattle.simulation.specs.Table.{states-of};
 ghost use Rattle.simulation.specs.Round.{pairs};
 ghost use Rattle.simulation.specs.Length.{pair-length};
 ghost use Rattle.form.specs.Form.{Loaded, table-of};
 ghost use Rattle.relation.specs.Mask.{member};
+ghost use Rattle.relation.specs.Words.{mask};
+ghost use Rattle.relate.specs.Ranked.{Ranked, Lent};
 ghost use Rattle.choice.specs.Choice.{Lost, Choice};
 ghost use Rattle.order.specs.Count.{longest};
 ghost use Rattle.order.specs.Order.{Ordered, Noted};
-ghost use Rattle.measure.specs.Lengths.{most, set-length, SumGiven, children-length, ChildrenGiven, MeasureGiven, PairGiven, AllHold, TreeMeasured};
+ghost use Rattle.measure.specs.Lengths.{most, set-length, SumGiven, children-length, most-children, ChildrenGiven, MeasureGiven, PairGiven, AllHold, TreeMeasured};
 
 // A longer length is given as this number.
 pub const MOST: u32 = 4_294_967_295;
 
 // How many bytes the transition of the pair (s, t) takes.
 pub fn pair_length(second: &[u16], lengths: &[u32], s: usize, t: usize) -> usize
-    requires { ⌜ Loaded (now second) × (s < 64) × (t < 64) × (s * states-of (table-of (now second)) + t < length (now lengths)) ⌝ }
+    requires { ⌜ Loaded (now second) × (s < most-states) × (t < most-states) × (s * states-of (table-of (now second)) + t < length (now lengths)) ⌝ }
     ensures { λ r. ⌜ r ≡ getD (now (lengths .entry)) (s * states-of (table-of (now (second .entry))) + t) 0 ⌝ }
 {
     lengths[number(second, s, t)] as usize
 }
 
 // How many bytes the node of a state and a set takes.
-pub fn node_length(second: &[u16], lengths: &[u32], s: usize, members: u64) -> usize
-    requires { ⌜ SumGiven (now second) (now lengths) s members ⌝ }
-    ensures { λ r. ⌜ r ≡ 1 + set-length (states-of (table-of (now (second .entry)))) (now (lengths .entry)) s (member members) ⌝ }
+pub fn node_length(second: &[u16], lengths: &[u32], s: usize, members: Set) -> usize
+    requires { ⌜ SumGiven (now second) (now lengths) s (mask members) ⌝ }
+    ensures { λ r. ⌜ r ≡ 1 + set-length (states-of (table-of (now (second .entry)))) (now (lengths .entry)) s (member (mask members)) ⌝ }
 {
     let mut len = 1;
-    let mut left = members;
-    while left != 0 {
-        let t = set::lowest(left);
-        len += pair_length(second, lengths, s, t);
-        left = set::without_lowest(left);
+    for w in 0..Set::WORDS {
+        let mut left = members.words[w];
+        while left != 0 {
+            let t = walk::lowest(members, w, left);
+            len += pair_length(second, lengths, s, t);
+            left = walk::without_lowest(members, w, left);
+        }
     }
     len
 }
@@ -48,12 +56,12 @@ pub fn node_length(second: &[u16], lengths: &[u32], s: usize, members: u64) -> u
 fn children_length(second: &[u16], lengths: &[u32], targets: &[u16], sets: &[u64]) -> usize
     requires { ⌜ ChildrenGiven (now second) (now lengths) (now targets) (now sets) ⌝ }
     ensures { λ r. ⌜ (r ≡ children-length (states-of (table-of (now (second .entry)))) (now (lengths .entry)) (now (targets .entry)) (now (sets .entry)) (length (now (targets .entry))))
-        × (r ≤ 17592186044672) ⌝ }
+        × (r ≤ most-children) ⌝ }
 {
     let mut len = 0;
     for i in 0..targets.len() {
         let s = targets[i] as usize;
-        let members = sets[i];
+        let members = rows::get(sets, i);
         len += 3 + node_length(second, lengths, s, members);
     }
     len
@@ -126,7 +134,7 @@ fn measure(
 
 // The bytes of the tree of the pair (s, t), a count and the pair's transition; LONGEST + 1 for any number above LONGEST.
 fn root_length(second: &[u16], lengths: &[u32], s: usize, t: usize) -> u32
-    requires { ⌜ Loaded (now second) × (s < 64) × (t < 64) × (s * states-of (table-of (now second)) + t < length (now lengths)) ⌝ }
+    requires { ⌜ Loaded (now second) × (s < most-states) × (t < most-states) × (s * states-of (table-of (now second)) + t < length (now lengths)) ⌝ }
     ensures { λ r. ⌜ r ≡ min (longest + 1) (1 + getD (now (lengths .entry)) (s * states-of (table-of (now (second .entry))) + t) 0) ⌝ }
 {
     let len = lengths[number(second, s, t)];
@@ -136,9 +144,8 @@ fn root_length(second: &[u16], lengths: &[u32], s: usize, t: usize) -> u32
     len + 1
 }
 
-// How many bytes the tree of the pair (s, t) takes, which is not kept; LONGEST + 1 for any number above LONGEST.
-// The transitions and the lengths of the pairs that it meets are noted for the writing of it.
-pub fn tree_length(
+// How many bytes the tree of the pair (s, t) takes, in room for the list of the pairs that it meets and for sets.
+fn listed_length(
     first: &[u16],
     second: &[u16],
     ranks: &[u16],
@@ -185,4 +192,38 @@ pub fn tree_length(
         x,
     );
     root_length(second, lengths, s, t)
+}
+
+// How many bytes the tree of the pair (s, t) takes, which is not kept; LONGEST + 1 for any number above LONGEST.
+// The transitions and the lengths of the pairs that it meets are noted for the writing of it; their sets live here only.
+pub fn tree_length(
+    first: &[u16],
+    second: &[u16],
+    ranks: &[u16],
+    s: usize,
+    t: usize,
+    order: &mut [u16],
+    choices: &mut [u8],
+    lengths: &mut [u32],
+    rel: &mut [u64],
+    x: &mut [u32],
+) -> u32
+    requires { ⌜ Ranked (now first) (now second) (now ranks) × Lost (now first) (now second) s t × Lent (now rel) (now x)
+        × (pairs (table-of (now first)) (table-of (now second)) ≤ length (now order)) × (pairs (table-of (now first)) (table-of (now second)) ≤ length (now choices)) × (pairs (table-of (now first)) (table-of (now second)) ≤ length (now lengths)) ⌝ }
+    ensures { λ r. ⌜ TreeMeasured (now (first .entry)) (now (second .entry)) (now (choices .exit)) (now (lengths .exit)) s t r ⌝ }
+{
+    let mut sets = [1u64; Relation::WORDS];
+    listed_length(
+        first,
+        second,
+        ranks,
+        s,
+        t,
+        order,
+        choices,
+        lengths,
+        &mut sets,
+        rel,
+        x,
+    )
 }

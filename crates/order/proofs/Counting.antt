@@ -11,6 +11,7 @@ use lib.Dec.{T, eqb}
 use lib.ListN.{length, getD, set, length-set}
 use lib.Seq.{getD-set-same, getD-set-other}
 use borrow.Author.Tests.{eq-eqb, ne-eqb}
+use Rattle.simulation.specs.Limits.{most-states, most-pairs}
 use Rattle.simulation.specs.Sum.{sum, when}
 use Rattle.simulation.specs.Table.{Table, targets, states-of}
 use Rattle.simulation.specs.Round.{pairs}
@@ -19,6 +20,7 @@ use Rattle.simulation.proofs.Finite.Sums.{sum-bound, sum-none, sum-more, when-m
 use Rattle.form.specs.Form.{table-of, transition-at}
 use Rattle.form.proofs.FormLaws.{limits, few-pairs}
 use Rattle.relation.specs.Mask.{Test, member, without-member, Lowest}
+use Rattle.relation.specs.Words.{row-of}
 use Rattle.relation.proofs.Mask.{member-none}
 use Rattle.choice.specs.Choice.{Lost}
 use Rattle.order.proofs.Pairs.{same-pair, place-below, lost-place, member-holds, without-in}
@@ -54,7 +56,7 @@ module _ {width s members c : ℕ} {counts₀ counts : List ℕ} {left : ℕ} (w
   pub member-place : s * width + t < length counts
   member-place = omega (arith, member-inside, w .room, l .size)
 
-  pub member-small : s * width + t < 4096
+  pub member-small : s * width + t < most-pairs
   member-small = omega (arith, member-inside, w .narrow, w .low, mul-le-mul-left s (w .narrow))
 
   due-here : (b : Bool) → b ≡ true → getD counts (s * width + t) 0 + when (b && member left t) c ≡ getD counts (s * width + t) 0 + c
@@ -113,6 +115,23 @@ row-end {s = s} {c = c} {left = left} l z =
           omega (arith, l .due u v b, ap (λ p. when (eqb s u && p) c) (ap (λ (k : ℕ). member k v) z ∙ member-none v), ap (λ p. when p c) (and-false (eqb s u)));
     }
 
+-- ---- the counts emptied from the first
+
+pub record Emptied (n : ℕ) (counts₀ counts : List ℕ) (i : ℕ) : Type 0 where
+  pub inside : i ≤ n
+  pub size : length counts ≡ length counts₀
+  pub empty : (k : ℕ) → k < i → getD counts k 0 ≡ 0
+
+pub emptied-start : (n : ℕ) (counts : List ℕ) → Emptied n counts counts 0
+emptied-start n counts = record { inside = zero-le; size = refl; empty = λ k h. absurd (omega arith) }
+
+pub emptied-next : {n : ℕ} {counts₀ counts : List ℕ} {i : ℕ} → Emptied n counts₀ counts i → i < n → n ≤ length counts₀ → Emptied n counts₀ (set counts i 0) (i + 1)
+emptied-next {counts = counts} {i} e lt room = record { inside = omega arith; size = length-set counts i 0 ∙ e .size; empty = λ k h. at k h (ℕ-discrete k i) }
+  where
+    at : (k : ℕ) → k < i + 1 → Dec (k ≡ i) → getD (set counts i 0) k 0 ≡ 0
+    at k h (yes q) = ap (λ (k : ℕ). getD (set counts i 0) k 0) q ∙ getD-set-same counts i 0 0 (omega (arith, e .size))
+    at k h (no d) = getD-set-other counts i k 0 0 d ∙ e .empty k (omega (arith, d))
+
 -- ---- the targets of a transition
 
 -- the counts of the targets before i are raised
@@ -129,30 +148,30 @@ counts-start targets sets width c counts =
 module _ {targets sets : List ℕ} {width c : ℕ} {counts₀ counts : List ℕ} {i : ℕ} (g : CountsGiven targets sets width c counts₀)
     (l : CountsLoop targets sets width c counts₀ counts i) (lt : i < length targets) where
   -- the next target's members can be counted
-  pub child-within : Within counts width (getD targets i 0) (getD sets i 0) c
-  child-within =
+  pub child-within : (members : ℕ) → members ≡ row-of sets i → Within counts width (getD targets i 0) members c
+  child-within members e =
       record {
         narrow = g .narrow;
         low = g .low i lt;
-        inside = λ t h. g .inside i t lt h;
+        inside = λ t h. g .inside i t lt (subst (λ (k : ℕ). T (member k t)) e h);
         room = omega (arith, g .room i lt, l .same-counts);
         small = λ t b. omega (
           arith,
           g .small i t lt b,
           l .added .at (getD targets i 0) t b,
           sum-bound i c (λ k. when (child targets sets (getD targets i 0) t k) c) (λ k _. when-most (child targets sets (getD targets i 0) t k) c),
-          mul-le-mul-right c (let h : i + 1 ≤ 64 = omega (arith, g .few) in h),
+          mul-le-mul-right c (let h : i + 1 ≤ most-states = omega (arith, g .few) in h),
         );
       }
 
   -- they are counted
-  pub counts-next : {counts′ : List ℕ} → length counts′ ≡ length counts → RowAdded width (getD targets i 0) (getD sets i 0) c counts counts′
+  pub counts-next : {counts′ : List ℕ} {members : ℕ} → members ≡ row-of sets i → length counts′ ≡ length counts → RowAdded width (getD targets i 0) members c counts counts′
       → CountsLoop targets sets width c counts₀ counts′ (i + 1)
-  counts-next e r =
+  counts-next {counts′} {members} is e r =
       record {
         inside = omega arith;
         same-counts = e ∙ l .same-counts;
-        added = record { at = λ u v b. omega (arith, r .at u v b, l .added .at u v b, sum-more i (λ k. when (child targets sets u v k) c) refl) };
+        added = record { at = λ u v b. omega (arith, r .at u v b, ap (λ (k : ℕ). when (eqb (getD targets i 0) u && member k v) c) is, l .added .at u v b, sum-more i (λ k. when (child targets sets u v k) c) refl) };
       }
 
 -- after the last target the counts of all are raised
@@ -201,7 +220,7 @@ module _ {first second : List ℕ} {s t j : ℕ} {sets counts : List ℕ} {bytes
   pub hand-place : (width : ℕ) → width ≡ states-of N → s * width + t < length counts
   hand-place width e = omega (arith, ap (λ (n : ℕ). s * n + t) e, lost-place (g .lost), g .tally .room)
 
-  pub hand-low : (width : ℕ) → width ≡ states-of N → s * width + t < 4096
+  pub hand-low : (width : ℕ) → width ≡ states-of N → s * width + t < most-pairs
   hand-low width e = omega (arith, ap (λ (n : ℕ). s * n + t) e, lost-place (g .lost), few-pairs first second (g .first-loaded) (g .second-loaded))
 
   due-small : due ≤ bytes
@@ -241,9 +260,9 @@ module _ {first second : List ℕ} {s t j : ℕ} {sets counts : List ℕ} {bytes
 
     -- the pair's length, with the four bytes of each target apart
     split-length : pair-length M N s t
-        ≡ 2 + (4 * length ts + sum (length ts) (λ i. sum (states-of N) (λ u. when (member (getD sets i 0) u) (pair-length M N (getD ts i 0) u))))
+        ≡ 2 + (4 * length ts + sum (length ts) (λ i. sum (states-of N) (λ u. when (member (row-of sets i) u) (pair-length M N (getD ts i 0) u))))
     split-length =
-        length-parts hand-choice et (g .told) ∙ ap (_+_ 2) (sum-fours (length ts) (λ i. sum (states-of N) (λ u. when (member (getD sets i 0) u) (pair-length M N (getD ts i 0) u))))
+        length-parts hand-choice et (g .told) ∙ ap (_+_ 2) (sum-fours (length ts) (λ i. sum (states-of N) (λ u. when (member (row-of sets i) u) (pair-length M N (getD ts i 0) u))))
 
     handed : bytes ≤ longest → {counts′ : List ℕ} → length counts′ ≡ length counts → CountsAdded ts sets (states-of N) due (length ts) cleared counts′
         → Tallied first second counts bytes counts′ (bytes + due * (2 + 4 * length ts))

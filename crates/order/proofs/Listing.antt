@@ -8,14 +8,16 @@ use native.Mathlib.Numerals.{add-one}
 use native.Mathlib.Omega.{arith}
 use native.Mathlib.Decide.{ℕ-discrete}
 use lib.Dec.{eqb}
-use lib.ListN.{length, getD, set, length-set}
-use lib.Seq.{getD-set-same, getD-set-other}
+use lib.ListN.{length, getD}
 use borrow.Author.Tests.{eq-eqb, ne-eqb}
 use Rattle.simulation.specs.Sum.{sum, any, when}
 use Rattle.simulation.specs.Table.{targets}
 use Rattle.simulation.proofs.Finite.Sums.{sum-ext, sum-one, sum-zero, sum-swap, sum-pick, sum-strict, one-most}
 use Rattle.simulation.proofs.Finite.Tests.{any-none}
 use Rattle.relation.specs.Mask.{Test, member, with-member, either}
+use Rattle.relation.specs.Words.{mask, row-of, height, put-row}
+use Rattle.relation.specs.declared.set.Set.{Set}
+use Rattle.relation.proofs.Sets.{length-put, row-put, row-put-other}
 use Rattle.choice.proofs.Choosing.{eqb-flip}
 use Rattle.order.specs.Order.{Children, ChildrenAdded}
 use Rattle.order.specs.Count.{child}
@@ -43,7 +45,7 @@ children-start targets sets todo rows =
       inside = zero-le;
       same-todo = refl;
       added = record {
-        listed = λ u v. sym (ap (λ b. b || member (getD todo u 0) v) (any-none (child targets sets u v)));
+        listed = λ u v. sym (ap (λ b. b || member (row-of todo u) v) (any-none (child targets sets u v)));
         opened = λ u. sym (ap (λ b. b || member rows u) (any-none (λ i. eqb (getD targets i 0) u)));
       };
     }
@@ -51,21 +53,22 @@ children-start targets sets todo rows =
 module _ {targets sets todo₀ : List ℕ} {rows₀ : ℕ} {todo : List ℕ} {rows i : ℕ} (g : Children targets sets todo₀)
     (l : ChildrenLoop targets sets todo₀ rows₀ todo rows i) (lt : i < length targets) where
   -- the next target has a row
-  pub target-row : getD targets i 0 < length todo
+  pub target-row : getD targets i 0 < height todo
   target-row = omega (arith, g .low i lt, g .rows, l .same-todo)
 
   -- its pairs are added
-  pub children-next : (joined : ℕ) {rows′ : ℕ} → member joined ≡ either (member (getD sets i 0)) (member (getD todo (getD targets i 0) 0))
-      → member rows′ ≡ with-member (getD targets i 0) (member rows) → ChildrenLoop targets sets todo₀ rows₀ (set todo (getD targets i 0) joined) rows′ (i + 1)
-  children-next joined {rows′} ej er =
+  pub children-next : (joined : Set) {todo′ : List ℕ} {rows′ : ℕ} → todo′ ≡ put-row todo (getD targets i 0) joined
+      → member (mask joined) ≡ either (member (row-of sets i)) (member (row-of todo (getD targets i 0)))
+      → member rows′ ≡ with-member (getD targets i 0) (member rows) → ChildrenLoop targets sets todo₀ rows₀ todo′ rows′ (i + 1)
+  children-next joined {todo′} {rows′} et ej er =
       record {
         inside = omega arith;
-        same-todo = length-set todo s joined ∙ l .same-todo;
+        same-todo = ap length et ∙ length-put todo s joined ∙ l .same-todo;
         added = record {
           listed = λ u v.
               at u v (ℕ-discrete u s) ∙ ap (λ b. child targets sets u v i || b) (l .added .listed u v)
-              ∙ or-join (child targets sets u v i) (any i (child targets sets u v)) (member (getD todo₀ u 0) v)
-              ∙ sym (ap (λ b. b || member (getD todo₀ u 0) v) (any-next i (child targets sets u v)));
+              ∙ or-join (child targets sets u v i) (any i (child targets sets u v)) (member (row-of todo₀ u) v)
+              ∙ sym (ap (λ b. b || member (row-of todo₀ u) v) (any-next i (child targets sets u v)));
           opened = λ u.
               ap (λ (X : Test). X u) er ∙ ap₂ _||_ (eqb-flip u s) (l .added .opened u) ∙ or-join (eqb s u) (any i (λ k. eqb (getD targets k 0) u)) (member rows₀ u)
               ∙ sym (ap (λ b. b || member rows₀ u) (any-next i (λ k. eqb (getD targets k 0) u)));
@@ -75,14 +78,14 @@ module _ {targets sets todo₀ : List ℕ} {rows₀ : ℕ} {todo : List ℕ} {ro
       s : ℕ
       s = getD targets i 0
 
-      at : (u v : ℕ) → Dec (u ≡ s) → member (getD (set todo s joined) u 0) v ≡ (child targets sets u v i || member (getD todo u 0) v)
+      at : (u v : ℕ) → Dec (u ≡ s) → member (row-of todo′ u) v ≡ (child targets sets u v i || member (row-of todo u) v)
       at u v (yes p) =
-          ap (λ (k : ℕ). member (getD (set todo s joined) k 0) v) p ∙ ap (λ (k : ℕ). member k v) (getD-set-same todo s joined 0 target-row)
+          ap (λ (k : ℕ). member (row-of todo′ k) v) p ∙ ap (λ (k : ℕ). member k v) (ap (λ (l : List ℕ). row-of l s) et ∙ row-put todo s joined target-row)
           ∙ ap (λ (X : Test). X v) ej
-          ∙ ap₂ (λ b k. (b && member (getD sets i 0) v) || member (getD todo k 0) v) (sym (eq-eqb s u (sym p))) (sym p)
+          ∙ ap₂ (λ b k. (b && member (row-of sets i) v) || member (row-of todo k) v) (sym (eq-eqb s u (sym p))) (sym p)
       at u v (no d) =
-          ap (λ (k : ℕ). member k v) (getD-set-other todo s u joined 0 d)
-          ∙ ap (λ b. (b && member (getD sets i 0) v) || member (getD todo u 0) v) (sym (ne-eqb s u (λ k. d (sym k))))
+          ap (λ (k : ℕ). member k v) (ap (λ (l : List ℕ). row-of l u) et ∙ row-put-other todo s u joined d)
+          ∙ ap (λ b. (b && member (row-of sets i) v) || member (row-of todo u) v) (sym (ne-eqb s u (λ k. d (sym k))))
 
 -- after the last target the pairs of all are added
 pub children-end : {targets sets todo₀ : List ℕ} {rows₀ : ℕ} {todo : List ℕ} {rows i : ℕ} → ChildrenLoop targets sets todo₀ rows₀ todo rows i → length targets ≤ i

@@ -15,6 +15,7 @@ use Rattle.simulation.specs.Round.{pairs}
 use Rattle.simulation.specs.Length.{pair-length}
 use Rattle.simulation.proofs.Finite.Sums.{sum-ext, sum-zero, sum-add, sum-mul, sum-change, sum-pick}
 use Rattle.relation.specs.Mask.{Test, member}
+use Rattle.relation.specs.Words.{row-of}
 use Rattle.order.proofs.Pairs.{same-pair, place-below}
 use Rattle.order.specs.Count.{owed, child}
 
@@ -55,7 +56,7 @@ grid-row m n len s c X a = sum-ext m _ _ (λ u _. row (eqb s u) (len u)) ∙ sum
 module _ (m width : ℕ) (len : ℕ → ℕ → ℕ) (targets sets : List ℕ) (c : ℕ) where
   grid-children : (n : ℕ) → ((i : ℕ) → i < n → getD targets i 0 < m)
       → grid m width (λ u v. sum n (λ i. when (child targets sets u v i) c) * len u v)
-      ≡ c * sum n (λ i. sum width (λ v. when (member (getD sets i 0) v) (len (getD targets i 0) v)))
+      ≡ c * sum n (λ i. sum width (λ v. when (member (row-of sets i) v) (len (getD targets i 0) v)))
   unfolding sum
   grid-children zero h = grid-zero m width (λ u v. 0 * len u v) (λ u v _ _. zero-mul (len u v)) ∙ sym (mul-zero c)
   grid-children (suc n) h =
@@ -63,8 +64,8 @@ module _ (m width : ℕ) (len : ℕ → ℕ → ℕ) (targets sets : List ℕ) (
       let rest : ℕ → ℕ → ℕ = λ u v. sum n (λ i. when (child targets sets u v i) c) in
       sum-ext m _ _ (λ u _. sum-ext width _ _ (λ v _. add-mul (here u v) (rest u v) (len u v)))
       ∙ grid-add m width (λ u v. here u v * len u v) (λ u v. rest u v * len u v)
-      ∙ ap₂ _+_ (grid-row m width len (getD targets n 0) c (member (getD sets n 0)) (h n (omega arith))) (grid-children n (λ i l. h i (omega arith)))
-      ∙ sym (mul-add c (sum width (λ v. when (member (getD sets n 0) v) (len (getD targets n 0) v))) _)
+      ∙ ap₂ _+_ (grid-row m width len (getD targets n 0) c (member (row-of sets n)) (h n (omega arith))) (grid-children n (λ i l. h i (omega arith)))
+      ∙ sym (mul-add c (sum width (λ v. when (member (row-of sets n) v) (len (getD targets n 0) v))) _)
 
 -- ---- what is owed
 
@@ -94,7 +95,7 @@ module _ (M N : Table) where
   module _ (targets sets : List ℕ) (c n : ℕ) (counts counts′ : List ℕ) where
     pub owed-children : ((i : ℕ) → i < n → getD targets i 0 < states-of M)
         → ((u v : ℕ) → v < states-of N → getD counts′ (u * states-of N + v) 0 ≡ getD counts (u * states-of N + v) 0 + sum n (λ i. when (child targets sets u v i) c))
-        → owed M N counts′ ≡ owed M N counts + c * sum n (λ i. sum (states-of N) (λ v. when (member (getD sets i 0) v) (pair-length M N (getD targets i 0) v)))
+        → owed M N counts′ ≡ owed M N counts + c * sum n (λ i. sum (states-of N) (λ v. when (member (row-of sets i) v) (pair-length M N (getD targets i 0) v)))
     unfolding owed
     owed-children low h =
         let len : ℕ → ℕ → ℕ = pair-length M N in

@@ -11,6 +11,7 @@ use lib.Arith.{digits-div, digits-mod}
 use lib.Dec.{T}
 use lib.ListN.{length}
 use borrow.Author.Tests.{ne-eqb}
+use Rattle.simulation.specs.Limits.{most-states}
 use Rattle.simulation.specs.Table.{states-of}
 use Rattle.simulation.specs.Round.{pairs}
 use Rattle.simulation.proofs.Finite.Tests.{and-left}
@@ -49,12 +50,12 @@ module _ {first second : List ℕ} {s t : ℕ} (p : Lost first second s t) where
   pub lost-place : number first second s t < pairs (table-of first) (table-of second)
   lost-place = place-below s t (states-of (table-of first)) (states-of (table-of second)) (p .left) (p .right)
 
-  -- its states are below 64
-  pub lost-low : Loaded first → Loaded second → (s < 64) × (t < 64)
+  -- its states are below the largest count of states
+  pub lost-low : Loaded first → Loaded second → (s < most-states) × (t < most-states)
   lost-low l₁ l₂ = (omega (arith, p .left, limits first l₁ .states-few), omega (arith, p .right, limits second l₂ .states-few))
 
   -- what asking for its rank rests on
-  pub rank-asked : {ranks : List ℕ} → Ranked first second ranks → Loaded second × (s < 64) × (t < 64) × (s * states-of (table-of second) + t < length ranks)
+  pub rank-asked : {ranks : List ℕ} → Ranked first second ranks → Loaded second × (s < most-states) × (t < most-states) × (s * states-of (table-of second) + t < length ranks)
   rank-asked g = let low = lost-low (g .first-loaded) (g .second-loaded) in (g .second-loaded, low .0, low .1, pair-place g (p .left) (p .right))
 
 -- the same for a pair that is given by its number

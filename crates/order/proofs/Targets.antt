@@ -7,6 +7,7 @@ use native.Mathlib.Nat.{mul-le-mul-right, suc-mul}
 use native.Mathlib.Omega.{arith}
 use lib.Dec.{T}
 use lib.ListN.{length, getD}
+use Rattle.simulation.specs.Limits.{most-states}
 use Rattle.simulation.specs.Sum.{sum, when}
 use Rattle.simulation.specs.Table.{Transition, Table, targets, target-at, states-of}
 use Rattle.simulation.specs.Round.{pairs, rank}
@@ -17,6 +18,7 @@ use Rattle.simulation.proofs.Trees.Length.{pair-length-step}
 use Rattle.form.specs.Form.{Loaded, table-of, transitions-of, transition-at}
 use Rattle.form.proofs.FormLaws.{sound}
 use Rattle.relation.specs.Mask.{Test, member}
+use Rattle.relation.specs.Words.{row-of}
 use Rattle.choice.specs.Choice.{Lost, Choice, Sets}
 use Rattle.relate.proofs.Places.{targets-count, target-state, target-small, few-places}
 use Rattle.choice.proofs.Choices.{choice-number, choice-width, below-lost}
@@ -42,10 +44,6 @@ module _ {first second : List ℕ} {s t j : ℕ} (g : ChoiceGiven first second s
   width : length (transition-at first j .entries) ≡ length (chosen M N s t .entries)
   width = choice-width first second (g .first-loaded) s t j (g .lost .left) (g .choice)
 
-  -- 64 words are enough for its targets
-  pub step-words : {n : ℕ} → 64 ≤ n → length (chosen M N s t .entries) ≤ n
-  step-words h = omega (arith, few-places first j (g .first-loaded) step-number, width)
-
   module _ {ts : List ℕ} (et : ts ≡ targets (transition-at first j)) where
     -- the targets that are read are those of the chosen transition, and as many
     pub targets-are : (i : ℕ) → getD ts i 0 ≡ target-at (chosen M N s t) i
@@ -54,15 +52,15 @@ module _ {first second : List ℕ} {s t j : ℕ} (g : ChoiceGiven first second s
     pub count-is : length ts ≡ length (chosen M N s t .entries)
     count-is = targets-count first j (g .first-loaded) step-number ts et ∙ width
 
-    -- they are at most 64
-    pub few-targets : length ts ≤ 64
+    -- they are few
+    pub few-targets : length ts ≤ most-states
     few-targets = omega (arith, few-places first j (g .first-loaded) step-number, targets-count first j (g .first-loaded) step-number ts et)
 
-    -- each is a state of the first table, is below 64 and has a whole row of pairs
+    -- each is a state of the first table, is low and has a whole row of pairs
     pub state-at : (i : ℕ) → i < length ts → getD ts i 0 < states-of M
     state-at = target-state first j (g .first-loaded) step-number ts et
 
-    pub state-low : (i : ℕ) → i < length ts → getD ts i 0 < 64
+    pub state-low : (i : ℕ) → i < length ts → getD ts i 0 < most-states
     state-low = target-small first j (g .first-loaded) step-number ts et
 
     pub state-row : (i : ℕ) → i < length ts → getD ts i 0 * states-of N + states-of N ≤ pairs M N
@@ -70,17 +68,17 @@ module _ {first second : List ℕ} {s t j : ℕ} (g : ChoiceGiven first second s
 
     module _ {sets : List ℕ} (z : Sets first second s t sets) where
       -- the mask at a target's place holds its set
-      pub set-at : (i : ℕ) → i < length ts → member (getD sets i 0) ≡ set-of M N s t i
+      pub set-at : (i : ℕ) → i < length ts → member (row-of sets i) ≡ set-of M N s t i
       set-at i b = z .set i (omega (arith, count-is))
 
       -- a pair of a target and a member of its set is not kept either, and its rank is lower
-      pub child-lost : (i v : ℕ) → i < length ts → T (member (getD sets i 0) v) → Lost first second (getD ts i 0) v × (rank M N (getD ts i 0) v < rank M N s t)
+      pub child-lost : (i v : ℕ) → i < length ts → T (member (row-of sets i) v) → Lost first second (getD ts i 0) v × (rank M N (getD ts i 0) v < rank M N s t)
       child-lost i v b h =
           subst (λ (u : ℕ). Lost first second u v × (rank M N u v < rank M N s t)) (sym (targets-are i))
           (below-lost first second (g .first-loaded) (g .second-loaded) s t (g .lost) i v (omega (arith, count-is)) (subst (λ (X : Test). T (X v)) (set-at i b) h))
 
       -- the pair's length: a code and a count, and for each target a state, a weight, a count and the lengths of its set
-      pub length-parts : pair-length M N s t ≡ 2 + sum (length ts) (λ i. 4 + sum (states-of N) (λ v. when (member (getD sets i 0) v) (pair-length M N (getD ts i 0) v)))
+      pub length-parts : pair-length M N s t ≡ 2 + sum (length ts) (λ i. 4 + sum (states-of N) (λ v. when (member (row-of sets i) v) (pair-length M N (getD ts i 0) v)))
       unfolding one-length
       length-parts =
           pair-length-step M N (sound first (g .first-loaded)) s t (g .lost .left) (g .lost .right) (g .lost .fell)

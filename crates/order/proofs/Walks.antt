@@ -3,17 +3,20 @@
 use mathlib.Core.Path.{_≡_, refl, sym, ap, ap₂, _∙_, subst}
 use mathlib.Core.List.{List}
 use mathlib.Core.Logic.{_⊎_, ⊎-elim, _≢_}
-use Prim.Native.Nat.{ℕ, _-_, _≤_, _<_, zero-le}
+use Prim.Native.Nat.{ℕ, _+_, _-_, _≤_, _<_, zero-le}
 use native.Mathlib.Omega.{arith}
 use native.Mathlib.Decide.{ℕ-discrete}
 use lib.Dec.{T, T-not, eqb, eqb→eq}
-use lib.ListN.{length, getD, set, length-set}
-use lib.Seq.{getD-set-same, getD-set-other}
+use lib.ListN.{length}
+use Rattle.simulation.specs.Limits.{most-states}
 use Rattle.simulation.specs.Round.{rank}
 use Rattle.simulation.proofs.Finite.Tests.{and-right, same-eqb}
 use Rattle.form.specs.Form.{table-of}
 use Rattle.form.proofs.FormLaws.{limits}
 use Rattle.relation.specs.Mask.{Test, member, only, without-member, Lowest}
+use Rattle.relation.specs.Words.{word-of, mask, row-of, height, put-row, after, rest}
+use Rattle.relation.specs.declared.set.Set.{Set}
+use Rattle.relation.proofs.Sets.{length-put, row-put, row-put-other, walk-begin, walk-into, walk-on}
 use Rattle.relation.proofs.Mask.{member-none}
 use Rattle.choice.specs.Choice.{Lost}
 use Rattle.order.proofs.Pairs.{member-holds, without-in, without-other}
@@ -45,6 +48,11 @@ module _ {order₀ choices₀ todo₀ sets₀ rel₀ x₀ order choices todo set
         same-rel = e ∙ h .same-rel;
         same-x = f ∙ h .same-x;
       }
+
+  -- or a walk more
+  pub held-on : {order′ choices′ todo′ sets′ rel′ x′ : List ℕ} → Held order choices todo sets rel x order′ choices′ todo′ sets′ rel′ x′
+      → Held order₀ choices₀ todo₀ sets₀ rel₀ x₀ order′ choices′ todo′ sets′ rel′ x′
+  held-on k = held-next (k .same-order) (k .same-choices) (k .same-todo) (k .same-sets) (k .same-rel) (k .same-x)
 
   -- so what passing rests on stays
   pub still-given : {first second ranks : List ℕ} → PassGiven first second ranks order₀ choices₀ todo₀ sets₀ rel₀ x₀ → PassGiven first second ranks order choices todo sets rel x
@@ -80,17 +88,34 @@ module _ {first second : List ℕ} {r : ℕ} where
 -- those of rank r that are to be passed are left
 pub record RowWalk (first second : List ℕ) (r s : ℕ) (order₀ : List ℕ) (n₀ : ℕ) (todo₀ order : List ℕ) (n : ℕ) (todo : List ℕ) (rows left : ℕ) : Type 0 where
   pub passed : Passed first second r order₀ n₀ todo₀ order n todo rows
-  pub still : (t : ℕ) → T (member left t) → T (member (getD todo s 0) t)
-  pub ahead : (t : ℕ) → T (member (getD todo s 0) t) → rank (table-of first) (table-of second) s t ≡ r → T (member left t)
+  pub still : (t : ℕ) → T (member left t) → T (member (row-of todo s) t)
+  pub ahead : (t : ℕ) → T (member (row-of todo s) t) → rank (table-of first) (table-of second) s t ≡ r → T (member left t)
 
 module _ {first second : List ℕ} {r s : ℕ} where
   -- at first all are left
-  pub row-start : {order : List ℕ} {n : ℕ} {todo : List ℕ} {rows : ℕ} → Passing first second r order n todo rows → RowWalk first second r s order n todo order n todo rows (getD todo s 0)
-  row-start p = record { passed = none-passed p; still = λ t h. h; ahead = λ t h _. h }
+  pub row-start : {order : List ℕ} {n : ℕ} {todo : List ℕ} {rows : ℕ} (pairs : Set) → mask pairs ≡ row-of todo s → Passing first second r order n todo rows
+      → RowWalk first second r s order n todo order n todo rows (after 0 pairs)
+  row-start {order} {n} {todo} {rows} pairs e p =
+      walk-begin pairs (λ (left : ℕ). RowWalk first second r s order n todo order n todo rows left)
+      (record { passed = none-passed p; still = λ t h. subst (λ (k : ℕ). T (member k t)) e h; ahead = λ t h _. subst (λ (k : ℕ). T (member k t)) (sym e) h })
+
+  -- a word is begun, and it is done
+  module _ {order₀ : List ℕ} {n₀ : ℕ} {todo₀ order : List ℕ} {n : ℕ} {todo : List ℕ} {rows : ℕ} (pairs : Set) (i : ℕ)
+      (w : RowWalk first second r s order₀ n₀ todo₀ order n todo rows (after i pairs)) where
+    pub row-into : RowWalk first second r s order n todo order n todo rows (rest i (word-of pairs i) pairs)
+    row-into =
+        walk-into pairs (λ (left : ℕ). RowWalk first second r s order n todo order n todo rows left) i
+        (record { passed = none-passed (w .passed .passing); still = w .still; ahead = w .ahead })
+
+    pub row-on : {order′ : List ℕ} {n′ : ℕ} {todo′ : List ℕ} {rows′ : ℕ} (left : ℕ) → left ≡ 0 → RowWalk first second r s order n todo order′ n′ todo′ rows′ (rest i left pairs)
+        → RowWalk first second r s order₀ n₀ todo₀ order′ n′ todo′ rows′ (after (i + 1) pairs)
+    row-on {order′} {n′} {todo′} {rows′} left z v =
+        walk-on pairs (λ (left : ℕ). RowWalk first second r s order₀ n₀ todo₀ order′ n′ todo′ rows′ left) i left z
+        (record { passed = passed-next (w .passed) (v .passed); still = v .still; ahead = v .ahead })
 
   module _ {order₀ : List ℕ} {n₀ : ℕ} {todo₀ order : List ℕ} {n : ℕ} {todo : List ℕ} {rows left : ℕ} (w : RowWalk first second r s order₀ n₀ todo₀ order n todo rows left) where
     -- the lowest pair left is to be passed
-    pub row-pair : (t : ℕ) → Lowest (member left) t → T (member (getD todo s 0) t)
+    pub row-pair : (t : ℕ) → Lowest (member left) t → T (member (row-of todo s) t)
     row-pair t low = w .still t (member-holds low)
 
     -- it is passed and is no longer left
@@ -100,7 +125,7 @@ module _ {first second : List ℕ} {r s : ℕ} where
         record {
           passed = passed-next (w .passed) (p .passed);
           still = λ u h. p .others s u (w .still u (without-in t left u e h)) (λ k. not-it u (k .1) (subst (λ (X : Test). T (X u)) e h));
-          ahead = λ u h q. without-other left u e (λ k. p .gone (ap (rank (table-of first) (table-of second) s) (sym k) ∙ q) (subst (λ (v : ℕ). T (member (getD todo′ s 0) v)) k h))
+          ahead = λ u h q. without-other left u e (λ k. p .gone (ap (rank (table-of first) (table-of second) s) (sym k) ∙ q) (subst (λ (v : ℕ). T (member (row-of todo′ s) v)) k h))
               (w .ahead u (p .passed .old s u h q) q);
         }
       where
@@ -108,16 +133,16 @@ module _ {first second : List ℕ} {r s : ℕ} where
         not-it u k q = T-not (eqb u t) (and-right (member left u) _ q) (same-eqb k)
 
     -- and a row with no pair left is closed
-    pub row-end : {rows′ : ℕ} → left ≡ 0 → ((u : ℕ) → (u ≡ s → getD todo s 0 ≡ 0 → ⊥) → T (member rows u) → T (member rows′ u))
+    pub row-end : {rows′ pairs : ℕ} → left ≡ 0 → pairs ≡ row-of todo s → ((u : ℕ) → (u ≡ s → pairs ≡ 0 → ⊥) → T (member rows u) → T (member rows′ u))
         → RowPassed first second r s order₀ n₀ todo₀ order n todo rows′
-    row-end {rows′} z closed =
+    row-end {rows′} z is closed =
         let p = w .passed .passing in
         record {
           passed = record {
             passing = record {
               fits = p .fits;
               few = p .few;
-              open-row = λ u v h. closed u (λ e k. none-in (getD todo u 0) v (ap (λ (i : ℕ). getD todo i 0) e ∙ k) h) (p .open-row u v h);
+              open-row = λ u v h. closed u (λ e k. none-in (row-of todo u) v (ap (row-of todo) e ∙ sym is ∙ k) h) (p .open-row u v h);
               lost = p .lost;
               most = p .most;
               at = p .at;
@@ -136,12 +161,29 @@ module _ {first second : List ℕ} {r s : ℕ} where
 -- those with a pair of rank r that is to be passed are left
 pub record RankWalk (first second : List ℕ) (r : ℕ) (order₀ : List ℕ) (n₀ : ℕ) (todo₀ order : List ℕ) (n : ℕ) (todo : List ℕ) (rows left : ℕ) : Type 0 where
   pub passed : Passed first second r order₀ n₀ todo₀ order n todo rows
-  pub ahead : (s t : ℕ) → T (member (getD todo s 0) t) → rank (table-of first) (table-of second) s t ≡ r → T (member left s)
+  pub ahead : (s t : ℕ) → T (member (row-of todo s) t) → rank (table-of first) (table-of second) s t ≡ r → T (member left s)
 
 module _ {first second : List ℕ} {r : ℕ} where
   -- at first all open rows are left
-  pub rank-start : {order : List ℕ} {n : ℕ} {todo : List ℕ} {rows : ℕ} → Passing first second r order n todo rows → RankWalk first second r order n todo order n todo rows rows
-  rank-start p = record { passed = none-passed p; ahead = λ s t h _. p .open-row s t h }
+  pub rank-start : {order : List ℕ} {n : ℕ} {todo : List ℕ} (rows : Set) → Passing first second r order n todo (mask rows)
+      → RankWalk first second r order n todo order n todo (mask rows) (after 0 rows)
+  rank-start {order} {n} {todo} rows p =
+      walk-begin rows (λ (left : ℕ). RankWalk first second r order n todo order n todo (mask rows) left)
+      (record { passed = none-passed p; ahead = λ s t h _. p .open-row s t h })
+
+  -- a word is begun, and it is done
+  module _ {order₀ : List ℕ} {n₀ : ℕ} {todo₀ order : List ℕ} {n : ℕ} {todo : List ℕ} {rows : ℕ} (ahead : Set) (i : ℕ)
+      (w : RankWalk first second r order₀ n₀ todo₀ order n todo rows (after i ahead)) where
+    pub rank-into : RankWalk first second r order n todo order n todo rows (rest i (word-of ahead i) ahead)
+    rank-into =
+        walk-into ahead (λ (left : ℕ). RankWalk first second r order n todo order n todo rows left) i
+        (record { passed = none-passed (w .passed .passing); ahead = w .ahead })
+
+    pub rank-on : {order′ : List ℕ} {n′ : ℕ} {todo′ : List ℕ} {rows′ : ℕ} (left : ℕ) → left ≡ 0 → RankWalk first second r order n todo order′ n′ todo′ rows′ (rest i left ahead)
+        → RankWalk first second r order₀ n₀ todo₀ order′ n′ todo′ rows′ (after (i + 1) ahead)
+    rank-on {order′} {n′} {todo′} {rows′} left z v =
+        walk-on ahead (λ (left : ℕ). RankWalk first second r order₀ n₀ todo₀ order′ n′ todo′ rows′ left) i left z
+        (record { passed = passed-next (w .passed) (v .passed); ahead = v .ahead })
 
   module _ {order₀ : List ℕ} {n₀ : ℕ} {todo₀ order : List ℕ} {n : ℕ} {todo : List ℕ} {rows left : ℕ} (w : RankWalk first second r order₀ n₀ todo₀ order n todo rows left) where
     -- a row is passed and is no longer left
@@ -152,7 +194,7 @@ module _ {first second : List ℕ} {r : ℕ} where
           passed = passed-next (w .passed) (p .passed);
           ahead = λ u v h q.
               without-other left u e
-              (λ k. p .gone v (subst (λ (u : ℕ). T (member (getD todo′ u 0) v)) k h) (ap (λ (u : ℕ). rank (table-of first) (table-of second) u v) (sym k) ∙ q))
+              (λ k. p .gone v (subst (λ (u : ℕ). T (member (row-of todo′ u) v)) k h) (ap (λ (u : ℕ). rank (table-of first) (table-of second) u v) (sym k) ∙ q))
               (w .ahead u v (p .passed .old u v h q) q);
         }
 
@@ -180,7 +222,7 @@ module _ {first second : List ℕ} {r : ℕ} where
 -- nothing above rank r is to be passed
 pub record RanksWalk (first second order₀ : List ℕ) (n₀ : ℕ) (todo₀ order : List ℕ) (n : ℕ) (todo : List ℕ) (rows r : ℕ) : Type 0 where
   pub passing : Passing first second r order n todo rows
-  pub stays : (s t : ℕ) → T (member (getD todo₀ s 0) t) ⊎ Found order₀ n₀ (number first second s t) → T (member (getD todo s 0) t) ⊎ Found order n (number first second s t)
+  pub stays : (s t : ℕ) → T (member (row-of todo₀ s) t) ⊎ Found order₀ n₀ (number first second s t) → T (member (row-of todo s) t) ⊎ Found order n (number first second s t)
 
 module _ {first second order₀ : List ℕ} {n₀ : ℕ} {todo₀ order : List ℕ} {n : ℕ} {todo : List ℕ} {rows r : ℕ} (w : RanksWalk first second order₀ n₀ todo₀ order n todo rows r) where
   -- a rank is passed
@@ -189,7 +231,7 @@ module _ {first second order₀ : List ℕ} {n₀ : ℕ} {todo₀ order : List �
   ranks-next p = record { passing = p .passing; stays = λ s t h. p .stays s t (w .stays s t h) }
 
   -- nothing is to be passed any more
-  none-left : r ≤ 0 → (u v : ℕ) → T (member (getD todo u 0) v) → ⊥
+  none-left : r ≤ 0 → (u v : ℕ) → T (member (row-of todo u) v) → ⊥
   none-left z u v h = omega (arith, w .passing .most u v h, w .passing .lost u v h .fell)
 
   -- at rank 0 every pair that was to be passed is listed
@@ -207,39 +249,42 @@ module _ {first second order₀ : List ℕ} {n₀ : ℕ} {todo₀ order : List �
 -- ---- the root
 
 module _ {first second ranks order choices sets rel x : List ℕ} (g : OrderGiven first second ranks order choices sets rel x) {s t : ℕ} (lost : Lost first second s t) (todo : List ℕ)
-    (enough : length todo ≡ 64) (none : (u : ℕ) → getD todo u 0 ≡ 0) where
-  -- the root has a row, and what passing rests on holds with any set there
-  pub root-row : s < length todo
+    (enough : most-states ≤ height todo) (none : (u : ℕ) → row-of todo u ≡ 0) where
+  -- the root has a row
+  pub root-row : s < height todo
   root-row = omega (arith, lost .left, limits first (g .ranked .first-loaded) .states-few)
 
-  pub root-given : (row : ℕ) → PassGiven first second ranks order choices (set todo s row) sets rel x
-  root-given row = record { given = g; rows = omega (arith, length-set todo s row) }
+  module _ (row : Set) {todo′ : List ℕ} (put : todo′ ≡ put-row todo s row) where
+    -- what passing rests on holds with any set there
+    pub root-given : PassGiven first second ranks order choices todo′ sets rel x
+    root-given = record { given = g; rows = omega (arith, ap length put ∙ length-put todo s row) }
 
-  module _ (row rows : ℕ) (er : member row ≡ only t) (es : member rows ≡ only s) where
-    -- the root alone is to be passed
-    root-only : (u v : ℕ) → T (member (getD (set todo s row) u 0) v) → (u ≡ s) × (v ≡ t)
-    root-only u v = at (ℕ-discrete u s)
-      where
-        at : Dec (u ≡ s) → T (member (getD (set todo s row) u 0) v) → (u ≡ s) × (v ≡ t)
-        at (yes e) h =
-            let same : getD (set todo s row) u 0 ≡ row = ap (λ (k : ℕ). getD (set todo s row) k 0) e ∙ getD-set-same todo s row 0 root-row in
-            (e, eqb→eq v t (subst T (ap (λ (k : ℕ). member k v) same ∙ ap (λ (X : Test). X v) er) h))
-        at (no d) h = absurd (none-in (getD (set todo s row) u 0) v (getD-set-other todo s u row 0 d ∙ none u) h)
+    row-there : row-of todo′ s ≡ mask row
+    row-there = ap (λ (l : List ℕ). row-of l s) put ∙ row-put todo s row root-row
 
-    -- the root is to be passed, and nothing is listed before it
-    pub root-listed : T (member (getD (set todo s row) s 0) t)
-    root-listed = subst T (sym (ap (λ (k : ℕ). member k t) (getD-set-same todo s row 0 root-row) ∙ ap (λ (X : Test). X t) er)) (same-eqb {m = t} refl)
+    module _ (rows : ℕ) (er : member (mask row) ≡ only t) (es : member rows ≡ only s) where
+      -- the root alone is to be passed
+      root-only : (u v : ℕ) → T (member (row-of todo′ u) v) → (u ≡ s) × (v ≡ t)
+      root-only u v = at (ℕ-discrete u s)
+        where
+          at : Dec (u ≡ s) → T (member (row-of todo′ u) v) → (u ≡ s) × (v ≡ t)
+          at (yes e) h = (e, eqb→eq v t (subst T (ap (λ (k : ℕ). member k v) (ap (row-of todo′) e ∙ row-there) ∙ ap (λ (X : Test). X v) er) h))
+          at (no d) h = absurd (none-in (row-of todo′ u) v (ap (λ (l : List ℕ). row-of l u) put ∙ row-put-other todo s u row d ∙ none u) h)
 
-    pub root-passing : {r : ℕ} → r ≡ rank (table-of first) (table-of second) s t → Passing first second r order 0 (set todo s row) rows
-    root-passing {r} e =
-        record {
-          fits = zero-le;
-          few = zero-le;
-          open-row = λ u v h. subst T (sym (ap (λ (X : Test). X u) es)) (same-eqb (root-only u v h .0));
-          lost = λ u v h. let k = root-only u v h in subst (λ (u : ℕ). Lost first second u v) (sym (k .0)) (subst (λ (v : ℕ). Lost first second s v) (sym (k .1)) lost);
-          most = λ u v h. let k = root-only u v h in omega (arith, e, ap₂ (rank (table-of first) (table-of second)) (k .0) (k .1));
-          at = λ k b. absurd (omega arith);
-          high = λ k b. absurd (omega arith);
-          gone = λ k b. absurd (omega arith);
-          once = λ k l b c. absurd (omega arith);
-        }
+      -- the root is to be passed, and nothing is listed before it
+      pub root-listed : T (member (row-of todo′ s) t)
+      root-listed = subst T (sym (ap (λ (k : ℕ). member k t) row-there ∙ ap (λ (X : Test). X t) er)) (same-eqb {m = t} refl)
+
+      pub root-passing : {r : ℕ} → r ≡ rank (table-of first) (table-of second) s t → Passing first second r order 0 todo′ rows
+      root-passing {r} e =
+          record {
+            fits = zero-le;
+            few = zero-le;
+            open-row = λ u v h. subst T (sym (ap (λ (X : Test). X u) es)) (same-eqb (root-only u v h .0));
+            lost = λ u v h. let k = root-only u v h in subst (λ (u : ℕ). Lost first second u v) (sym (k .0)) (subst (λ (v : ℕ). Lost first second s v) (sym (k .1)) lost);
+            most = λ u v h. let k = root-only u v h in omega (arith, e, ap₂ (rank (table-of first) (table-of second)) (k .0) (k .1));
+            at = λ k b. absurd (omega arith);
+            high = λ k b. absurd (omega arith);
+            gone = λ k b. absurd (omega arith);
+            once = λ k l b c. absurd (omega arith);
+          }

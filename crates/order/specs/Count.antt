@@ -6,12 +6,14 @@ use mathlib.Core.List.{List}
 use Prim.Native.Nat.{ℕ, _+_, _*_, _^_, _≤_, _<_}
 use lib.Dec.{T, eqb}
 use lib.ListN.{length, getD}
+use Rattle.simulation.specs.Limits.{most-states}
 use Rattle.simulation.specs.Sum.{sum, when}
 use Rattle.simulation.specs.Table.{Table, states-of}
 use Rattle.simulation.specs.Round.{pairs}
 use Rattle.simulation.specs.Length.{pair-length}
 use Rattle.form.specs.Form.{Loaded, table-of}
 use Rattle.relation.specs.Mask.{member}
+use Rattle.relation.specs.Words.{row-of, height}
 use Rattle.choice.specs.Choice.{Lost, Choice, Sets}
 
 -- the bytes of the transitions that still have to be counted, each with all below it
@@ -21,8 +23,8 @@ owed M N counts = sum (states-of M) (λ s. sum (states-of N) (λ t. getD counts 
 
 -- the members of a row, each of which is to be counted c times more
 pub record Within (counts : List ℕ) (width s members c : ℕ) : Type 0 where
-  pub narrow : width ≤ 64
-  pub low : s < 64
+  pub narrow : width ≤ most-states
+  pub low : s < most-states
   pub inside : (t : ℕ) → T (member members t) → t < width
   pub room : s * width + width ≤ length counts
   pub small : (t : ℕ) → t < width → getD counts (s * width + t) 0 + c < 2 ^ 32
@@ -32,17 +34,17 @@ pub record RowAdded (width s members c : ℕ) (counts counts′ : List ℕ) : Ty
 
 -- the pair (u, v) is one of target i and a member of its set
 abbrev pub child : (targets sets : List ℕ) (u v i : ℕ) → Bool
-child targets sets u v i = eqb (getD targets i 0) u && member (getD sets i 0) v
+child targets sets u v i = eqb (getD targets i 0) u && member (row-of sets i) v
 
 -- what adding to the counts of targets and members of their sets rests on
 pub record CountsGiven (targets sets : List ℕ) (width c : ℕ) (counts : List ℕ) : Type 0 where
-  pub few : length targets ≤ 64
-  pub words : length targets ≤ length sets
-  pub narrow : width ≤ 64
-  pub low : (i : ℕ) → i < length targets → getD targets i 0 < 64
+  pub few : length targets ≤ most-states
+  pub words : length targets ≤ height sets
+  pub narrow : width ≤ most-states
+  pub low : (i : ℕ) → i < length targets → getD targets i 0 < most-states
   pub room : (i : ℕ) → i < length targets → getD targets i 0 * width + width ≤ length counts
-  pub inside : (i t : ℕ) → i < length targets → T (member (getD sets i 0) t) → t < width
-  pub small : (i t : ℕ) → i < length targets → t < width → getD counts (getD targets i 0 * width + t) 0 + 64 * c < 2 ^ 32
+  pub inside : (i t : ℕ) → i < length targets → T (member (row-of sets i) t) → t < width
+  pub small : (i t : ℕ) → i < length targets → t < width → getD counts (getD targets i 0 * width + t) 0 + most-states * c < 2 ^ 32
 
 -- the counts of the first n targets are raised
 pub record CountsAdded (targets sets : List ℕ) (width c n : ℕ) (counts counts′ : List ℕ) : Type 0 where
@@ -75,6 +77,6 @@ module _ (first second : List ℕ) where
     pub second-loaded : Loaded second
     pub lost : Lost first second s t
     pub choice : Choice first second s t j
-    pub words : 64 ≤ length sets
+    pub words : most-states ≤ height sets
     pub told : Sets first second s t sets
     pub tally : Tally counts bytes

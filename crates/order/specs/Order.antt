@@ -7,6 +7,7 @@ use mathlib.Core.List.{List}
 use Prim.Native.Nat.{ℕ, _+_, _-_, _*_, _/_, _%_, _≤_, _<_}
 use lib.Dec.{T, eqb}
 use lib.ListN.{length, getD}
+use Rattle.simulation.specs.Limits.{most-states, most-transitions, most-pairs}
 use Rattle.simulation.specs.Sum.{any}
 use Rattle.simulation.specs.Table.{target-at, states-of}
 use Rattle.simulation.specs.Round.{pairs, rank}
@@ -14,43 +15,44 @@ use Rattle.simulation.specs.Tree.{chosen, set-of}
 use Rattle.simulation.specs.Length.{tree-length}
 use Rattle.form.specs.Form.{Loaded, table-of}
 use Rattle.relation.specs.Mask.{member}
+use Rattle.relation.specs.Words.{row-of, height}
 use Rattle.order.specs.Count.{longest, child}
 use Rattle.relate.specs.Ranked.{Ranked, Lent}
 use Rattle.choice.specs.Choice.{Lost, Choice}
 
 -- what adding the pairs of targets and members of their sets rests on
 pub record Children (targets sets todo : List ℕ) : Type 0 where
-  pub few : length targets ≤ 64
-  pub words : length targets ≤ length sets
-  pub rows : 64 ≤ length todo
-  pub low : (i : ℕ) → i < length targets → getD targets i 0 < 64
+  pub few : length targets ≤ most-states
+  pub words : length targets ≤ height sets
+  pub rows : most-states ≤ height todo
+  pub low : (i : ℕ) → i < length targets → getD targets i 0 < most-states
 
 -- the pairs of the first n targets are added
 pub record ChildrenAdded (targets sets : List ℕ) (n : ℕ) (todo : List ℕ) (rows : ℕ) (todo′ : List ℕ) (rows′ : ℕ) : Type 0 where
-  pub listed : (u v : ℕ) → member (getD todo′ u 0) v ≡ (any n (child targets sets u v) || member (getD todo u 0) v)
+  pub listed : (u v : ℕ) → member (row-of todo′ u) v ≡ (any n (child targets sets u v) || member (row-of todo u) v)
   pub opened : (u : ℕ) → member rows′ u ≡ (any n (λ i. eqb (getD targets i 0) u) || member rows u)
 
 -- what the listing of a pair at place n rests on
 pub record NoteGiven (second : List ℕ) (s t j n : ℕ) (order choices : List ℕ) : Type 0 where
   pub loaded : Loaded second
-  pub low : (s < 64) × (t < 64)
-  pub number : j < 256
-  pub few : n < 4096
+  pub low : (s < most-states) × (t < most-states)
+  pub number : j < most-transitions
+  pub few : n < most-pairs
   pub place : n < length order
   pub room : s * states-of (table-of second) + t < length choices
 
--- what ordering rests on: room for each pair and its transition, a word for each target of a transition
+-- what ordering rests on: room for each pair and its transition, a set for each target of a transition
 pub record OrderGiven (first second ranks order choices sets rel x : List ℕ) : Type 0 where
   pub ranked : Ranked first second ranks
   pub room : pairs (table-of first) (table-of second) ≤ length order
   pub notes : pairs (table-of first) (table-of second) ≤ length choices
-  pub words : 64 ≤ length sets
+  pub words : most-states ≤ height sets
   pub lent : Lent rel x
 
 -- and a set for each row
 pub record PassGiven (first second ranks order choices todo sets rel x : List ℕ) : Type 0 where
   pub given : OrderGiven first second ranks order choices sets rel x
-  pub rows : 64 ≤ length todo
+  pub rows : most-states ≤ height todo
 
 -- the number p is listed after place k, and anywhere
 abbrev pub Later : (order : List ℕ) (n k p : ℕ) → Type 0
@@ -83,7 +85,7 @@ module _ (first second : List ℕ) where
   -- the first n places of the list hold pairs, each before all pairs below it
   pub record Ordered (order : List ℕ) (n : ℕ) : Type 0 where
     pub fits : n ≤ length order
-    pub few : n ≤ 4096
+    pub few : n ≤ most-pairs
     pub at : (k : ℕ) → k < n → Above (λ u v. Later order n k (number u v)) (getD order k 0)
 
   -- the pairs that the tree of (s, t) meets are listed and their transitions noted; none is if the tree is too long
@@ -96,38 +98,38 @@ module _ (first second : List ℕ) where
   -- no pair that is still to be passed is kept or above rank r, and the pairs below one that is passed come after it or are still to be passed
   pub record Passing (r : ℕ) (order : List ℕ) (n : ℕ) (todo : List ℕ) (rows : ℕ) : Type 0 where
     pub fits : n ≤ length order
-    pub few : n ≤ 4096
-    pub open-row : (s t : ℕ) → T (member (getD todo s 0) t) → T (member rows s)
-    pub lost : (s t : ℕ) → T (member (getD todo s 0) t) → Lost first second s t
-    pub most : (s t : ℕ) → T (member (getD todo s 0) t) → rank (table-of first) (table-of second) s t ≤ r
-    pub at : (k : ℕ) → k < n → Above (λ u v. T (member (getD todo u 0) v) ⊎ Later order n k (number u v)) (getD order k 0)
+    pub few : n ≤ most-pairs
+    pub open-row : (s t : ℕ) → T (member (row-of todo s) t) → T (member rows s)
+    pub lost : (s t : ℕ) → T (member (row-of todo s) t) → Lost first second s t
+    pub most : (s t : ℕ) → T (member (row-of todo s) t) → rank (table-of first) (table-of second) s t ≤ r
+    pub at : (k : ℕ) → k < n → Above (λ u v. T (member (row-of todo u) v) ⊎ Later order n k (number u v)) (getD order k 0)
     pub high : (k : ℕ) → k < n → r ≤ rank (table-of first) (table-of second) (row (getD order k 0)) (column (getD order k 0))
-    pub gone : (k : ℕ) → k < n → T (member (getD todo (row (getD order k 0)) 0) (column (getD order k 0))) → ⊥
+    pub gone : (k : ℕ) → k < n → T (member (row-of todo (row (getD order k 0))) (column (getD order k 0))) → ⊥
     pub once : (k l : ℕ) → k < l → l < n → getD order k 0 ≡ getD order l 0 → ⊥
 
   -- some pairs of rank r are passed: no other pair of that rank is new, and a pair that was listed or passed is so still
   pub record Passed (r : ℕ) (order : List ℕ) (n : ℕ) (todo order′ : List ℕ) (n′ : ℕ) (todo′ : List ℕ) (rows′ : ℕ) : Type 0 where
     pub passing : Passing r order′ n′ todo′ rows′
-    pub old : (s t : ℕ) → T (member (getD todo′ s 0) t) → rank (table-of first) (table-of second) s t ≡ r → T (member (getD todo s 0) t)
-    pub stays : (s t : ℕ) → T (member (getD todo s 0) t) ⊎ Found order n (number s t) → T (member (getD todo′ s 0) t) ⊎ Found order′ n′ (number s t)
+    pub old : (s t : ℕ) → T (member (row-of todo′ s) t) → rank (table-of first) (table-of second) s t ≡ r → T (member (row-of todo s) t)
+    pub stays : (s t : ℕ) → T (member (row-of todo s) t) ⊎ Found order n (number s t) → T (member (row-of todo′ s) t) ⊎ Found order′ n′ (number s t)
 
   -- the pair (s, t) is passed, if it has rank r, and no other
   pub record PairPassed (r s t : ℕ) (order : List ℕ) (n : ℕ) (todo order′ : List ℕ) (n′ : ℕ) (todo′ : List ℕ) (rows′ : ℕ) : Type 0 where
     pub passed : Passed r order n todo order′ n′ todo′ rows′
-    pub gone : rank (table-of first) (table-of second) s t ≡ r → T (member (getD todo′ s 0) t) → ⊥
-    pub others : (u v : ℕ) → T (member (getD todo u 0) v) → ((u ≡ s) × (v ≡ t) → ⊥) → T (member (getD todo′ u 0) v)
+    pub gone : rank (table-of first) (table-of second) s t ≡ r → T (member (row-of todo′ s) t) → ⊥
+    pub others : (u v : ℕ) → T (member (row-of todo u) v) → ((u ≡ s) × (v ≡ t) → ⊥) → T (member (row-of todo′ u) v)
 
   -- all pairs of row s and rank r are passed
   pub record RowPassed (r s : ℕ) (order : List ℕ) (n : ℕ) (todo order′ : List ℕ) (n′ : ℕ) (todo′ : List ℕ) (rows′ : ℕ) : Type 0 where
     pub passed : Passed r order n todo order′ n′ todo′ rows′
-    pub gone : (t : ℕ) → T (member (getD todo′ s 0) t) → rank (table-of first) (table-of second) s t ≡ r → ⊥
+    pub gone : (t : ℕ) → T (member (row-of todo′ s) t) → rank (table-of first) (table-of second) s t ≡ r → ⊥
 
   -- all pairs of rank r are passed
   pub record RankPassed (r : ℕ) (order : List ℕ) (n : ℕ) (todo order′ : List ℕ) (n′ : ℕ) (todo′ : List ℕ) (rows′ : ℕ) : Type 0 where
     pub passing : Passing (r - 1) order′ n′ todo′ rows′
-    pub stays : (s t : ℕ) → T (member (getD todo s 0) t) ⊎ Found order n (number s t) → T (member (getD todo′ s 0) t) ⊎ Found order′ n′ (number s t)
+    pub stays : (s t : ℕ) → T (member (row-of todo s) t) ⊎ Found order n (number s t) → T (member (row-of todo′ s) t) ⊎ Found order′ n′ (number s t)
 
   -- all pairs are passed
   pub record RanksPassed (order : List ℕ) (n : ℕ) (todo order′ : List ℕ) (n′ : ℕ) : Type 0 where
     pub ordered : Ordered order′ n′
-    pub found : (s t : ℕ) → T (member (getD todo s 0) t) ⊎ Found order n (number s t) → Found order′ n′ (number s t)
+    pub found : (s t : ℕ) → T (member (row-of todo s) t) ⊎ Found order n (number s t) → Found order′ n′ (number s t)

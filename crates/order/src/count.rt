@@ -1,26 +1,32 @@
 // How often the transition of each pair occurs in a tree, from the root down: a pair hands its count on to the pairs below it.
 // The bytes counted are never more than the tree's, so one that is too long shows before all its pairs are looked at.
-use relation::set;
+use relation::rows;
+use relation::set::Set;
+use relation::walk;
 ghost use mathlib.Core.Path.{_≡_};
 ghost use Prim.Native.Nat.{ℕ, _≤_, _<_};
 ghost use lib.ListN.{length, getD};
+ghost use Rattle.simulation.specs.Limits.{most-pairs};
+ghost use Rattle.relation.specs.Words.{mask};
 ghost use Rattle.order.specs.Count.{Within, RowAdded, CountsGiven, CountsAdded, HandGiven, Tallied};
 
 // The most bytes that a tree may have.
 pub const LONGEST: u32 = 65_535;
 
 // The pairs of s and the members of a set are to be counted c times more.
-fn add_row(counts: &mut [u32], width: usize, s: usize, members: u64, c: u32)
-    requires { ⌜ Within (now counts) width s members c ⌝ }
-    ensures { λ _. ⌜ RowAdded width s members c (now (counts .entry)) (now (counts .exit)) ⌝ }
+fn add_row(counts: &mut [u32], width: usize, s: usize, members: Set, c: u32)
+    requires { ⌜ Within (now counts) width s (mask members) c ⌝ }
+    ensures { λ _. ⌜ RowAdded width s (mask members) c (now (counts .entry)) (now (counts .exit)) ⌝ }
 {
     let base = s * width;
-    let mut left = members;
-    while left != 0 {
-        let at = base + set::lowest(left);
-        let more = counts[at] + c;
-        counts[at] = more;
-        left = set::without_lowest(left);
+    for w in 0..Set::WORDS {
+        let mut left = members.words[w];
+        while left != 0 {
+            let at = base + walk::lowest(members, w, left);
+            let more = counts[at] + c;
+            counts[at] = more;
+            left = walk::without_lowest(members, w, left);
+        }
     }
 }
 
@@ -31,7 +37,7 @@ fn add_counts(targets: &[u16], sets: &[u64], width: usize, c: u32, counts: &mut 
 {
     for i in 0..targets.len() {
         let s = targets[i] as usize;
-        let members = sets[i];
+        let members = rows::get(sets, i);
         add_row(counts, width, s, members, c);
     }
 }
@@ -65,7 +71,7 @@ pub fn hand_on(
 
 // Empties the first n counts.
 pub fn clear_counts(counts: &mut [u32], n: usize)
-    requires { ⌜ (n ≤ 4096) × (n ≤ length (now counts)) ⌝ }
+    requires { ⌜ (n ≤ most-pairs) × (n ≤ length (now counts)) ⌝ }
     ensures { λ _. ⌜ ((i : ℕ) → i < n → getD (now (counts .exit)) i 0 ≡ 0) ⌝ }
 {
     for i in 0..n {

@@ -4,17 +4,22 @@ use crate::count;
 use crate::count::LONGEST;
 use crate::pair::number;
 use choice::choose;
-use choice::find_sets;
 use choice::rank_at;
+use relation::Relation;
+use relation::rows;
 use relation::set;
+use relation::set::Set;
+use relation::walk;
 ghost use mathlib.Core.Path.{_≡_};
 ghost use Prim.Native.Nat.{ℕ, _+_, _*_, _≤_, _<_};
 ghost use lib.Dec.{T};
-ghost use lib.ListN.{length, getD, set};
+ghost use lib.ListN.{length, set};
+ghost use Rattle.simulation.specs.Limits.{most-states};
 ghost use Rattle.simulation.specs.Table.{states-of};
 ghost use Rattle.simulation.specs.Round.{pairs};
 ghost use Rattle.form.specs.Form.{Loaded, table-of};
 ghost use Rattle.relation.specs.Mask.{member};
+ghost use Rattle.relation.specs.Words.{mask, row-of, height};
 ghost use Rattle.choice.specs.Choice.{Lost};
 ghost use Rattle.order.specs.Count.{longest, Tally, Tallied, OneCounted};
 ghost use Rattle.order.specs.Order.{Children, ChildrenAdded, OrderGiven, PassGiven, NoteGiven, Noted, Listed, Passing, PairPassed, RowPassed, RankPassed, RanksPassed};
@@ -23,7 +28,7 @@ ghost use Rattle.order.specs.Order.{Children, ChildrenAdded, OrderGiven,
 struct Progress {
     bytes: u32,
     count: usize,
-    rows: u64,
+    rows: Set,
 }
 
 // Lists the pair (s, t) at place n, with the number of its transition.
@@ -46,15 +51,15 @@ fn note(
 }
 
 // The pairs of each target and the members of its set are to be passed.
-fn add_children(targets: &[u16], sets: &[u64], todo: &mut [u64], rows: u64) -> u64
+fn add_children(targets: &[u16], sets: &[u64], todo: &mut [u64], rows: Set) -> Set
     requires { ⌜ Children (now targets) (now sets) (now todo) ⌝ }
-    ensures { λ r. ⌜ ChildrenAdded (now (targets .entry)) (now (sets .entry)) (length (now (targets .entry))) (now (todo .entry)) rows (now (todo .exit)) r ⌝ }
+    ensures { λ r. ⌜ ChildrenAdded (now (targets .entry)) (now (sets .entry)) (length (now (targets .entry))) (now (todo .entry)) (mask rows) (now (todo .exit)) (mask r) ⌝ }
 {
     let mut all = rows;
     for i in 0..targets.len() {
         let s = targets[i] as usize;
-        let joined = set::union(sets[i], todo[s]);
-        todo[s] = joined;
+        let joined = set::union(rows::get(sets, i), rows::get(todo, s));
+        rows::put(todo, s, joined);
         all = set::insert(all, s);
     }
     all
@@ -78,20 +83,19 @@ fn pass_pair(
     p: Progress,
 ) -> Progress
     requires { ⌜ PassGiven (now first) (now second) (now ranks) (now order) (now choices) (now todo) (now sets) (now rel) (now x)
-        × Passing (now first) (now second) r (now order) (p .count) (now todo) (p .rows)
-        × Noted (now first) (now second) (now order) (p .count) (now choices) × Tally (now first) (now second) (now counts) (p .bytes) × T (member (getD (now todo) s 0) t) ⌝ }
+        × Passing (now first) (now second) r (now order) (p .count) (now todo) (mask (p .rows))
+        × Noted (now first) (now second) (now order) (p .count) (now choices) × Tally (now first) (now second) (now counts) (p .bytes) × T (member (row-of (now todo) s) t) ⌝ }
     ensures { λ q. ⌜ PairPassed (now (first .entry)) (now (second .entry)) r s t (now (order .entry)) (p .count) (now (todo .entry))
-        (now (order .exit)) (q .count) (now (todo .exit)) (q .rows)
+        (now (order .exit)) (q .count) (now (todo .exit)) (mask (q .rows))
         × Noted (now (first .entry)) (now (second .entry)) (now (order .exit)) (q .count) (now (choices .exit))
         × Tallied (now (first .entry)) (now (second .entry)) (now (counts .entry)) (p .bytes) (now (counts .exit)) (q .bytes) ⌝ }
 {
     if rank_at(second, ranks, s, t) != r {
         return p;
     }
-    let j = choose(first, second, ranks, s, t, r, rel, x);
-    find_sets(first, second, ranks, s, t, r, j, sets, rel, x);
-    let rest = set::remove(todo[s], t);
-    todo[s] = rest;
+    let j = choose(first, second, ranks, s, t, r, sets, rel, x);
+    let rest = set::remove(rows::get(todo, s), t);
+    rows::put(todo, s, rest);
     let count = p.count;
     note(second, s, t, j, count, order, choices);
     let bytes = count::hand_on(first, second, s, t, j, sets, counts, p.bytes);
@@ -104,11 +108,11 @@ fn pass_pair(
 }
 
 // The rows, without s if no pair of s is left.
-fn close_row(rows: u64, s: usize, pairs: u64) -> u64
-    requires { ⌜ s < 64 ⌝ }
-    ensures { λ r. ⌜ ((u : ℕ) → (u ≡ s → pairs ≡ 0 → ⊥) → T (member rows u) → T (member r u)) ⌝ }
+fn close_row(rows: Set, s: usize, pairs: Set) -> Set
+    requires { ⌜ s < most-states ⌝ }
+    ensures { λ r. ⌜ ((u : ℕ) → (u ≡ s → mask pairs ≡ 0 → ⊥) → T (member (mask rows) u) → T (member (mask r) u)) ⌝ }
 {
-    if pairs == 0 {
+    if set::is_empty(pairs) {
         return set::remove(rows, s);
     }
     rows
@@ -131,36 +135,39 @@ fn pass_row(
     p: Progress,
 ) -> Progress
     requires { ⌜ PassGiven (now first) (now second) (now ranks) (now order) (now choices) (now todo) (now sets) (now rel) (now x)
-        × Passing (now first) (now second) r (now order) (p .count) (now todo) (p .rows)
-        × Noted (now first) (now second) (now order) (p .count) (now choices) × Tally (now first) (now second) (now counts) (p .bytes) × (s < 64) ⌝ }
+        × Passing (now first) (now second) r (now order) (p .count) (now todo) (mask (p .rows))
+        × Noted (now first) (now second) (now order) (p .count) (now choices) × Tally (now first) (now second) (now counts) (p .bytes) × (s < most-states) ⌝ }
     ensures { λ q. ⌜ RowPassed (now (first .entry)) (now (second .entry)) r s (now (order .entry)) (p .count) (now (todo .entry))
-        (now (order .exit)) (q .count) (now (todo .exit)) (q .rows)
+        (now (order .exit)) (q .count) (now (todo .exit)) (mask (q .rows))
         × Noted (now (first .entry)) (now (second .entry)) (now (order .exit)) (q .count) (now (choices .exit))
         × Tallied (now (first .entry)) (now (second .entry)) (now (counts .entry)) (p .bytes) (now (counts .exit)) (q .bytes) ⌝ }
 {
     let mut q = p;
-    let mut left = todo[s];
-    while left != 0 {
-        let t = set::lowest(left);
-        q = pass_pair(
-            first,
-            second,
-            ranks,
-            s,
-            t,
-            r,
-            order,
-            choices,
-            counts,
-            todo,
-            sets,
-            rel,
-            x,
-            q,
-        );
-        left = set::without_lowest(left);
+    let pairs = rows::get(todo, s);
+    for w in 0..Set::WORDS {
+        let mut left = pairs.words[w];
+        while left != 0 {
+            let t = walk::lowest(pairs, w, left);
+            q = pass_pair(
+                first,
+                second,
+                ranks,
+                s,
+                t,
+                r,
+                order,
+                choices,
+                counts,
+                todo,
+                sets,
+                rel,
+                x,
+                q,
+            );
+            left = walk::without_lowest(pairs, w, left);
+        }
     }
-    let rows = close_row(q.rows, s, todo[s]);
+    let rows = close_row(q.rows, s, rows::get(todo, s));
     Progress {
         count: q.count,
         rows,
@@ -184,33 +191,36 @@ fn pass_rank(
     p: Progress,
 ) -> Progress
     requires { ⌜ PassGiven (now first) (now second) (now ranks) (now order) (now choices) (now todo) (now sets) (now rel) (now x)
-        × Passing (now first) (now second) r (now order) (p .count) (now todo) (p .rows)
+        × Passing (now first) (now second) r (now order) (p .count) (now todo) (mask (p .rows))
         × Noted (now first) (now second) (now order) (p .count) (now choices) × Tally (now first) (now second) (now counts) (p .bytes) ⌝ }
     ensures { λ q. ⌜ RankPassed (now (first .entry)) (now (second .entry)) r (now (order .entry)) (p .count) (now (todo .entry))
-        (now (order .exit)) (q .count) (now (todo .exit)) (q .rows)
+        (now (order .exit)) (q .count) (now (todo .exit)) (mask (q .rows))
         × Noted (now (first .entry)) (now (second .entry)) (now (order .exit)) (q .count) (now (choices .exit))
         × Tallied (now (first .entry)) (now (second .entry)) (now (counts .entry)) (p .bytes) (now (counts .exit)) (q .bytes) ⌝ }
 {
     let mut q = p;
-    let mut left = p.rows;
-    while left != 0 {
-        let s = set::lowest(left);
-        q = pass_row(
-            first,
-            second,
-            ranks,
-            s,
-            r,
-            order,
-            choices,
-            counts,
-            todo,
-            sets,
-            rel,
-            x,
-            q,
-        );
-        left = set::without_lowest(left);
+    let ahead = p.rows;
+    for w in 0..Set::WORDS {
+        let mut left = ahead.words[w];
+        while left != 0 {
+            let s = walk::lowest(ahead, w, left);
+            q = pass_row(
+                first,
+                second,
+                ranks,
+                s,
+                r,
+                order,
+                choices,
+                counts,
+                todo,
+                sets,
+                rel,
+                x,
+                q,
+            );
+            left = walk::without_lowest(ahead, w, left);
+        }
     }
     q
 }
@@ -231,7 +241,7 @@ fn pass_ranks(
     p: Progress,
 ) -> Progress
     requires { ⌜ PassGiven (now first) (now second) (now ranks) (now order) (now choices) (now todo) (now sets) (now rel) (now x)
-        × Passing (now first) (now second) top (now order) (p .count) (now todo) (p .rows)
+        × Passing (now first) (now second) top (now order) (p .count) (now todo) (mask (p .rows))
         × Noted (now first) (now second) (now order) (p .count) (now choices) × Tally (now first) (now second) (now counts) (p .bytes) ⌝ }
     ensures { λ q. ⌜ (q .bytes ≤ longest → RanksPassed (now (first .entry)) (now (second .entry)) (now (order .entry)) (p .count) (now (todo .entry)) (now (order .exit)) (q .count)
         × Noted (now (first .entry)) (now (second .entry)) (now (order .exit)) (q .count) (now (choices .exit)))
@@ -262,10 +272,10 @@ fn pass_ranks(
     q
 }
 
-fn no_pairs() -> [u64; 64]
-    ensures { λ b. ⌜ (length b ≡ 64) × ((s : ℕ) → getD b s 0 ≡ 0) ⌝ }
+fn no_pairs() -> [u64; Relation::WORDS]
+    ensures { λ b. ⌜ (most-states ≤ height b) × ((s : ℕ) → row-of b s ≡ 0) ⌝ }
 {
-    [0u64; 64]
+    [0u64; Relation::WORDS]
 }
 
 // Every count is 0 but that of the pair (s, t), which is 1.
@@ -298,7 +308,7 @@ pub fn list(
     ensures { λ n. ⌜ Listed (now (first .entry)) (now (second .entry)) s t (now (order .exit)) (now (choices .exit)) n ⌝ }
 {
     let mut todo = no_pairs();
-    todo[s] = set::single(t);
+    rows::put(&mut todo, s, set::single(t));
     count_one(first, second, s, t, counts);
     let top = rank_at(second, ranks, s, t);
     let p = Progress {

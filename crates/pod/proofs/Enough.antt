@@ -10,9 +10,9 @@ use lib.ListN.{length}
 use Rattle.simulation.specs.Fit.{Amounts}
 use Rattle.simulation.specs.Table.{Table, states-of}
 use Rattle.simulation.specs.Sum.{sum, any}
-use Rattle.layout.specs.Bytes.{refuse_unless_, _then_, first, section, byte, size-from, actions, code, end, target-right, weight-right, code-refusal, actions-refusal, states-refusal, transition-refusal, transitions-refusal, entry-refusal, run-refusal, entries-refusal, refusal, refused, number, decode}
+use Rattle.layout.specs.Bytes.{Octets, refuse_unless_, _then_, first, section, byte, size-from, actions, code, end, target-right, weight-right, code-refusal, actions-refusal, states-refusal, transition-refusal, transitions-refusal, entry-refusal, run-refusal, entries-refusal, refusal, refused, number, decode}
 use Rattle.layout.proofs.DecodeLaws.{number-is}
-use Rattle.layout.proofs.Accepted.{accepted-shaped}
+use Rattle.layout.proofs.Accepted.{accepted-shaped, accepted-valid}
 use Rattle.flows.specs.Flow.{most-flow}
 use Rattle.flows.proofs.FlowRoom.{room-most}
 use Rattle.order.specs.Count.{longest}
@@ -134,7 +134,7 @@ module _ {first second : List ℕ} {s t : ℕ} {b : Buffers} where
 
 -- ---- how long a flow buffer 21 asks for
 
-module _ {first second : List ℕ} {s t : ℕ} {b : Buffers} where
+module _ {first second : List ℕ} {s t : ℕ} {b : Buffers} (bytes : Octets first) where
   needed-most : (x : ℕ → Amounts) {n k : ℕ} (c : Call first second s t b n k) → n ≡ 21 → call-result first second s t b x c .answer .needed ≤ most-flow
   unfolding success
   needed-most x (first-refused e) z = zero-le
@@ -142,8 +142,8 @@ module _ {first second : List ℕ} {s t : ℕ} {b : Buffers} where
   needed-most x (both-accepted e f (outside h)) z = zero-le
   needed-most x (both-accepted e f (short-ranks i h)) z = absurd (omega arith)
   needed-most x (both-accepted {M} {N} e f (short-flow r k h)) z =
-      let v = accepted-shaped first M e in
-      room-most M N (v .few-transitions) (v .few-entries) (accepted-shaped second N f .few-states) s
+      let v = accepted-valid first bytes M e in
+      room-most M N s (v .few-each s (r .0 .0)) (v .shape .few-entries) (accepted-shaped second N f .few-states)
   needed-most x (both-accepted e f (flow-fits r k h)) z = zero-le
   needed-most x (both-accepted e f (long-tree r k h)) z = zero-le
   needed-most x (both-accepted e f (short-tree r k h g)) z = absurd (omega arith)

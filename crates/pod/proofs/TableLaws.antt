@@ -5,6 +5,7 @@ use mathlib.Core.List.{List}
 use mathlib.Core.Logic.{_≢_}
 use Prim.Native.Nat.{ℕ, zero, suc, _≤_}
 use native.Mathlib.Omega.{arith}
+use Rattle.simulation.specs.Limits.{most-states}
 use Rattle.table.specs.declared.parts.Layout.{Layout}
 use Rattle.table.specs.declared.parts.Answer.{Answer}
 use Rattle.table.specs.declared.parts.Answer.the-variants.{Refused, Accepted}
@@ -49,6 +50,6 @@ module _ (s : List ℕ) where
       go (refused n) p = let h = ap answer-of p in let z : _≡_ {A = ℕ} 0 1 = cc in absurd (omega arith)
       go (accepted M) p = let h = ap answer-of p in let same : layout-of M ≡ t = cc in ap state-count p ∙ ap (λ (l : Layout). l .states) same
 
-  -- and it is at most 64
-  pub counted-few : {r : Answer} {t : Layout} → r ≡ answer s → r ≡ Accepted t → t .states ≤ 64
+  -- and it is within the limit
+  pub counted-few : {r : Answer} {t : Layout} → r ≡ answer s → r ≡ Accepted t → t .states ≤ most-states
   counted-few e q = let l = accepted-told s e q in omega (arith, ap (λ (t : Layout). t .states) (l .laid), accepted-bounds s (l .passed) .of-states .few)

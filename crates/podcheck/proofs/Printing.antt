@@ -7,6 +7,7 @@ use Prim.Native.Nat.{ℕ, _*_, _≤_}
 use native.Mathlib.Decide.{ℕ-discrete}
 use native.Mathlib.Omega.{arith}
 use lib.ListN.{length}
+use Rattle.simulation.specs.Limits.{most-states}
 use Rattle.answer.specs.declared.answer.Answer.{Answer}
 use Rattle.order.specs.Count.{longest}
 use Rattle.compare.specs.Outcome.{lent, left}
@@ -60,6 +61,6 @@ always {input} {tree} {before} {after} {written} le h = go (ℕ-discrete written
 
 -- the tables of an input, counted
 pub counted : (input : List ℕ) {first second : List ℕ} {p q : ℕ} → first ≡ first-of-input input → second ≡ second-of-input input
-    → (p ≡ states-in first) × (p ≤ 64) → (q ≡ states-in second) × (q ≤ 64) → Counted input p q
+    → (p ≡ states-in first) × (p ≤ most-states) → (q ≡ states-in second) × (q ≤ most-states) → Counted input p q
 counted input ef es p q =
     record { first-states = p .0 ∙ ap states-in ef; second-states = q .0 ∙ ap states-in es; first-few = p .1; second-few = q .1 }

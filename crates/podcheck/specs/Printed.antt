@@ -4,6 +4,7 @@ use mathlib.Core.Path.{_≡_}
 use mathlib.Core.List.{List}
 use mathlib.Core.Logic.{_≢_}
 use Prim.Native.Nat.{ℕ, _≤_}
+use Rattle.simulation.specs.Limits.{most-states}
 use Rattle.answer.specs.declared.answer.Answer.{Answer}
 use Rattle.compare.specs.Outcome.{Buffers, lent, left}
 use Rattle.pod.specs.Check.{Checked, states-in}
@@ -16,8 +17,8 @@ use Rattle.buffer.specs.Buffer.{Filled}
 pub record Counted (input : List ℕ) (p q : ℕ) : Type 0 where
   pub first-states : p ≡ states-in (first-of-input input)
   pub second-states : q ≡ states-in (second-of-input input)
-  pub first-few : p ≤ 64
-  pub second-few : q ≤ 64
+  pub first-few : p ≤ most-states
+  pub second-few : q ≤ most-states
 
 -- the text for an answer and the ranks and tree that came with it
 abbrev pub text-of : List ℕ → Answer → Buffers → List ℕ

@@ -10,15 +10,26 @@ ghost use Rattle.report.specs.Text.{text-bound, longest-text, short-text};
 use bytes;
 use libc::STDIN_FILENO;
 use libc::STDOUT_FILENO;
+use simulation::Table;
 
 // Two tables of at most 65,535 bytes, each after two bytes of length.
 const INPUT: usize = 131_074;
 
-// One byte more than two accepted tables, of at most 2,117 bytes, take: an input that does not fill it has ended.
-const SHORT_INPUT: usize = 4_239;
+// The most bytes of an accepted table: four sections, each after its count.
+const TABLE: usize = 1
+    + Table::CODES
+    + 1
+    + Table::STATES
+    + 2
+    + 2 * Table::TRANSITIONS
+    + 2
+    + 3 * Table::ENTRIES;
+
+// One byte more than two accepted tables with their lengths take: an input that does not fill it has ended.
+const SHORT_INPUT: usize = 2 * (2 + TABLE) + 1;
 
 // The most pairs and the most bytes of a tree, and of those that have short buffers.
-const RANKS: usize = 4_096;
+const RANKS: usize = Table::PAIRS;
 
 const TREE: usize = 65_535;
 

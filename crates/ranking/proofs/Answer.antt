@@ -10,6 +10,7 @@ use native.Mathlib.Decide.{decLt}
 use lib.Dec.{eqb}
 use lib.ListN.{length, getD, drop, length-append, length-drop, List·getD-append}
 use lib.Seq.{ext-getD, getD-append-add, getD-drop}
+use Rattle.simulation.specs.Limits.{most-states}
 use Rattle.relation.specs.Mask.{size}
 use Rattle.simulation.specs.Sum.{sum, when}
 use Rattle.simulation.specs.Table.{Table, states-of}
@@ -70,13 +71,13 @@ size-within w q X l h =
     ap (λ (n : ℕ). members n X) (let e : w ≡ w - q + q = omega arith in e) ∙ members-within (w - q) q X h
 
 -- the kept pairs are the members of the rows
-pub kept-are : (M N : Table) (rows : List ℕ) → states-of N ≤ 64
+pub kept-are : (M N : Table) (rows : List ℕ) → states-of N ≤ most-states
     → ((s t : ℕ) → s < states-of M → t < states-of N → holds rows s t ≡ eqb (rank M N s t) 0)
     → ((s t : ℕ) → s < states-of M → states-of N ≤ t → holds rows s t ≡ false)
-    → sum (states-of M) (λ s. size 64 (holds rows s)) ≡ zeros (rank-list M N)
+    → sum (states-of M) (λ s. size most-states (holds rows s)) ≡ zeros (rank-list M N)
 kept-are M N rows l f g =
-    sum-ext (states-of M) (λ s. size 64 (holds rows s)) (λ s. members (states-of N) (λ t. eqb (rank M N s t) 0))
+    sum-ext (states-of M) (λ s. size most-states (holds rows s)) (λ s. members (states-of N) (λ t. eqb (rank M N s t) 0))
     (λ s a.
-    size-within 64 (states-of N) (holds rows s) l (λ t b. g s t a b)
+    size-within most-states (states-of N) (holds rows s) l (λ t b. g s t a b)
     ∙ sum-ext (states-of N) (λ t. when (holds rows s t) 1) (λ t. when (eqb (rank M N s t) 0) 1) (λ t b. ap (λ (c : Bool). when c 1) (f s t a b)))
     ∙ sym (kept-count M N)

@@ -4,8 +4,10 @@ use mathlib.Core.Path.{_≡_}
 use mathlib.Core.List.{List}
 use Prim.Native.Nat.{ℕ, _*_, _≤_}
 use lib.ListN.{length, getD}
+use Rattle.simulation.specs.Limits.{most-pairs, most-states, most-transitions}
+use Rattle.relation.specs.Words.{height}
 use Rattle.buffer.specs.Buffer.{over}
-use Rattle.form.specs.Form.{Loaded, table-of}
+use Rattle.form.specs.Form.{Loaded, table-of, transitions-of}
 use Rattle.links.specs.Links.{Empty}
 use Rattle.rounds.specs.Rounds.{Open}
 use Rattle.simulation.specs.Table.{Table, states-of}
@@ -15,19 +17,19 @@ use Rattle.simulation.specs.Round.{rank-list, maximum, zeros}
 pub record Ample (f g masks ranks rows doubt lost before behind tried x : List ℕ) : Type 0 where
   pub first : Loaded f
   pub second : Loaded g
-  pub masks-room : 128 ≤ length masks
+  pub masks-room : most-transitions ≤ height masks
   pub ranks-room : states-of (table-of f) * states-of (table-of g) ≤ length ranks
   pub rows-open : Open rows
   pub doubt-open : Open doubt
-  pub lost-room : 64 ≤ length lost
+  pub lost-room : most-states ≤ height lost
   pub lost-empty : Empty lost
-  pub before-room : 64 ≤ length before
+  pub before-room : most-states ≤ height before
   pub before-empty : Empty before
-  pub behind-room : 64 ≤ length behind
+  pub behind-room : most-states ≤ height behind
   pub behind-empty : Empty behind
-  pub tried-room : 8192 ≤ length tried
+  pub tried-room : transitions-of f * most-states ≤ length tried
   pub untried : (i : ℕ) → getD tried i 0 ≡ 0
-  pub x-room : 4096 ≤ length x
+  pub x-room : most-pairs ≤ length x
 
 -- what a call fills in and reports: the ranks in their order over the start of the list, the count of rounds, the count of kept pairs
 pub record Filled (M N : Table) (old new : List ℕ) (rounds kept : ℕ) : Type 0 where

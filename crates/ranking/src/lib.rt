@@ -1,25 +1,30 @@
 // The ranks of all pairs of states of two tables, round by round.
 use relation::Relation;
+use relation::rows;
 use relation::set;
+use relation::set::Set;
+use simulation::Table;
 ghost use mathlib.Core.Path.{_≡_};
 ghost use Prim.Native.Nat.{ℕ, _*_, _<_, _≤_};
 ghost use lib.ListN.{length, getD};
+ghost use Rattle.simulation.specs.Limits.{most-pairs, most-states, most-transitions};
 ghost use Rattle.relation.specs.Mask.{both, up-to};
+ghost use Rattle.relation.specs.Words.{words, height};
 ghost use Rattle.simulation.specs.Table.{states-of};
-ghost use Rattle.form.specs.Form.{Loaded, table-of};
+ghost use Rattle.form.specs.Form.{Loaded, table-of, transitions-of};
 ghost use Rattle.relation.specs.Related.{holds};
 ghost use Rattle.rounds.specs.Rounds.{Cleared, Refined};
 ghost use Rattle.ranking.specs.Rows.{Ample, Filled};
 
 // The first p rows, cut to the numbers below q.
 fn narrow(rows: &mut [u64], p: usize, q: usize)
-    requires { ⌜ (p ≤ length (now rows)) × (q ≤ 64) ⌝ }
+    requires { ⌜ (p ≤ height (now rows)) × (q ≤ most-states) ⌝ }
     ensures { λ r. ⌜ ((s t : ℕ) → s < p → holds (now (rows .exit)) s t ≡ both (holds (now (rows .entry)) s) (up-to q) t) ⌝ }
 {
     let columns = set::below(q);
     let mut s = 0;
     while s < p {
-        rows[s] = set::intersection(rows[s], columns);
+        rows::put(rows, s, set::intersection(rows::get(rows, s), columns));
         s += 1;
     }
 }
@@ -36,16 +41,26 @@ fn clear(ranks: &mut [u16], n: usize)
     }
 }
 
-fn no_sets() -> [u64; 128]
-    ensures { λ r. ⌜ length r ≡ 128 ⌝ }
+fn no_sets() -> [u64; Table::TRANSITIONS * Set::WORDS]
+    ensures { λ r. ⌜ length r ≡ most-transitions * words ⌝ }
 {
-    [0u64; 128]
+    [0u64; Table::TRANSITIONS * Set::WORDS]
 }
 
-fn none_tried() -> [u8; 8192]
-    ensures { λ r. ⌜ (length r ≡ 8192) × ((i : ℕ) → getD r i 0 ≡ 0) ⌝ }
+// A table with no more transitions than this has a short list of what was tried: most of the work of a small check would else be to
+// clear a long one.
+const FEW: usize = 16;
+
+fn few_tried() -> [u8; FEW * Table::STATES]
+    ensures { λ r. ⌜ (length r ≡ 16 * most-states) × ((i : ℕ) → getD r i 0 ≡ 0) ⌝ }
 {
-    [0u8; 8192]
+    [0u8; FEW * Table::STATES]
+}
+
+fn none_tried() -> [u8; Table::TRANSITIONS * Table::STATES]
+    ensures { λ r. ⌜ (length r ≡ most-transitions * most-states) × ((i : ℕ) → getD r i 0 ≡ 0) ⌝ }
+{
+    [0u8; Table::TRANSITIONS * Table::STATES]
 }
 
 // What is found beside the ranks.
@@ -95,9 +110,16 @@ fn fill_ranks(
     )
 }
 
-// The ranks of all pairs of states, row by row from the start of `ranks`. `x` is working memory for flows.
-pub fn rank(first: &[u16], second: &[u16], ranks: &mut [u16], x: &mut [u32]) -> Ranked
-    requires { ⌜ Loaded (now first) × Loaded (now second) × (states-of (table-of (now first)) * states-of (table-of (now second)) ≤ length (now ranks)) × (4096 ≤ length (now x)) ⌝ }
+// The ranks of all pairs of states, where nothing was tried.
+fn rank_untried(
+    first: &[u16],
+    second: &[u16],
+    ranks: &mut [u16],
+    tried: &mut [u8],
+    x: &mut [u32],
+) -> Ranked
+    requires { ⌜ Loaded (now first) × Loaded (now second) × (states-of (table-of (now first)) * states-of (table-of (now second)) ≤ length (now ranks)) × (most-pairs ≤ length (now x))
+        × (transitions-of (now first) * most-states ≤ length (now tried)) × ((i : ℕ) → getD (now tried) i 0 ≡ 0) ⌝ }
     ensures { λ r. ⌜ Filled (table-of (now (first .entry))) (table-of (now (second .entry))) (now (ranks .entry)) (now (ranks .exit)) (r .rounds) (r .kept) ⌝ }
 {
     let all = Relation::full();
@@ -108,7 +130,6 @@ pub fn rank(first: &[u16], second: &[u16], ranks: &mut [u16], x: &mut [u32]) -> 
     let mut before = none.rows;
     let mut behind = none.rows;
     let mut masks = no_sets();
-    let mut tried = none_tried();
     let rounds = fill_ranks(
         first,
         second,
@@ -119,7 +140,7 @@ pub fn rank(first: &[u16], second: &[u16], ranks: &mut [u16], x: &mut [u32]) -> 
         &mut lost,
         &mut before,
         &mut behind,
-        &mut tried,
+        tried,
         x,
     );
     let left = Relation { rows: rows };
@@ -127,4 +148,17 @@ pub fn rank(first: &[u16], second: &[u16], ranks: &mut [u16], x: &mut [u32]) -> 
         rounds: rounds,
         kept: left.kept(form::states(first)) as u16,
     }
+}
+
+// The ranks of all pairs of states, row by row from the start of `ranks`. `x` is working memory for flows.
+pub fn rank(first: &[u16], second: &[u16], ranks: &mut [u16], x: &mut [u32]) -> Ranked
+    requires { ⌜ Loaded (now first) × Loaded (now second) × (states-of (table-of (now first)) * states-of (table-of (now second)) ≤ length (now ranks)) × (most-pairs ≤ length (now x)) ⌝ }
+    ensures { λ r. ⌜ Filled (table-of (now (first .entry))) (table-of (now (second .entry))) (now (ranks .entry)) (now (ranks .exit)) (r .rounds) (r .kept) ⌝ }
+{
+    if form::first(first, form::states(first)) <= FEW {
+        let mut tried = few_tried();
+        return rank_untried(first, second, ranks, &mut tried, x);
+    }
+    let mut tried = none_tried();
+    rank_untried(first, second, ranks, &mut tried, x)
 }

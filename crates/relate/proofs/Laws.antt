@@ -1,49 +1,64 @@
 -- Rows one by one, and what they are of a round.
 -- Assumes nothing.
-use mathlib.Core.Path.{_≡_, refl, sym, _∙_, ap}
+use mathlib.Core.Path.{_≡_, refl, sym, _∙_, ap, subst}
 use mathlib.Core.Bool.{false, _||_, _&&_}
 use mathlib.Core.List.{List}
 use mathlib.Core.Logic.{_⊎_, inl, inr, ⊎-elim}
-use Prim.Native.Nat.{ℕ, suc, _+_, _*_, _<_, _≤_}
+use Prim.Native.Nat.{ℕ, suc, _+_, _-_, _*_, _<_, _≤_, min}
 use native.Mathlib.Nat.{not-suc-le-zero, suc-mul, mul-le-mul-right}
 use native.Mathlib.Decide.{ℕ-discrete}
 use native.Mathlib.Omega.{arith}
 use lib.Dec.{eqb, leb, eqb→eq, leb→le, le→leb}
 use borrow.Author.Tests.{lt-ltb, le-ltb, lt-leb}
-use lib.ListN.{length, getD, set, length-set}
-use lib.Seq.{getD-set-same, getD-set-other}
+use lib.ListN.{length, getD, take, drop, length-take, length-drop}
+use lib.Seq.{getD-take, getD-drop}
 use Rattle.simulation.specs.Table.{Table, states-of}
 use Rattle.simulation.specs.Round.{related, round, rank, pairs}
 use Rattle.simulation.proofs.Finite.Tests.{same-test, or-left, or-right, or-cases, same-eqb}
 use Rattle.simulation.proofs.Simulation.Ranks.{rank-law}
 use Rattle.relation.specs.Mask.{member, part}
+use Rattle.relation.specs.Words.{mask, row-of, height, put-row}
+use Rattle.relation.specs.declared.set.Set.{Set}
+use Rattle.relation.proofs.Sets.{length-put, row-put, row-put-other}
 use Rattle.relation.specs.Ranks.{lasts}
 use Rattle.relate.specs.Rows.{row, Indexed, Rows}
+
+-- the ranks have a place for s and each of the first targets, and of the others
+module _ (ranks : List ℕ) (width s : ℕ) (nt : List ℕ) (k : ℕ) (h : Indexed ranks width s nt) where
+  pub indexed-take : Indexed ranks width s (take k nt)
+  indexed-take j l =
+      let m : j < min k (length nt) = simp length-take at l in
+      subst (λ (t : ℕ). s * width + t < length ranks) (sym (getD-take k nt j 0 (omega arith))) (h j (omega arith))
+
+  pub indexed-drop : Indexed ranks width s (drop k nt)
+  indexed-drop j l =
+      let m : j < length nt - k = simp length-drop at l in
+      subst (λ (t : ℕ). s * width + t < length ranks) (sym (getD-drop k nt j 0)) (h (k + j) (omega arith))
 
 -- a loop that writes the rows
 module _ (ranks : List ℕ) (width r : ℕ) (mt nt rel : List ℕ) where
   -- the rows of the first n targets are written
   pub record Done (n : ℕ) (rel′ : List ℕ) : Type 0 where
     pub size : length rel′ ≡ length rel
-    pub masks : (i : ℕ) → i < n → member (getD rel′ i 0) ≡ part (length nt) (row ranks width r (getD mt i 0) nt)
-    pub rest : (i : ℕ) → n ≤ i → getD rel′ i 0 ≡ getD rel i 0
+    pub masks : (i : ℕ) → i < n → member (row-of rel′ i) ≡ part (length nt) (row ranks width r (getD mt i 0) nt)
+    pub rest : (i : ℕ) → n ≤ i → row-of rel′ i ≡ row-of rel i
 
   pub done-start : Done 0 rel
   done-start = record { size = refl; masks = λ i lt. absurd (not-suc-le-zero lt); rest = λ i _. refl }
 
-  pub done-next : (n x : ℕ) (rel′ : List ℕ) → n < length rel → Done n rel′
-      → member x ≡ part (length nt) (row ranks width r (getD mt n 0) nt) → Done (n + 1) (set rel′ n x)
+  pub done-next : (n : ℕ) (x : Set) (rel′ : List ℕ) → n < height rel → Done n rel′
+      → member (mask x) ≡ part (length nt) (row ranks width r (getD mt n 0) nt) → Done (n + 1) (put-row rel′ n x)
   done-next n x rel′ room d e = record {
-    size = length-set rel′ n x ∙ d .size;
+    size = length-put rel′ n x ∙ d .size;
     masks = λ i lt. at i lt (ℕ-discrete i n);
-    rest = λ i le. getD-set-other rel′ n i x 0 (λ q. omega arith) ∙ d .rest i (omega arith);
+    rest = λ i le. row-put-other rel′ n i x (λ q. omega arith) ∙ d .rest i (omega arith);
   }
     where
-      at : (i : ℕ) → i < n + 1 → Dec (i ≡ n) → member (getD (set rel′ n x) i 0) ≡ part (length nt) (row ranks width r (getD mt i 0) nt)
+      at : (i : ℕ) → i < n + 1 → Dec (i ≡ n) → member (row-of (put-row rel′ n x) i) ≡ part (length nt) (row ranks width r (getD mt i 0) nt)
       at i lt (yes q) =
-          ap (λ (k : ℕ). member (getD (set rel′ n x) k 0)) q ∙ ap member (getD-set-same rel′ n x 0 (omega (arith, d .size))) ∙ e
+          ap (λ (k : ℕ). member (row-of (put-row rel′ n x) k)) q ∙ ap member (row-put rel′ n x (omega (arith, d .size))) ∙ e
           ∙ ap (λ (k : ℕ). part (length nt) (row ranks width r (getD mt k 0) nt)) (sym q)
-      at i lt (no q) = ap member (getD-set-other rel′ n i x 0 q) ∙ d .masks i (omega arith)
+      at i lt (no q) = ap member (row-put-other rel′ n i x q) ∙ d .masks i (omega arith)
 
   pub done-rows : (rel′ : List ℕ) → Done (length mt) rel′ → Rows ranks width r mt nt rel rel′
   done-rows rel′ d = record { size = d .size; masks = d .masks; rest = d .rest }
@@ -75,20 +90,20 @@ module _ (M N : Table) (ranks : List ℕ) (right : (s t : ℕ) → s < states-of
 
   module _ (mt nt rel rel′ : List ℕ) (a : (i : ℕ) → i < length mt → getD mt i 0 < states-of M) (b : (j : ℕ) → j < length nt → getD nt j 0 < states-of N) where
     row-test : (r : ℕ) → Rows ranks (states-of N) r mt nt rel rel′ → (i j : ℕ) → i < length mt → j < length nt
-        → member (getD rel′ i 0) j ≡ lasts r (rank M N (getD mt i 0) (getD nt j 0))
+        → member (row-of rel′ i) j ≡ lasts r (rank M N (getD mt i 0) (getD nt j 0))
     row-test r w i j li lj =
         ap (λ X. X j) (w .masks i li) ∙ ap (λ c. c && row ranks (states-of N) r (getD mt i 0) nt j) (lt-ltb j (length nt) lj)
         ∙ ap (lasts r) (right (getD mt i 0) (getD nt j 0) (a i li) (b j lj))
 
     pub rows-round : (r : ℕ) → Rows ranks (states-of N) (suc r) mt nt rel rel′ → (i j : ℕ) → i < length mt → j < length nt
-        → member (getD rel′ i 0) j ≡ related (round M N r) (getD mt i 0) (getD nt j 0)
+        → member (row-of rel′ i) j ≡ related (round M N r) (getD mt i 0) (getD nt j 0)
     rows-round r w i j li lj = row-test (suc r) w i j li lj ∙ lasts-round M N (getD mt i 0) (getD nt j 0) (a i li) (b j lj) r
 
     pub rows-kept : (r : ℕ) → pairs M N < r → Rows ranks (states-of N) r mt nt rel rel′ → (i j : ℕ) → i < length mt → j < length nt
-        → member (getD rel′ i 0) j ≡ related (round M N (pairs M N)) (getD mt i 0) (getD nt j 0)
+        → member (row-of rel′ i) j ≡ related (round M N (pairs M N)) (getD mt i 0) (getD nt j 0)
     rows-kept r lt w i j li lj = row-test r w i j li lj ∙ lasts-kept M N (getD mt i 0) (getD nt j 0) (a i li) (b j lj) r lt
 
 -- no row has a member past the targets
-pub rows-past : {ranks mt nt rel rel′ : List ℕ} {width r : ℕ} → Rows ranks width r mt nt rel rel′ → (i j : ℕ) → i < length mt → length nt ≤ j → member (getD rel′ i 0) j ≡ false
+pub rows-past : {ranks mt nt rel rel′ : List ℕ} {width r : ℕ} → Rows ranks width r mt nt rel rel′ → (i j : ℕ) → i < length mt → length nt ≤ j → member (row-of rel′ i) j ≡ false
 rows-past {ranks} {mt} {nt} {width = width} {r = r} w i j li le =
     ap (λ X. X j) (w .masks i li) ∙ ap (λ c. c && row ranks width r (getD mt i 0) nt j) (le-ltb j (length nt) le)

@@ -5,6 +5,8 @@ use mathlib.Core.List.{List}
 use Prim.Native.Nat.{ℕ, suc, pred, _≤_, _<_}
 use native.Mathlib.Omega.{arith}
 use lib.ListN.{length, getD}
+use Rattle.simulation.specs.Limits.{most-pairs, most-states}
+use Rattle.relation.specs.Words.{height}
 use Rattle.simulation.specs.Fit.{Positive, total}
 use Rattle.simulation.specs.Table.{Transition, Table, weights, targets, states-of}
 use Rattle.simulation.specs.Round.{between, round}
@@ -32,8 +34,8 @@ module _ {first second ranks : List ℕ} (j k : ℕ) (g : Ranked first second ra
 
   -- what the rows ask
   module _ {mt nt : List ℕ} (em : mt ≡ targets m) (en : nt ≡ targets n) where
-    pub rows-asked : {width : ℕ} (rel : List ℕ) → width ≡ states-of N → 64 ≤ length rel
-        → (length nt ≤ 64) × (length mt ≤ length rel) × ((i : ℕ) → i < length mt → Indexed ranks width (getD mt i 0) nt)
+    pub rows-asked : {width : ℕ} (rel : List ℕ) → width ≡ states-of N → most-states ≤ height rel
+        → (length nt ≤ most-states) × (length mt ≤ height rel) × ((i : ℕ) → i < length mt → Indexed ranks width (getD mt i 0) nt)
     rows-asked rel ew er = (
       omega (arith, few-places second k (g .second-loaded) from-second, targets-count second k (g .second-loaded) from-second nt en),
       omega (arith, few-places first j (g .first-loaded) from-first, targets-count first j (g .first-loaded) from-first mt em),
@@ -48,7 +50,7 @@ module _ {first second ranks : List ℕ} (j k : ℕ) (g : Ranked first second ra
 
   -- what the flow kernel and the cut ask
   module _ {ws vs : List ℕ} (ew : ws ≡ weights m) (ev : vs ≡ weights n) where
-    pub kernel-asked : (rel x : List ℕ) → 64 ≤ length rel → 4096 ≤ length x → Given ws vs rel x
+    pub kernel-asked : (rel x : List ℕ) → most-states ≤ height rel → most-pairs ≤ length x → Given ws vs rel x
     kernel-asked rel x er ex =
         record {
           few-rows = omega (arith, few-places first j (g .first-loaded) from-first, weights-count first j (g .first-loaded) from-first ws ew);

@@ -4,6 +4,8 @@ use mathlib.Core.Path.{_≡_}
 use mathlib.Core.List.{List}
 use Prim.Native.Nat.{ℕ, _+_, _*_, _≤_, _<_}
 use lib.ListN.{length, getD}
+use Rattle.simulation.specs.Limits.{most-pairs, most-states}
+use Rattle.relation.specs.Words.{height}
 use Rattle.simulation.specs.Table.{Table, states-of}
 use Rattle.simulation.specs.Round.{Relation, round, pairs, rank}
 use Rattle.form.specs.Form.{Loaded, table-of}
@@ -18,8 +20,8 @@ pub record Ranked (first second ranks : List ℕ) : Type 0 where
 
 -- what is lent to work with: a word for each row of a relation, the amounts of a flow
 pub record Lent (rel x : List ℕ) : Type 0 where
-  pub rows : 64 ≤ length rel
-  pub amounts : 4096 ≤ length x
+  pub rows : most-states ≤ height rel
+  pub amounts : most-pairs ≤ length x
 
 abbrev pub kept-relation : Table → Table → Relation
 kept-relation M N = round M N (pairs M N)

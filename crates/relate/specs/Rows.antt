@@ -5,6 +5,7 @@ use mathlib.Core.List.{List}
 use Prim.Native.Nat.{ℕ, _+_, _*_, _<_, _≤_}
 use lib.ListN.{length, getD}
 use Rattle.relation.specs.Mask.{Test, member, part}
+use Rattle.relation.specs.Words.{row-of}
 use Rattle.relation.specs.Ranks.{lasts}
 
 -- the state s is related to the target at position j
@@ -18,5 +19,5 @@ Indexed ranks width s nt = (j : ℕ) → j < length nt → s * width + getD nt j
 -- row i is that of the target at position i of mt; nothing else changes
 pub record Rows (ranks : List ℕ) (width r : ℕ) (mt nt rel rel′ : List ℕ) : Type 0 where
   pub size : length rel′ ≡ length rel
-  pub masks : (i : ℕ) → i < length mt → member (getD rel′ i 0) ≡ part (length nt) (row ranks width r (getD mt i 0) nt)
-  pub rest : (i : ℕ) → length mt ≤ i → getD rel′ i 0 ≡ getD rel i 0
+  pub masks : (i : ℕ) → i < length mt → member (row-of rel′ i) ≡ part (length nt) (row ranks width r (getD mt i 0) nt)
+  pub rest : (i : ℕ) → length mt ≤ i → row-of rel′ i ≡ row-of rel i

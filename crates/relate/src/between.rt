@@ -1,35 +1,56 @@
-// The relation of a round between the targets of two transitions, a mask to a target, out of the ranks of all pairs.
+// The relation of a round between the targets of two transitions, a set to a target, out of the ranks of all pairs.
 use relation::ranks::lasts;
-use relation::set;
+use relation::rows;
+use relation::set::Set;
+use relation::word;
 ghost use mathlib.Core.Path.{_≡_};
 ghost use Prim.Native.Nat.{ℕ, _+_, _*_, _<_, _≤_};
 ghost use lib.ListN.{length, getD};
+ghost use Rattle.simulation.specs.Limits.{most-states};
 ghost use Rattle.relation.specs.Mask.{member, part};
+ghost use Rattle.relation.specs.Words.{mask, height};
 ghost use Rattle.relate.specs.Rows.{row, Indexed, Rows};
 
-// The targets of nt that the state s is related to, by position.
-pub fn row(ranks: &[u16], width: usize, r: u16, s: usize, nt: &[u16]) -> u64
+// The targets of nt, at most 64, that the state s is related to, by position.
+fn row_word(ranks: &[u16], width: usize, r: u16, s: usize, nt: &[u16]) -> u64
     requires { ⌜ (length (now nt) ≤ 64) × Indexed (now ranks) width s (now nt) ⌝ }
     ensures { λ b. ⌜ member b ≡ part (length (now (nt .entry))) (row (now (ranks .entry)) width r s (now (nt .entry))) ⌝ }
 {
-    let mut set: u64 = 0;
+    let mut set = 0u64;
     for j in 0..nt.len() {
         let t = nt[j] as usize;
         let rank = ranks[s * width + t];
-        set = set::with_bit(set, j, lasts(rank, r));
+        set = word::with_bit(set, j, lasts(rank, r));
     }
     set
 }
 
+// The targets of nt that the state s is related to, by position.
+pub fn row(ranks: &[u16], width: usize, r: u16, s: usize, nt: &[u16]) -> Set
+    requires { ⌜ (length (now nt) ≤ most-states) × Indexed (now ranks) width s (now nt) ⌝ }
+    ensures { λ b. ⌜ member (mask b) ≡ part (length (now (nt .entry))) (row (now (ranks .entry)) width r s (now (nt .entry))) ⌝ }
+{
+    if nt.len() <= 64 {
+        return Set {
+            words: [row_word(ranks, width, r, s, nt), 0],
+        };
+    }
+    Set {
+        words: [
+            row_word(ranks, width, r, s, &nt[..64]),
+            row_word(ranks, width, r, s, &nt[64..]),
+        ],
+    }
+}
+
 // Row i of rel becomes the row of the target at position i of mt.
 pub fn rows(ranks: &[u16], width: usize, r: u16, mt: &[u16], nt: &[u16], rel: &mut [u64])
-    requires { ⌜ (length (now nt) ≤ 64) × (length (now mt) ≤ length (now rel))
+    requires { ⌜ (length (now nt) ≤ most-states) × (length (now mt) ≤ height (now rel))
         × ((i : ℕ) → i < length (now mt) → Indexed (now ranks) width (getD (now mt) i 0) (now nt)) ⌝ }
     ensures { λ _. ⌜ Rows (now (ranks .entry)) width r (now (mt .entry)) (now (nt .entry)) (now (rel .entry)) (now (rel .exit)) ⌝ }
 {
     for i in 0..mt.len() {
         let s = mt[i] as usize;
-        let mask = row(ranks, width, r, s, nt);
-        rel[i] = mask;
+        rows::put(rel, i, row(ranks, width, r, s, nt));
     }
 }

@@ -1,7 +1,8 @@
 // The relation of a round between the targets of a transition of each table.
 use crate::between;
 ghost use Prim.Native.Nat.{_≤_, _<_};
-ghost use lib.ListN.{length};
+ghost use Rattle.simulation.specs.Limits.{most-states};
+ghost use Rattle.relation.specs.Words.{height};
 ghost use Rattle.simulation.specs.Table.{targets, states-of};
 ghost use Rattle.form.specs.Form.{table-of, transitions-of, transition-at};
 ghost use Rattle.relate.specs.Rows.{Rows};
@@ -17,7 +18,7 @@ pub fn rows(
     k: usize,
     rel: &mut [u64],
 )
-    requires { ⌜ Ranked (now first) (now second) (now ranks) × (j < transitions-of (now first)) × (k < transitions-of (now second)) × (64 ≤ length (now rel)) ⌝ }
+    requires { ⌜ Ranked (now first) (now second) (now ranks) × (j < transitions-of (now first)) × (k < transitions-of (now second)) × (most-states ≤ height (now rel)) ⌝ }
     ensures { λ _. ⌜ Rows (now (ranks .entry)) (states-of (table-of (now (second .entry)))) r
         (targets (transition-at (now (first .entry)) j)) (targets (transition-at (now (second .entry)) k)) (now (rel .entry)) (now (rel .exit)) ⌝ }
 {

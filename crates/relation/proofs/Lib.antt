@@ -1,5 +1,7 @@
--- Laws of masks, of relations by rows, and of those by ranks.
+-- Laws of masks, of numbers made of words, of sets and rows, and of relations.
 -- Assumes nothing.
 pub mod Mask
+pub mod Words
+pub mod Sets
 pub mod Relations
 pub mod Lasting

@@ -18,7 +18,7 @@ use lib.Count.{ones, ones-step, trailingZeros}
 use Rattle.simulation.specs.Sum.{sum, when}
 use Rattle.simulation.proofs.Finite.Tests.{is-true, and-left, and-right}
 use Rattle.simulation.proofs.Finite.Sums.{sum-first, sum-ext, sum-zero, sum-change}
-use Rattle.relation.specs.Mask.{Test, member, only, up-to, without-member, with-bit, either, both, except, bit, part, from, size, Lowest}
+use Rattle.relation.specs.Mask.{Test, member, only, up-to, without-member, either, both, except, part, from, size, Lowest, bit, with-bit}
 
 two-pos : zero < 2
 two-pos = zero-lt-suc 1
@@ -259,6 +259,10 @@ pub flag-is : (b : Bool) → boolByte b ≡ when b 1
 flag-is true = refl
 flag-is false = refl
 
+pub one-is : (c : Bool) → eqb (when c 1) 1 ≡ c
+one-is true = refl
+one-is false = refl
+
 -- a number joins where its digit says so
 pub with-bit-is : (x t b : ℕ) → t < 64 → b < 2 → member (bitOr (b * 2 ^ t % 2 ^ 64) x) ≡ with-bit t b (member x)
 with-bit-is x t zero lt h =
@@ -268,10 +272,6 @@ with-bit-is x t (suc zero) lt h =
     either-is (1 * 2 ^ t % 2 ^ 64) x
     ∙ fun-ext (λ k. ap (λ c. c || member x k) (ap (λ X. X k) (only-is t lt) ∙ sym (and-true (eqb k t))))
 with-bit-is x t (suc (suc b)) lt h = absurd (not-suc-le-zero (le-of-suc-le-suc (le-of-suc-le-suc h)))
-
-pub one-is : (c : Bool) → eqb (when c 1) 1 ≡ c
-one-is true = refl
-one-is false = refl
 
 -- masks with the same members are equal
 same-digit : (a b : ℕ) → a < 2 → b < 2 → eqb a 1 ≡ eqb b 1 → a ≡ b
@@ -287,6 +287,24 @@ same-mask (suc k) x y hx hy e =
 
 pub mask-by-members : (k x y : ℕ) → x < 2 ^ k → y < 2 ^ k → member x ≡ member y → x ≡ y
 mask-by-members k x y hx hy e = same-mask k x y hx hy (λ t _. ap (λ X. X t) e)
+
+-- a mask that lacks one of the members of another is less
+pub without-less : (k t x y : ℕ) → x < 2 ^ k → y < 2 ^ k → ((u : ℕ) → member y u ≡ without-member t (member x) u) → member x t ≡ true → y < x
+unfolding member
+without-less k zero x y hx hy e h =
+    let o = odd-digit x h in
+    let z = even-digit y (e 0 ∙ and-false (eqb (x % 2) 1)) in
+    let half : y / 2 ≡ x / 2 =
+    same-mask k (y / 2) (x / 2) (omega arith) (omega arith)
+    (λ u _. e (suc u) ∙ ap (λ b. member (x / 2) u && not b) (eqb·suc-zero u) ∙ and-true (member (x / 2) u)) in
+    omega arith
+without-less k (suc t) x y hx hy e h =
+    let low : y % 2 ≡ x % 2 =
+    same-digit (y % 2) (x % 2) (digit y) (digit x) (e 0 ∙ ap (λ b. eqb (x % 2) 1 && not b) (eqb·zero-suc t) ∙ and-true (eqb (x % 2) 1)) in
+    let less : y / 2 < x / 2 =
+    without-less k t (x / 2) (y / 2) (omega arith) (omega arith)
+    (λ u. e (suc u) ∙ ap (λ b. member (x / 2) u && not b) (eqb·suc-suc u t)) h in
+    omega arith
 
 -- a mask without members is 0, and one that has none from n on is below 2 ^ n
 pub no-member : (k x : ℕ) → x < 2 ^ k → ((t : ℕ) → t < k → member x t ≡ false) → x ≡ 0

@@ -26,7 +26,7 @@ with-member t X k = eqb k t || X k
 abbrev pub without-member : ℕ → Test → Test
 without-member t X k = X k && not (eqb k t)
 
--- t too where b is 1
+-- t too if b is 1
 abbrev pub with-bit : ℕ → ℕ → Test → Test
 with-bit t b X k = (eqb k t && eqb b 1) || X k
 
@@ -39,7 +39,7 @@ both X Y k = X k && Y k
 abbrev pub except : Test → Test → Test
 except X Y k = X k && not (Y k)
 
--- 1 for a number that passes, else 0
+-- 1 for a member, else 0
 abbrev pub bit : Test → ℕ → ℕ
 bit X t = when (X t) 1
 

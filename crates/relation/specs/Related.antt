@@ -4,17 +4,18 @@ use mathlib.Core.Bool.{Bool, false, not, _&&_}
 use mathlib.Core.List.{List}
 use Prim.Native.Nat.{ℕ}
 use lib.Dec.{eqb, ltb}
-use lib.ListN.{getD}
+use Rattle.simulation.specs.Limits.{most-states}
 use Rattle.simulation.specs.Sum.{sum}
 use Rattle.relation.specs.Mask.{Test, member, size}
+use Rattle.relation.specs.Words.{row-of}
 use Rattle.relation.specs.declared.Relation.{Relation}
 
 -- the rows have the pair (s, t)
 abbrev pub holds : List ℕ → ℕ → ℕ → Bool
-holds rows s t = member (getD rows s 0) t
+holds rows s t = member (row-of rows s) t
 
 unfoldable pub related : Relation → ℕ → Test
-unfolding member
+unfolding member row-of
 related r s = holds (r .rows) s
 
 abbrev pub none : ℕ → Test
@@ -28,4 +29,4 @@ without s t R a b = R a b && not (eqb a s && eqb b t)
 
 -- how many pairs the first n rows have
 abbrev pub pairs-of : ℕ → (ℕ → Test) → ℕ
-pairs-of n R = sum n (λ s. size 64 (R s))
+pairs-of n R = sum n (λ s. size most-states (R s))

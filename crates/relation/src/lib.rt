@@ -1,50 +1,58 @@
-// Sets of states as masks, and relations between the states of two tables, a mask to a row. Whether a pair is related is a number,
+// Sets of states as words, and relations between the states of two tables, a set to a row. Whether a pair is related is a number,
 // 1 or 0, so that no caller has to branch on it.
 pub mod ranks;
 pub mod rows;
 pub mod set;
+pub mod walk;
+pub mod word;
 
+use crate::set::Set;
+use simulation::Table;
 ghost use mathlib.Core.Path.{_≡_};
 ghost use Prim.Native.Nat.{_≤_};
+ghost use Rattle.simulation.specs.Limits.{most-states};
 ghost use Rattle.relation.specs.Related.{related, none, «all-below», «pairs-of»};
 
 pub struct Relation {
-    pub rows: [u64; 64],
+    pub rows: [u64; Relation::WORDS],
 }
 
 impl Relation {
-    // A table has at most this many states: a relation has a row for each, and a row a bit for each.
-    pub const STATES: usize = 64;
+    // The words of all rows: a row for each state of a table.
+    pub const WORDS: usize = Table::STATES * Set::WORDS;
 
-    // The row that relates a state to every other.
-    pub const ROW: u64 = 0xffff_ffff_ffff_ffff;
+    // A word that has all its bits.
+    pub const ALL: u64 = 0xffff_ffff_ffff_ffff;
 
     // No pair.
     pub fn empty() -> Self
         ensures { λ r. ⌜ related r ≡ none ⌝ }
     {
         Self {
-            rows: [0; Self::STATES],
+            rows: [0; Self::WORDS],
         }
     }
 
     // Every pair of states.
     pub fn full() -> Self
-        ensures { λ r. ⌜ related r ≡ all-below 64 64 ⌝ }
+        ensures { λ r. ⌜ related r ≡ all-below most-states most-states ⌝ }
     {
         Self {
-            rows: [Self::ROW; Self::STATES],
+            rows: [Self::ALL; Self::WORDS],
         }
     }
 
     // How many pairs of the first n rows are left.
     pub fn kept(self, n: usize) -> u32
-        requires { ⌜ n ≤ 64 ⌝ }
+        requires { ⌜ n ≤ most-states ⌝ }
         ensures { λ r. ⌜ r ≡ pairs-of n (related self) ⌝ }
     {
         let mut pairs: u32 = 0;
         for s in 0..n {
-            let row = self.rows[s];
+            let at = s * Set::WORDS;
+            let row = Set {
+                words: [self.rows[at], self.rows[at + 1]],
+            };
             pairs += set::count(row);
         }
         pairs

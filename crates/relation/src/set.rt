@@ -1,106 +1,157 @@
-// Sets of numbers below 64 as u64 masks: t is a member if bit t is one.
+// Sets of numbers below Table::STATES as words: t is a member if bit t % 64 of word t / 64 is one.
+use crate::word;
+use simulation::Table;
 ghost use mathlib.Core.Path.{_≡_};
 ghost use Prim.Native.Nat.{ℕ, _<_, _≤_};
-ghost use Rattle.relation.specs.Mask.{
-  member,
-  «up-to»,
-  only,
-  «with-member»,
-  «without-member»,
-  «with-bit»,
-  either,
-  both,
-  except,
-  bit,
-  size,
-  Lowest,
-};
+ghost use lib.Dec.{eqb};
+ghost use Rattle.simulation.specs.Limits.{most-states};
+ghost use Rattle.relation.specs.Mask.{member, «up-to», only, «with-member», «without-member», «with-bit», either, both, except, bit, size, Lowest, bit};
+ghost use Rattle.relation.specs.Words.{mask};
 
-// 1 for a member, else 0: the shift brings its digit to the lowest place, and the remainder is that digit.
-pub fn bit(set: u64, t: usize) -> u64
-    requires { ⌜ t < 64 ⌝ }
-    ensures { λ r. ⌜ r ≡ bit (member set) t ⌝ }
-{
-    (set >> t) % 2
+pub struct Set {
+    pub words: [u64; Set::WORDS],
 }
 
-pub fn single(t: usize) -> u64
-    requires { ⌜ t < 64 ⌝ }
-    ensures { λ r. ⌜ member r ≡ only t ⌝ }
+impl Set {
+    // So many words have a bit for each state of a table.
+    pub const WORDS: usize = Table::STATES / 64;
+}
+
+pub fn empty() -> Set
+    ensures { λ r. ⌜ mask r ≡ 0 ⌝ }
 {
-    1 << t
+    Set {
+        words: [0; Set::WORDS],
+    }
+}
+
+pub fn is_empty(set: Set) -> bool
+    ensures { λ r. ⌜ r ≡ eqb (mask set) 0 ⌝ }
+{
+    set.words[0] | set.words[1] == 0
+}
+
+// 1 for a member, else 0.
+pub fn bit(set: Set, t: usize) -> u64
+    requires { ⌜ t < most-states ⌝ }
+    ensures { λ r. ⌜ r ≡ bit (member (mask set)) t ⌝ }
+{
+    let w = t / 64;
+    word::bit(set.words[w], t % 64)
+}
+
+pub fn single(t: usize) -> Set
+    requires { ⌜ t < most-states ⌝ }
+    ensures { λ r. ⌜ member (mask r) ≡ only t ⌝ }
+{
+    insert(empty(), t)
 }
 
 // Every number below n.
-pub fn below(n: usize) -> u64
-    requires { ⌜ n ≤ 64 ⌝ }
-    ensures { λ r. ⌜ member r ≡ up-to n ⌝ }
+pub fn below(n: usize) -> Set
+    requires { ⌜ n ≤ most-states ⌝ }
+    ensures { λ r. ⌜ member (mask r) ≡ up-to n ⌝ }
 {
     if n < 64 {
-        return (1 << n) - 1;
+        return Set {
+            words: [word::below(n), 0],
+        };
     }
-    0xffff_ffff_ffff_ffff
+    Set {
+        words: [word::below(64), word::below(n - 64)],
+    }
 }
 
-pub fn insert(set: u64, t: usize) -> u64
-    requires { ⌜ t < 64 ⌝ }
-    ensures { λ r. ⌜ member r ≡ with-member t (member set) ⌝ }
+pub fn insert(mut set: Set, t: usize) -> Set
+    requires { ⌜ t < most-states ⌝ }
+    ensures { λ r. ⌜ member (mask r) ≡ with-member t (member (mask set)) ⌝ }
 {
-    single(t) | set
+    let w = t / 64;
+    let old = set.words[w];
+    let new = word::insert(old, t % 64);
+    set.words[w] = new;
+    set
 }
 
-// t too where b is 1. Nothing branches on b.
-pub fn with_bit(set: u64, t: usize, b: u64) -> u64
-    requires { ⌜ (t < 64) × (b < 2) ⌝ }
-    ensures { λ r. ⌜ member r ≡ with-bit t b (member set) ⌝ }
+pub fn remove(mut set: Set, t: usize) -> Set
+    requires { ⌜ t < most-states ⌝ }
+    ensures { λ r. ⌜ member (mask r) ≡ without-member t (member (mask set)) ⌝ }
 {
-    (b << t) | set
+    let w = t / 64;
+    let old = set.words[w];
+    let new = word::remove(old, t % 64);
+    set.words[w] = new;
+    set
 }
 
-pub fn remove(set: u64, t: usize) -> u64
-    requires { ⌜ t < 64 ⌝ }
-    ensures { λ r. ⌜ member r ≡ without-member t (member set) ⌝ }
+// t too if b is 1, without a branch.
+pub fn with_bit(mut set: Set, t: usize, b: u64) -> Set
+    requires { ⌜ (t < most-states) × (b < 2) ⌝ }
+    ensures { λ r. ⌜ member (mask r) ≡ with-bit t b (member (mask set)) ⌝ }
 {
-    set & !single(t)
+    let w = t / 64;
+    let old = set.words[w];
+    let new = word::with_bit(old, t % 64, b);
+    set.words[w] = new;
+    set
 }
 
-pub fn union(a: u64, b: u64) -> u64
-    ensures { λ r. ⌜ member r ≡ either (member a) (member b) ⌝ }
+pub fn union(a: Set, b: Set) -> Set
+    ensures { λ r. ⌜ member (mask r) ≡ either (member (mask a)) (member (mask b)) ⌝ }
 {
-    a | b
+    Set {
+        words: [a.words[0] | b.words[0], a.words[1] | b.words[1]],
+    }
 }
 
-pub fn intersection(a: u64, b: u64) -> u64
-    ensures { λ r. ⌜ member r ≡ both (member a) (member b) ⌝ }
+pub fn intersection(a: Set, b: Set) -> Set
+    ensures { λ r. ⌜ member (mask r) ≡ both (member (mask a)) (member (mask b)) ⌝ }
 {
-    a & b
+    Set {
+        words: [a.words[0] & b.words[0], a.words[1] & b.words[1]],
+    }
 }
 
-pub fn difference(a: u64, b: u64) -> u64
-    ensures { λ r. ⌜ member r ≡ except (member a) (member b) ⌝ }
+pub fn difference(a: Set, b: Set) -> Set
+    ensures { λ r. ⌜ member (mask r) ≡ except (member (mask a)) (member (mask b)) ⌝ }
 {
-    a & !b
+    Set {
+        words: [a.words[0] & !b.words[0], a.words[1] & !b.words[1]],
+    }
 }
 
 // How many members.
-pub fn count(set: u64) -> u32
-    ensures { λ r. ⌜ r ≡ size 64 (member set) ⌝ }
+pub fn count(set: Set) -> u32
+    ensures { λ r. ⌜ r ≡ size most-states (member (mask set)) ⌝ }
 {
-    u64::count_ones(set)
+    word::count(set.words[0]) + word::count(set.words[1])
 }
 
 // The lowest member of a set that has one.
-pub fn lowest(set: u64) -> usize
-    requires { ⌜ 0 < set ⌝ }
-    ensures { λ r. ⌜ (r < 64) × Lowest (member set) r ⌝ }
+pub fn lowest(set: Set) -> usize
+    requires { ⌜ 0 < mask set ⌝ }
+    ensures { λ r. ⌜ (r < most-states) × Lowest (member (mask set)) r ⌝ }
 {
-    u64::trailing_zeros(set) as usize
+    let low = set.words[0];
+    if low != 0 {
+        return word::lowest(low);
+    }
+    64 + word::lowest(set.words[1])
 }
 
 // A set that has a member, without its lowest.
-pub fn without_lowest(set: u64) -> u64
-    requires { ⌜ 0 < set ⌝ }
-    ensures { λ r. ⌜ ((t : ℕ) → Lowest (member set) t → member r ≡ without-member t (member set)) × (r < set) ⌝ }
+pub fn without_lowest(set: Set) -> Set
+    requires { ⌜ 0 < mask set ⌝ }
+    ensures { λ r. ⌜ ((t : ℕ) → Lowest (member (mask set)) t → member (mask r) ≡ without-member t (member (mask set))) × (mask r < mask set) ⌝ }
 {
-    set & (set - 1)
+    let low = set.words[0];
+    let high = set.words[1];
+    if low != 0 {
+        return Set {
+            words: [word::without_lowest(low), high],
+        };
+    }
+    Set {
+        words: [0, word::without_lowest(high)],
+    }
 }

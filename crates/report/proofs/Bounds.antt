@@ -8,6 +8,7 @@ use native.Mathlib.Nat.{suc-mul, mul-le-mul, mul-le-mul-right}
 use native.Mathlib.Omega.{arith}
 use lib.Dec.{eqb}
 use lib.ListN.{length, take, getD, length-append}
+use Rattle.simulation.specs.Limits.{most-states}
 use Rattle.simulation.specs.Round.{maximum, zeros}
 use Rattle.report.specs.Text.{word-rounds, word-kept, word-verdict, word-yes, word-no, word-row, word-tables, word-refused, word-tree, space, newline, pair-line, ranks-text, row-line, rows-text, yes?, summary-line, rounds-line, bytes-text, tree-line, tree-text, refused-text, report-text, answer-text, text-bound, longest-text, short-text}
 use Rattle.digits.specs.Writes.{pieces, Room}
@@ -42,14 +43,14 @@ module _ (ranks : List ℕ) (small : (i : ℕ) → getD ranks i 0 < 2 ^ 16) wher
   unfolding ranks-text
   ranks-short from q = pieces-short (λ t. labelled space (getD ranks (from + t) 0)) q 6 (λ t _. labelled-short space (getD ranks (from + t) 0) 4 (omega (arith, small (from + t))))
 
-  row-short : (q s : ℕ) → s < 64 → length (row-line ranks q s) ≤ 7 + 6 * q
+  row-short : (q s : ℕ) → s < most-states → length (row-line ranks q s) ≤ 8 + 6 * q
   unfolding row-line
   row-short q s ls =
-      omega (arith, length-append (labelled word-row s ++ ranks-text ranks (s * q) q) newline, length-append (labelled word-row s) (ranks-text ranks (s * q) q), labelled-short word-row s 1 (omega arith), ranks-short (s * q) q)
+      omega (arith, length-append (labelled word-row s ++ ranks-text ranks (s * q) q) newline, length-append (labelled word-row s) (ranks-text ranks (s * q) q), labelled-short word-row s 2 (omega arith), ranks-short (s * q) q)
 
-  rows-short : (p q : ℕ) → p ≤ 64 → length (rows-text ranks q p) ≤ p * (7 + 6 * q)
+  rows-short : (p q : ℕ) → p ≤ most-states → length (rows-text ranks q p) ≤ p * (8 + 6 * q)
   unfolding rows-text
-  rows-short p q lp = pieces-short (row-line ranks q) p (7 + 6 * q) (λ s lt. row-short q s (omega arith))
+  rows-short p q lp = pieces-short (row-line ranks q) p (8 + 6 * q) (λ s lt. row-short q s (omega arith))
 
 verdict-short : (good : Bool) → length (cond good word-yes word-no) ≤ 4
 verdict-short true = omega arith
@@ -72,7 +73,7 @@ tree-short false false bytes =
     omega (arith, length-append (word-tree ++ pieces f (length bytes)) newline, length-append word-tree (pieces f (length bytes)), pieces-short f (length bytes) 3 (λ i _. omega arith))
 
 -- the whole text, for tables within the limits
-report-short : (p q : ℕ) (ranks : List ℕ) (long : Bool) (tree : List ℕ) → p ≤ 64 → q ≤ 64 → p * q ≡ length ranks → ((i : ℕ) → getD ranks i 0 < 2 ^ 16)
+report-short : (p q : ℕ) (ranks : List ℕ) (long : Bool) (tree : List ℕ) → p ≤ most-states → q ≤ most-states → p * q ≡ length ranks → ((i : ℕ) → getD ranks i 0 < 2 ^ 16)
     → length (report-text p q ranks long tree) ≤ text-bound p q (length tree)
 unfolding report-text
 report-short p q ranks long tree lp lq e small =
@@ -85,21 +86,21 @@ report-short p q ranks long tree lp lq e small =
       length-append (a ++ b ++ c) d,
       length-append (a ++ b) c,
       length-append a b,
-      pair-short word-tables p q 1 (omega arith) (omega arith),
+      pair-short word-tables p q 2 (omega arith) (omega arith),
       rows-short ranks small p q lp,
       summary-short (maximum ranks) (zeros ranks) (yes? ranks) (omega (arith, maximum-short ranks (2 ^ 16) (omega arith) small)) (omega (arith, zeros-most ranks, mul-le-mul-right q lp)),
       tree-short (yes? ranks) long tree,
     )
 
-pub report-room : (p q : ℕ) (ranks : List ℕ) (long : Bool) (tree buf : List ℕ) → p ≤ 64 → q ≤ 64 → p * q ≡ length ranks → ((i : ℕ) → getD ranks i 0 < 2 ^ 16)
+pub report-room : (p q : ℕ) (ranks : List ℕ) (long : Bool) (tree buf : List ℕ) → p ≤ most-states → q ≤ most-states → p * q ≡ length ranks → ((i : ℕ) → getD ranks i 0 < 2 ^ 16)
     → text-bound p q (length tree) ≤ length buf → Room (report-text p q ranks long tree) 0 buf
 report-room p q ranks long tree buf lp lq e small room = record { enough = omega (arith, report-short p q ranks long tree lp lq e small) }
 
 -- the bounds for the two sizes of buffers
-pub bound-longest : (p q k : ℕ) → p ≤ 64 → q ≤ 64 → k ≤ 65535 → text-bound p q k ≤ longest-text
-bound-longest p q k lp lq lk = omega (arith, mul-le-mul lp (let le : 7 + 6 * q ≤ 391 = omega arith in le))
+pub bound-longest : (p q k : ℕ) → p ≤ most-states → q ≤ most-states → k ≤ 65535 → text-bound p q k ≤ longest-text
+bound-longest p q k lp lq lk = omega (arith, mul-le-mul lp (let le : 8 + 6 * q ≤ 8 + 6 * most-states = omega arith in le))
 
-pub bound-short : (p q k : ℕ) → p ≤ 64 → p * q ≤ 600 → k ≤ 1023 → text-bound p q k ≤ short-text
+pub bound-short : (p q k : ℕ) → p ≤ most-states → p * q ≤ 600 → k ≤ 1023 → text-bound p q k ≤ short-text
 bound-short p q k lp few lk = omega arith
 
 -- no text is empty: each begins with a word

@@ -5,6 +5,7 @@ use mathlib.Core.List.{List, [], _∷_, _++_}
 use Prim.Native.Nat.{ℕ, _+_, _*_, max}
 use lib.Dec.{eqb}
 use lib.ListN.{length, take, getD}
+use Rattle.simulation.specs.Limits.{most-states}
 use Rattle.simulation.specs.Round.{maximum, zeros}
 use Rattle.digits.specs.Writes.{pieces}
 use Rattle.digits.specs.Digits.{hex, labelled}
@@ -121,15 +122,15 @@ unfolding pair-line report-text
 answer-text table number written p q ranks tree =
     cond (eqb table 0) (report-text p q (take (p * q) ranks) (eqb number 23) (take written tree)) (refused-text table number)
 
--- no text is longer, for tables with p and q states, ranks of 16 bits and k bytes of tree: 13 bytes for the numbers of states, p rows of
--- 7 and 6 for each rank, 36 for rounds, kept pairs and verdict, 5 + 3 × k for the tree or 16 to say that it is too long
+-- no text is longer, for tables with p and q states, ranks of 16 bits and k bytes of tree: 15 bytes for the numbers of states, p rows of
+-- 8 and 6 for each rank, 36 for rounds, kept pairs and verdict, 5 + 3 × k for the tree or 16 to say that it is too long
 abbrev pub text-bound : (p q k : ℕ) → ℕ
-text-bound p q k = 13 + p * (7 + 6 * q) + 36 + max 16 (5 + 3 * k)
+text-bound p q k = 15 + p * (8 + 6 * q) + 36 + max 16 (5 + 3 * k)
 
 -- the same for any tables within the limits and a tree of at most 65,535 bytes
 abbrev pub longest-text : ℕ
-longest-text = 221683
+longest-text = 15 + most-states * (8 + 6 * most-states) + 36 + (5 + 3 * 65535)
 
 -- the same for at most 600 pairs and a tree of at most 1,023 bytes
 abbrev pub short-text : ℕ
-short-text = 7171
+short-text = 15 + 8 * most-states + 6 * 600 + 36 + (5 + 3 * 1023)

@@ -4,6 +4,7 @@ ghost use mathlib.Core.Bool.{cond};
 ghost use mathlib.Core.List.{_++_};
 ghost use Prim.Native.Nat.{_+_, _*_, _≤_};
 ghost use lib.ListN.{length};
+ghost use Rattle.simulation.specs.Limits.{most-states};
 ghost use Rattle.report.specs.Text.{space, word-yes, word-no, refused-text, pair-line, ranks-text, row-line, rows-text, summary-line, rounds-line, bytes-text, tree-line, tree-text, report-text, answer-text, text-bound};
 ghost use Rattle.digits.specs.Digits.{hex, labelled};
 ghost use Rattle.digits.specs.Writes.{Room, Writes};
@@ -16,12 +17,13 @@ use digits::put_byte;
 use digits::put_hex;
 use digits::put_labelled;
 use digits::put_word;
+use simulation::Table;
 
 // The length of a buffer that holds every text: longest-text of specs/.
-pub const TEXT: usize = 221_683;
+pub const TEXT: usize = 15 + Table::STATES * (8 + 6 * Table::STATES) + 36 + (5 + 3 * 65_535);
 
 // The length of one that holds every text for at most 600 pairs and a tree of at most 1,023 bytes: short-text of specs/.
-pub const SHORT_TEXT: usize = 7_171;
+pub const SHORT_TEXT: usize = 15 + 8 * Table::STATES + 6 * 600 + 36 + (5 + 3 * 1_023);
 
 // The text for an answer of the check: for a refused table that alone, else the report on tables with p and q states.
 pub fn print(
@@ -34,7 +36,7 @@ pub fn print(
     tree: &[u8],
     buf: &mut [u8],
 ) -> usize
-    requires { ⌜ (p ≤ 64) × (q ≤ 64) × (p * q ≤ length (now ranks)) × (text-bound p q (length (now tree)) ≤ length (now buf)) ⌝ }
+    requires { ⌜ (p ≤ most-states) × (q ≤ most-states) × (p * q ≤ length (now ranks)) × (text-bound p q (length (now tree)) ≤ length (now buf)) ⌝ }
     ensures { λ r. ⌜ Filled (answer-text table number written p q (now (ranks .entry)) (now (tree .entry))) r (now (buf .entry)) (now (buf .exit)) ⌝ }
 {
     if table != 0 {
@@ -56,7 +58,7 @@ pub fn refused(table: u32, number: u32, buf: &mut [u8]) -> usize
 // The text for two accepted tables with p and q states: `ranks` are the ranks of their pairs, `long` says that the tree is too long,
 // `tree` is its bytes where it is not.
 pub fn report(p: usize, q: usize, ranks: &[u16], long: bool, tree: &[u8], buf: &mut [u8]) -> usize
-    requires { ⌜ (p ≤ 64) × (q ≤ 64) × (p * q ≡ length (now ranks)) × (text-bound p q (length (now tree)) ≤ length (now buf)) ⌝ }
+    requires { ⌜ (p ≤ most-states) × (q ≤ most-states) × (p * q ≡ length (now ranks)) × (text-bound p q (length (now tree)) ≤ length (now buf)) ⌝ }
     ensures { λ r. ⌜ Filled (report-text p q (now (ranks .entry)) long (now (tree .entry))) r (now (buf .entry)) (now (buf .exit)) ⌝ }
 {
     put_report(p, q, ranks, long, tree, buf, 0)

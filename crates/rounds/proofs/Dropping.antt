@@ -8,14 +8,16 @@ use Prim.Native.Nat.{ℕ, _^_, _<_}
 use native.Mathlib.Decide.{ℕ-discrete, decLt}
 use borrow.Author.Tests.{eq-eqb, ne-eqb}
 use lib.Dec.{T, T-not, eqb}
-use lib.ListN.{length, getD, set}
-use lib.Seq.{getD-set-same, getD-set-other}
+use Rattle.simulation.specs.Limits.{most-states}
 use Rattle.simulation.specs.Sum.{when}
 use Rattle.simulation.specs.Table.{Table, states-of}
 use Rattle.simulation.specs.Round.{Relation, related, survives}
 use Rattle.simulation.proofs.Finite.Tests.{either, both as both-of, and-left, and-right, is-false}
 use Rattle.simulation.proofs.Simulation.Relation.{relation-at, relation-right}
 use Rattle.relation.specs.Mask.{Test, member, with-member, without-member, both, Lowest}
+use Rattle.relation.specs.Words.{mask, row-of, height, put-row}
+use Rattle.relation.specs.declared.set.Set.{Set}
+use Rattle.relation.proofs.Sets.{mask-lt, row-put, row-put-other}
 use Rattle.relation.proofs.Mask.{member-none, no-member, one-is}
 use Rattle.relation.specs.Related.{holds}
 use Rattle.matching.specs.Held.{held, matched}
@@ -86,7 +88,7 @@ with-both : (a b : Bool) → (a && not (a && b)) ≡ (a && not b)
 with-both true b = refl
 with-both false b = refl
 
-module _ (M N : Table) (rows : List ℕ) (s : ℕ) (a : s < states-of M) (columns : Columns N (getD rows s 0)) where
+module _ (M N : Table) (rows : List ℕ) (s : ℕ) (a : s < states-of M) (columns : Columns N (row-of rows s)) where
   -- a row of the relation is the mask
   related-row : (t : ℕ) → related (held M N rows) s t ≡ holds rows s t
   related-row t = go (decLt t (states-of N))
@@ -130,7 +132,7 @@ module _ (M N : Table) (rows : List ℕ) (s : ℕ) (a : s < states-of M) (column
 
 -- the rows of `left` wait, with what is in doubt of each; of the others, those that have a pair that falls are in `fell`, and that pair in `lost`
 pub record Dropping (M N : Table) (R : Relation) (left : ℕ) (doubt lost : List ℕ) (fell : ℕ) : Type 0 where
-  pub waits : (s : ℕ) → member left s ≡ true → (s < states-of M) × Doubtless M N R s (member (getD doubt s 0))
+  pub waits : (s : ℕ) → member left s ≡ true → (s < states-of M) × Doubtless M N R s (member (row-of doubt s))
   pub exact : (s t : ℕ) → s < states-of M → member left s ≡ false → holds lost s t ≡ falls M N R s t
   pub within : (s t : ℕ) → holds lost s t ≡ true → (s < states-of M) × (member fell s ≡ true)
   pub some : fell ≢ 0 → (s : ℕ) × (t : ℕ) × (s < states-of M) × T (falls M N R s t)
@@ -153,47 +155,47 @@ dropping-start {M} {N} {rows} {doubt} {lost} {doubtful} ready empty =
         (both-of (related (held M N rows) s t) (matched M N (held M N rows) s t) x (ready .sure s a t (ap (λ (b : Bool). b && holds doubt s t) m) x))
 
 -- one row more is judged
-pub dropping-next : {M N : Table} {R : Relation} {left rest s row fell fell′ : ℕ} {doubt lost : List ℕ} → s < length doubt → s < length lost → row < 2 ^ 64 → fell′ < 2 ^ 64
-    → member left s ≡ true → member rest ≡ without-member s (member left) → member row ≡ falls M N R s → Judged (eqb row 0) s fell fell′
-    → Dropping M N R left doubt lost fell → Dropping M N R rest (set doubt s 0) (set lost s row) fell′
-dropping-next {M} {N} {R} {left} {rest} {s} {row} {fell} {fell′} {doubt} {lost} room room′ small small′ has e d judged h =
+pub dropping-next : {M N : Table} {R : Relation} {left rest s fell fell′ : ℕ} {doubt lost : List ℕ} (z row : Set) → s < height doubt → s < height lost → fell′ < 2 ^ most-states
+    → member left s ≡ true → member rest ≡ without-member s (member left) → member (mask row) ≡ falls M N R s → Judged (eqb (mask row) 0) s fell fell′
+    → Dropping M N R left doubt lost fell → Dropping M N R rest (put-row doubt s z) (put-row lost s row) fell′
+dropping-next {M} {N} {R} {left} {rest} {s} {fell} {fell′} {doubt} {lost} z row room room′ small has e d judged h =
     record {
       waits = λ u m. wait u m (ℕ-discrete u s);
       exact = λ u t a m. at u t a m (ℕ-discrete u s);
       within = λ u t m. inside u t m (ℕ-discrete u s);
-      some = found (ℕ-discrete row 0);
+      some = found (ℕ-discrete (mask row) 0);
     }
   where
     a : s < states-of M
     a = h .waits s has .0
 
-    wait : (u : ℕ) → member rest u ≡ true → Dec (u ≡ s) → (u < states-of M) × Doubtless M N R u (member (getD (set doubt s 0) u 0))
+    wait : (u : ℕ) → member rest u ≡ true → Dec (u ≡ s) → (u < states-of M) × Doubtless M N R u (member (row-of (put-row doubt s z) u))
     wait u m (yes c) = absurd (true≢false (sym m ∙ ap (member rest) c ∙ left-self left rest s e))
     wait u m (no c) =
-        subst (λ (x : ℕ). (u < states-of M) × Doubtless M N R u (member x)) (sym (getD-set-other doubt s u 0 0 c)) (h .waits u (sym (left-other left rest s e u c) ∙ m))
+        subst (λ (x : ℕ). (u < states-of M) × Doubtless M N R u (member x)) (sym (row-put-other doubt s u z c)) (h .waits u (sym (left-other left rest s e u c) ∙ m))
 
-    here : (t : ℕ) → holds (set lost s row) s t ≡ member row t
-    here t = ap (λ (y : ℕ). member y t) (getD-set-same lost s row 0 room′)
+    here : (t : ℕ) → holds (put-row lost s row) s t ≡ member (mask row) t
+    here t = ap (λ (y : ℕ). member y t) (row-put lost s row room′)
 
-    at : (u t : ℕ) → u < states-of M → member rest u ≡ false → Dec (u ≡ s) → holds (set lost s row) u t ≡ falls M N R u t
-    at u t b m (yes c) = subst (λ (u : ℕ). holds (set lost s row) u t ≡ falls M N R u t) (sym c) (here t ∙ ap (λ (X : Test). X t) d)
-    at u t b m (no c) = ap (λ (y : ℕ). member y t) (getD-set-other lost s u row 0 c) ∙ h .exact u t b (sym (left-other left rest s e u c) ∙ m)
+    at : (u t : ℕ) → u < states-of M → member rest u ≡ false → Dec (u ≡ s) → holds (put-row lost s row) u t ≡ falls M N R u t
+    at u t b m (yes c) = subst (λ (u : ℕ). holds (put-row lost s row) u t ≡ falls M N R u t) (sym c) (here t ∙ ap (λ (X : Test). X t) d)
+    at u t b m (no c) = ap (λ (y : ℕ). member y t) (row-put-other lost s u row c) ∙ h .exact u t b (sym (left-other left rest s e u c) ∙ m)
 
-    joined : row ≢ 0 → member fell′ s ≡ true
-    joined n = judged-here judged ∙ ap (λ (b : Bool). not b || member fell s) (ne-eqb row 0 n)
+    joined : mask row ≢ 0 → member fell′ s ≡ true
+    joined n = judged-here judged ∙ ap (λ (b : Bool). not b || member fell s) (ne-eqb (mask row) 0 n)
 
-    inside : (u t : ℕ) → holds (set lost s row) u t ≡ true → Dec (u ≡ s) → (u < states-of M) × (member fell′ u ≡ true)
+    inside : (u t : ℕ) → holds (put-row lost s row) u t ≡ true → Dec (u ≡ s) → (u < states-of M) × (member fell′ u ≡ true)
     inside u t m (yes c) =
-        let x : member row t ≡ true = sym (here t) ∙ ap (λ (u : ℕ). holds (set lost s row) u t) (sym c) ∙ m in
+        let x : member (mask row) t ≡ true = sym (here t) ∙ ap (λ (u : ℕ). holds (put-row lost s row) u t) (sym c) ∙ m in
         subst (λ (u : ℕ). (u < states-of M) × (member fell′ u ≡ true)) (sym c)
         (a, joined (λ z. true≢false (sym x ∙ ap (λ (n : ℕ). member n t) z ∙ member-none t)))
     inside u t m (no c) =
-        let x = h .within u t (ap (λ (y : ℕ). member y t) (sym (getD-set-other lost s u row 0 c)) ∙ m) in
+        let x = h .within u t (ap (λ (y : ℕ). member y t) (sym (row-put-other lost s u row c)) ∙ m) in
         (x .0, judged-old judged u (x .1))
 
-    found : Dec (row ≡ 0) → fell′ ≢ 0 → (s : ℕ) × (t : ℕ) × (s < states-of M) × T (falls M N R s t)
-    found (yes z) n = h .some (λ q. n (no-member 64 fell′ small′ (λ t _. judged-same judged (eq-eqb row 0 z) t ∙ ap (λ (x : ℕ). member x t) q ∙ member-none t)))
-    found (no z) n = let x = some-member row small z in (s, x .0, a, subst (λ (X : Test). T (X (x .0))) d (x .1))
+    found : Dec (mask row ≡ 0) → fell′ ≢ 0 → (s : ℕ) × (t : ℕ) × (s < states-of M) × T (falls M N R s t)
+    found (yes y) n = h .some (λ q. n (no-member most-states fell′ small (λ t _. judged-same judged (eq-eqb (mask row) 0 y) t ∙ ap (λ (x : ℕ). member x t) q ∙ member-none t)))
+    found (no y) n = let x = some-member (mask row) (mask-lt row) y in (s, x .0, a, subst (λ (X : Test). T (X (x .0))) d (x .1))
 
 -- no row waits
 pub dropping-end : {M N : Table} {R : Relation} {left fell : ℕ} {doubt lost : List ℕ} → left ≡ 0 → Dropping M N R left doubt lost fell → Fallen M N R lost fell

@@ -14,24 +14,27 @@ use lib.ListN.{length, getD, set}
 use lib.Seq.{getD-set-same, getD-set-other}
 use Rattle.simulation.proofs.Finite.Tests.{and-left, and-right, is-true, is-false, last-or-below}
 use Rattle.relation.specs.Mask.{Test, member, without-member, except}
+use Rattle.relation.specs.Words.{mask, row-of, height, put-row}
+use Rattle.relation.specs.declared.set.Set.{Set}
 use Rattle.relation.proofs.Mask.{member-none}
+use Rattle.relation.proofs.Sets.{row-put, row-put-other}
 use Rattle.relation.specs.Related.{holds}
 use Rattle.rounds.specs.Rounds.{marked, Settled, Cleared}
 use Rattle.links.specs.Links.{Covered}
 use Rattle.links.proofs.Walks.{left-self, left-other}
 
 -- one row more
-pub rows-next : (F : ℕ → Test) (l : List ℕ) (n x : ℕ) → n < length l → member x ≡ F n → ((s t : ℕ) → s < n → holds l s t ≡ F s t) → (s t : ℕ) → s < n + 1 → holds (set l n x) s t ≡ F s t
+pub rows-next : (F : ℕ → Test) (l : List ℕ) (n : ℕ) (x : Set) → n < height l → member (mask x) ≡ F n → ((s t : ℕ) → s < n → holds l s t ≡ F s t) → (s t : ℕ) → s < n + 1 → holds (put-row l n x) s t ≡ F s t
 rows-next F l n x room e h s t a =
     ⊎-elim
     (λ (q : s ≡ n).
-    subst (λ (s : ℕ). holds (set l n x) s t ≡ F s t) (sym q) (ap (λ (y : ℕ). member y t) (getD-set-same l n x 0 room) ∙ ap (λ (X : Test). X t) e))
-    (λ (b : s < n). ap (λ (y : ℕ). member y t) (getD-set-other l n s x 0 (omega arith)) ∙ h s t b)
+    subst (λ (s : ℕ). holds (put-row l n x) s t ≡ F s t) (sym q) (ap (λ (y : ℕ). member y t) (row-put l n x room) ∙ ap (λ (X : Test). X t) e))
+    (λ (b : s < n). ap (λ (y : ℕ). member y t) (row-put-other l n s x (λ q. omega arith)) ∙ h s t b)
     (last-or-below s n (omega arith))
 
 -- what lies above a row written is as it was
-pub rows-left : (l₀ l : List ℕ) (n x : ℕ) → ((s : ℕ) → n ≤ s → getD l s 0 ≡ getD l₀ s 0) → (s : ℕ) → n + 1 ≤ s → getD (set l n x) s 0 ≡ getD l₀ s 0
-rows-left l₀ l n x h s a = getD-set-other l n s x 0 (omega arith) ∙ h s (omega arith)
+pub rows-left : (l₀ l : List ℕ) (n : ℕ) (x : Set) → ((s : ℕ) → n ≤ s → row-of l s ≡ row-of l₀ s) → (s : ℕ) → n + 1 ≤ s → row-of (put-row l n x) s ≡ row-of l₀ s
+rows-left l₀ l n x h s a = row-put-other l n s x (λ q. omega arith) ∙ h s (omega arith)
 
 -- rows of q places each lie one after the other
 pub row-place : (s n q t : ℕ) → s < n → t < q → s * q + t < n * q
@@ -80,12 +83,12 @@ settled-none {q} {k} {rows} {ranks} lost fell covered =
         (subst T (sym (covered s t (is-true (holds lost s t) (and-left (holds lost s t) (not (member fell s)) h)))) tt))
 
 -- one row more is settled
-pub settled-next : {q k n : ℕ} {rows rows′ ranks ranks′ : List ℕ} (lost : List ℕ) (left rest : ℕ) (ranks″ : List ℕ) (x : ℕ) → n < length rows′
+pub settled-next : {q k n : ℕ} {rows rows′ ranks ranks′ : List ℕ} (lost : List ℕ) (left rest : ℕ) (ranks″ : List ℕ) (x : Set) → n < height rows′
     → member left n ≡ true → member rest ≡ without-member n (member left)
     → ((t : ℕ) → holds lost n t ≡ true → t < q)
     → ((i : ℕ) → getD ranks″ i 0 ≡ marked (holds lost n) (n * q) k ranks′ i)
-    → member x ≡ except (holds rows′ n) (holds lost n)
-    → Settled q k (passed lost left) rows rows′ ranks ranks′ → Settled q k (passed lost rest) rows (set rows′ n x) ranks ranks″
+    → member (mask x) ≡ except (holds rows′ n) (holds lost n)
+    → Settled q k (passed lost left) rows rows′ ranks ranks′ → Settled q k (passed lost rest) rows (put-row rows′ n x) ranks ranks″
 settled-next {q} {k} {n} {rows} {rows′} {ranks} {ranks′} lost left rest ranks″ x room has e within m d h =
     record {
       rows-done = λ s t. row s t (ℕ-discrete s n);
@@ -109,17 +112,17 @@ settled-next {q} {k} {n} {rows} {rows′} {ranks} {ranks′} lost left rest rank
     more s t b (yes c) = absurd (true≢false (sym b ∙ ap (λ (s : ℕ). passed lost left s t) c ∙ old t))
     more s t b (no c) = same s t c ∙ b
 
-    here : (t : ℕ) → holds (set rows′ n x) n t ≡ (holds rows n t && not (passed lost rest n t))
+    here : (t : ℕ) → holds (put-row rows′ n x) n t ≡ (holds rows n t && not (passed lost rest n t))
     here t =
-        ap (λ (y : ℕ). member y t) (getD-set-same rows′ n x 0 room)
+        ap (λ (y : ℕ). member y t) (row-put rows′ n x room)
         ∙ ap (λ (X : Test). X t) d
         ∙ ap (λ (b : Bool). b && not (holds lost n t)) (h .rows-done n t ∙ ap (λ (b : Bool). holds rows n t && not b) (old t) ∙ and-true (holds rows n t))
         ∙ ap (λ (b : Bool). holds rows n t && not b) (sym (new t))
 
-    row : (s t : ℕ) → Dec (s ≡ n) → holds (set rows′ n x) s t ≡ (holds rows s t && not (passed lost rest s t))
-    row s t (yes c) = subst (λ (s : ℕ). holds (set rows′ n x) s t ≡ (holds rows s t && not (passed lost rest s t))) (sym c) (here t)
+    row : (s t : ℕ) → Dec (s ≡ n) → holds (put-row rows′ n x) s t ≡ (holds rows s t && not (passed lost rest s t))
+    row s t (yes c) = subst (λ (s : ℕ). holds (put-row rows′ n x) s t ≡ (holds rows s t && not (passed lost rest s t))) (sym c) (here t)
     row s t (no c) =
-        ap (λ (y : ℕ). member y t) (getD-set-other rows′ n s x 0 c)
+        ap (λ (y : ℕ). member y t) (row-put-other rows′ n s x c)
         ∙ h .rows-done s t
         ∙ ap (λ (b : Bool). holds rows s t && not b) (sym (same s t c))
 
@@ -153,7 +156,7 @@ cleared-next {n} {l} {l′} room h =
       zero-at = λ i a.
           ⊎-elim (λ (q : i ≡ n). subst (λ (i : ℕ). getD (set l′ n 0) i 0 ≡ 0) (sym q) (getD-set-same l′ n 0 0 room))
           (λ (b : i < n). getD-set-other l′ n i 0 0 (omega arith) ∙ h .zero-at i b) (last-or-below i n (omega arith));
-      left = rows-left l l′ n 0 (h .left);
+      left = λ i a. getD-set-other l′ n i 0 0 (omega arith) ∙ h .left i (omega arith);
     }
 
 pub cleared-all : {n p : ℕ} {l l′ : List ℕ} → n ≡ p → Cleared n l l′ → Cleared p l l′

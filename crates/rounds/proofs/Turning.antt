@@ -10,6 +10,7 @@ use native.Mathlib.Omega.{arith}
 use borrow.Author.Tests.{lt-ltb, ltb-true}
 use lib.Dec.{T}
 use lib.ListN.{length, getD}
+use Rattle.simulation.specs.Limits.{most-states}
 use Rattle.simulation.specs.Table.{Transition, Table, weights, target-at, states-of, steps, transition}
 use Rattle.simulation.specs.Round.{Relation, related, round}
 use Rattle.simulation.proofs.Finite.Tests.{and-left, is-true, is-false, same-test}
@@ -21,19 +22,21 @@ use Rattle.form.specs.Form.{Loaded, start-of, transition-at, table-of}
 use Rattle.form.proofs.FormLaws.{counts, transition-of, state-of, weights-length, targets-length, sound}
 use Rattle.relation.specs.Related.{holds}
 use Rattle.matching.specs.Held.{held, matched}
-use Rattle.links.specs.Links.{Linked, Doubted}
-use Rattle.rounds.specs.Rounds.{Columns, Settled, Open, After, Standing, Refined, Placed, Ready}
+use Rattle.relation.specs.Words.{row-of}
+use Rattle.links.specs.Links.{Linked}
+use Rattle.links.specs.Links.{Doubted}
+use Rattle.rounds.specs.Rounds.{Columns, Placed, After, Ready, Settled, Standing, Open, Refined}
 use Rattle.rounds.proofs.Fitting.{Alike, matched-agree}
 use Rattle.rounds.proofs.Settling.{row-place}
 use Rattle.rounds.proofs.RoundLaws.{held-round, in-test, kept-unless, lost-rank, more, moves, ranks-whole, rounds-are, rows-kept}
 
 -- rows of a round have states of the second table only
-pub round-columns : {M N : Table} {k : ℕ} {rows ranks : List ℕ} → After M N k rows ranks → (s : ℕ) → s < states-of M → Columns N (getD rows s 0)
+pub round-columns : {M N : Table} {k : ℕ} {rows ranks : List ℕ} → After M N k rows ranks → (s : ℕ) → s < states-of M → Columns N (row-of rows s)
 round-columns {M} {N} {k} after s a t h = in-right M N k s t (subst T (after .rows-are s t a) h)
 
 -- where all pairs are in doubt nothing is asked
-pub ready : {M N : Table} {rows doubt : List ℕ} {p doubtful : ℕ} → states-of M ≤ 64 → states-of N ≤ 64 → Open doubt → p ≡ states-of M → member doubtful ≡ up-to p
-    → ((s : ℕ) → s < states-of M → Columns N (getD rows s 0)) → Ready M N rows doubtful doubt
+pub ready : {M N : Table} {rows doubt : List ℕ} {p doubtful : ℕ} → states-of M ≤ most-states → states-of N ≤ most-states → Open doubt → p ≡ states-of M → member doubtful ≡ up-to p
+    → ((s : ℕ) → s < states-of M → Columns N (row-of rows s)) → Ready M N rows doubtful doubt
 ready {M} {N} {rows} {doubt} {p} {doubtful} few-rows few doubts e d columns =
     record {
       columns = columns;

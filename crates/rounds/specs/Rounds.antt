@@ -7,6 +7,8 @@ use mathlib.Core.Logic.{_≢_}
 use Prim.Native.Nat.{ℕ, _+_, _-_, _*_, _≤_, _<_}
 use lib.Dec.{T, eqb, leb}
 use lib.ListN.{length, getD}
+use Rattle.simulation.specs.Limits.{most-states}
+use Rattle.relation.specs.Words.{row-of, height}
 use Rattle.relation.specs.Mask.{Test, member, with-bit}
 use Rattle.form.specs.Form.{table-of}
 use Rattle.relation.specs.Related.{holds}
@@ -63,7 +65,7 @@ pub record Settled (q k : ℕ) (R : ℕ → Test) (rows rows′ ranks ranks′ :
 
 -- rows of states of the second table, and the pairs in doubt, which lie in the rows of a set of states of the first: no other pair falls
 pub record Ready (M N : Table) (rows : List ℕ) (doubtful : ℕ) (doubt : List ℕ) : Type 0 where
-  pub columns : (s : ℕ) → s < states-of M → Columns N (getD rows s 0)
+  pub columns : (s : ℕ) → s < states-of M → Columns N (row-of rows s)
   pub states : (s : ℕ) → member doubtful s ≡ true → s < states-of M
   pub sure : (s : ℕ) → s < states-of M → Doubtless M N (held M N rows) s (λ t. member doubtful s && holds doubt s t)
 
@@ -85,16 +87,16 @@ pub record Standing (M N : Table) (k : ℕ) (rows ranks lost : List ℕ) (fell :
 
 -- every member of a row may fall
 pub record Open (doubt : List ℕ) : Type 0 where
-  pub room : 64 ≤ length doubt
-  pub all : (s t : ℕ) → s < 64 → t < 64 → holds doubt s t ≡ true
+  pub room : most-states ≤ height doubt
+  pub all : (s t : ℕ) → s < most-states → t < most-states → holds doubt s t ≡ true
 
 -- what a turn starts from: two tables, their links, room for the work, and a standing
 pub record Turning (f g masks ranks rows doubt lost before behind tried x : List ℕ) (k fell : ℕ) : Type 0 where
   pub lent : Lent f g masks rows x
   pub known : Tried f g (relation-of f g rows) tried
   pub ranks-room : states-of (table-of f) * states-of (table-of g) ≤ length ranks
-  pub doubt-room : 64 ≤ length doubt
-  pub lost-room : 64 ≤ length lost
+  pub doubt-room : most-states ≤ height doubt
+  pub lost-room : most-states ≤ height lost
   pub first-links : Linked f before
   pub second-links : Linked g behind
   pub standing : Standing (table-of f) (table-of g) k rows ranks lost fell

@@ -11,10 +11,12 @@ use native.Mathlib.Omega.{arith}
 use lib.Dec.{T}
 use lib.ListN.{length, getD, set}
 use lib.Seq.{getD-set-same, getD-set-other}
+use Rattle.simulation.specs.Limits.{most-states}
 use Rattle.simulation.specs.Sum.{sum, when}
 use Rattle.simulation.proofs.Finite.Tests.{is-true, true-T, false-T}
 use Rattle.simulation.proofs.Finite.Sums.{sum-mono, sum-strict, when-not, one-less, members-most}
 use Rattle.relation.specs.Mask.{Test, member, without-member, both, except, either, Lowest}
+use Rattle.relation.specs.Words.{row-of, height}
 use Rattle.relation.proofs.Mask.{member-none, member-below, below-or-not}
 use Rattle.matrix.specs.Problem.{relates}
 use Rattle.search.specs.Search.{Room, Linked, Grows, Spread, Closed, Levelled, Hit, HitOf, Forest, Walk, SearchOf}
@@ -85,12 +87,12 @@ grows-mono {f′ = f′} {v′ = v′} h s = record { kept = s .kept; old-from =
 
 -- the users of one column that are not reached yet
 module _ (users : List ℕ) (new S S′ : ℕ) {r j : ℕ} {f v f′ v′ : List ℕ} (l : Linked (member new) r j f v f′ v′)
-    (en : member new ≡ except (member (getD users j 0)) (member S)) (es : member S′ ≡ either (member S) (member new)) where
+    (en : member new ≡ except (member (row-of users j)) (member S)) (es : member S′ ≡ either (member S) (member new)) where
   is-new : (i : ℕ) → member S i ≡ false → member S′ i ≡ true → member new i ≡ true
   is-new i h m = ⊎-elim (λ c. absurd (neither c h)) (λ c. c) (either-at (member S) (member new) i es m)
 
   is-old : (i : ℕ) → member S i ≡ true → member new i ≡ false
-  is-old i h = ⊎-elim (λ c. absurd (neither h (except-at (member (getD users j 0)) (member S) i en c .1))) (λ c. c) (true-or-false (member new i))
+  is-old i h = ⊎-elim (λ c. absurd (neither h (except-at (member (row-of users j)) (member S) i en c .1))) (λ c. c) (true-or-false (member new i))
 
   pub grows-link : Grows (λ k c. (k ≡ r) × (c ≡ j)) users (member S) (member S′) f v f′ v′
   grows-link = record {
@@ -99,13 +101,13 @@ module _ (users : List ℕ) (new S S′ : ℕ) {r j : ℕ} {f v f′ v′ : List
     old-via = λ i h. l .old-via i (is-old i h);
     step = λ i h m. (l .new-from i (is-new i h m), l .new-via i (is-new i h m));
     user = λ i h m. let c = is-new i h m in
-        subst⁻¹ (λ (n : ℕ). relates users n i ≡ true) (l .new-via i c) (except-at (member (getD users j 0)) (member S) i en c .0);
+        subst⁻¹ (λ (n : ℕ). relates users n i ≡ true) (l .new-via i c) (except-at (member (row-of users j)) (member S) i en c .0);
   }
 
   pub users-reached : (i : ℕ) → relates users j i ≡ true → member S′ i ≡ true
   users-reached i h = ⊎-elim
       (λ c. either-right (member S) (member new) i es c)
-      (λ c. ⊎-elim (λ s. either-left (member S) (member new) i es s) (λ n. absurd (neither h n)) (except-out (member (getD users j 0)) (member S) i en c))
+      (λ c. ⊎-elim (λ s. either-left (member S) (member new) i es s) (λ n. absurd (neither h n)) (except-out (member (row-of users j)) (member S) i en c))
       (true-or-false (member new i))
 
 -- the columns of C but those left were gone to from row r
@@ -118,7 +120,7 @@ pub spreading-none : {users : List ℕ} {C r S : ℕ} {from via : List ℕ} → 
 spreading-none {S = S} = record { part = λ j h. h; grows = grows-refl (member S); all = λ i j h l. absurd (neither h l) }
 
 pub spreading-next : {users : List ℕ} {C left left′ r S S′ S″ j : ℕ} (new : ℕ) {from via f v f′ v′ : List ℕ} → Spreading users C left r S S′ from via f v → Lowest (member left) j
-    → member left′ ≡ without-member j (member left) → member new ≡ except (member (getD users j 0)) (member S′) → Linked (member new) r j f v f′ v′ → member S″ ≡ either (member S′) (member new)
+    → member left′ ≡ without-member j (member left) → member new ≡ except (member (row-of users j)) (member S′) → Linked (member new) r j f v f′ v′ → member S″ ≡ either (member S′) (member new)
     → Spreading users C left′ r S S″ from via f′ v′
 spreading-next {users} {C} {left} {left′} {r} {S} {S′} {S″} {j} new s l d en k es =
     let g = grows-link users new S′ S″ k en es in
@@ -146,12 +148,12 @@ pub levelling-none : {rel users : List ℕ} {F seen S : ℕ} {from via : List �
 levelling-none {S = S} c = record { part = λ k h. h; grows = grows-refl (member S); still = λ j h. h; closed = c; all = λ k j h l. absurd (neither h l) }
 
 pub levelling-next : {rel users : List ℕ} {F left left′ seen seen′ seen″ S S′ S″ r : ℕ} (C : ℕ) {from via f v f′ v′ : List ℕ} → Levelling rel users F left seen seen′ S S′ from via f v → Lowest (member left) r
-    → member left′ ≡ without-member r (member left) → member C ≡ except (member (getD rel r 0)) (member seen′) → Spread users (member C) r (member S′) (member S″) f v f′ v′
+    → member left′ ≡ without-member r (member left) → member C ≡ except (member (row-of rel r)) (member seen′) → Spread users (member C) r (member S′) (member S″) f v f′ v′
     → member seen″ ≡ either (member seen′) (member C) → Levelling rel users F left′ seen seen″ S S″ from via f′ v′
 levelling-next {rel} {users} {F} {left} {left′} {seen} {seen′} {seen″} {S} {S′} {S″} {r} C s l d ec g es = record {
   part = λ k h. s .part k (drop-at (member left) r k d h .0);
   grows = grows-trans (s .grows)
-      (grows-mono (λ k j e. (ap (member F) (e .0) ∙ s .part r (l .here), subst⁻¹ (λ (n : ℕ). relates rel n j ≡ true) (e .0) (except-at (member (getD rel r 0)) (member seen′) j ec (e .1) .0))) (g .grows));
+      (grows-mono (λ k j e. (ap (member F) (e .0) ∙ s .part r (l .here), subst⁻¹ (λ (n : ℕ). relates rel n j ≡ true) (e .0) (except-at (member (row-of rel r)) (member seen′) j ec (e .1) .0))) (g .grows));
   still = λ j h. either-left (member seen′) (member C) j es (s .still j h);
   closed = record {
     users-in = λ i j h u. ⊎-elim (λ c. g .grows .kept i (s .closed .users-in i j c u)) (λ c. g .all i j c u) (either-at (member seen′) (member C) j es h);
@@ -165,7 +167,7 @@ levelling-next {rel} {users} {F} {left} {left′} {seen} {seen′} {seen″} {S}
     gone : (j : ℕ) → relates rel r j ≡ true → member seen″ j ≡ true
     gone j u = ⊎-elim
         (λ c. either-right (member seen′) (member C) j es c)
-        (λ c. ⊎-elim (λ t. either-left (member seen′) (member C) j es t) (λ n. absurd (neither u n)) (except-out (member (getD rel r 0)) (member seen′) j ec c))
+        (λ c. ⊎-elim (λ t. either-left (member seen′) (member C) j es t) (λ n. absurd (neither u n)) (except-out (member (row-of rel r)) (member seen′) j ec c))
         (true-or-false (member C j))
 
 pub levelling-end : {rel users : List ℕ} {F left seen seen′ S S′ : ℕ} {from via from′ via′ : List ℕ} → left ≡ 0 → Levelling rel users F left seen seen′ S S′ from via from′ via′
@@ -181,23 +183,23 @@ pub hitting-none : {rel : List ℕ} {free F : ℕ} → Hitting rel free F F
 hitting-none = record { part = λ i h. h; none = λ i j h l. absurd (neither h l) }
 
 pub hitting-next : {rel : List ℕ} {free F left left′ r : ℕ} (m : ℕ) → Hitting rel free F left → Lowest (member left) r → member left′ ≡ without-member r (member left)
-    → member m ≡ both (member (getD rel r 0)) (member free) → m ≡ 0 → Hitting rel free F left′
+    → member m ≡ both (member (row-of rel r)) (member free) → m ≡ 0 → Hitting rel free F left′
 hitting-next {rel} {free} {F} {left} {left′} {r} m s l d e z = record {
   part = λ i h. s .part i (drop-at (member left) r i d h .0);
   none = λ i j h k u. ⊎-elim
-      (λ c. both-out (member (getD rel r 0)) (member free) j e (no-members z j) (subst (λ (n : ℕ). relates rel n j ≡ true) c u))
+      (λ c. both-out (member (row-of rel r)) (member free) j e (no-members z j) (subst (λ (n : ℕ). relates rel n j ≡ true) c u))
       (λ f. s .none i j h f u)
       (drop-out (member left) r i d k);
 }
 
-pub hitting-found : {rel : List ℕ} {free F left r : ℕ} (m : ℕ) → r < 64 → m < 2 ^ 64 → Hitting rel free F left → Lowest (member left) r
-    → member m ≡ both (member (getD rel r 0)) (member free) → m ≢ 0 → HitOf rel free (member F) r
+pub hitting-found : {rel : List ℕ} {free F left r : ℕ} (m : ℕ) → r < most-states → m < 2 ^ most-states → Hitting rel free F left → Lowest (member left) r
+    → member m ≡ both (member (row-of rel r)) (member free) → m ≢ 0 → HitOf rel free (member F) r
 hitting-found {rel} {free} {r = r} m h b s l e n = record {
-  found = λ _. let k = some-member m b n in let w = both-at (member (getD rel r 0)) (member free) (k .0) e (k .1) in (s .part r (l .here), record { column = k .0; related = w .0; is-free = w .1 });
+  found = λ _. let k = some-member m b n in let w = both-at (member (row-of rel r)) (member free) (k .0) e (k .1) in (s .part r (l .here), record { column = k .0; related = w .0; is-free = w .1 });
   none = λ g. absurd (omega arith);
 }
 
-pub hitting-end : {rel : List ℕ} {free F left : ℕ} → left ≡ 0 → Hitting rel free F left → HitOf rel free (member F) 64
+pub hitting-end : {rel : List ℕ} {free F left : ℕ} → left ≡ 0 → Hitting rel free F left → HitOf rel free (member F) most-states
 hitting-end z s = record { found = λ h. absurd (omega arith); none = λ _ i j h u. s .none i j h (no-members z i) u }
 
 -- S is reached, the rows of F last, in `depth` steps and no fewer; the others have gone to all their columns and have no free one
@@ -232,7 +234,7 @@ frontier-none {rel} {users} {short} = record {
     none-near (Walk.step i′ j w r u) l = absurd (omega arith)
 
 module _ {rel users : List ℕ} {short free : ℕ} {from via from′ via′ : List ℕ} {S F seen depth r : ℕ} (S′ F′ seen′ : ℕ) (s : Frontier rel users short free from via S F seen depth)
-    (h : HitOf rel free (member F) r) (o : 64 ≤ r) (l : Levelled rel users (member F) (member seen) (member seen′) (member S) (member S′) from via from′ via′)
+    (h : HitOf rel free (member F) r) (o : most-states ≤ r) (l : Levelled rel users (member F) (member seen) (member seen′) (member S) (member S′) from via from′ via′)
     (e : member F′ ≡ except (member S′) (member S)) where
   abbrev new-rank : ℕ → ℕ
   new-rank i = cond (member S i) (s .rank i) (suc depth)
@@ -301,7 +303,7 @@ frontier-shortest : {rel users : List ℕ} {short free : ℕ} {from via : List �
 frontier-shortest {depth = depth} s k i w h =
     ⊎-elim (λ l. absurd (neither (h .is-free) (s .shut i (h .column) (s .near k i w (omega arith)) (s .nearer k i w l) (h .related)))) (λ l. l) (below-or-not k depth)
 
-pub frontier-found : {rel users : List ℕ} {short free : ℕ} {from via : List ℕ} {S F seen depth r : ℕ} → Frontier rel users short free from via S F seen depth → HitOf rel free (member F) r → r < 64
+pub frontier-found : {rel users : List ℕ} {short free : ℕ} {from via : List ℕ} {S F seen depth r : ℕ} → Frontier rel users short free from via S F seen depth → HitOf rel free (member F) r → r < most-states
     → SearchOf rel users short free from via (member S) r depth
 frontier-found s h l = record {
   found = λ _. let w = h .found l in record { rank = s .rank; forest = s .forest; inside = s .inside _ (w .0); deep = s .deep _ (w .0); hit = w .1; shortest = frontier-shortest s };
@@ -309,7 +311,7 @@ frontier-found s h l = record {
 }
 
 pub frontier-end : {rel users : List ℕ} {short free : ℕ} {from via : List ℕ} {S F seen depth : ℕ} → F ≡ 0 → Frontier rel users short free from via S F seen depth
-    → SearchOf rel users short free from via (member S) 64 depth
+    → SearchOf rel users short free from via (member S) most-states depth
 frontier-end z s = record {
   found = λ h. absurd (omega arith);
   none = λ _. record {
@@ -328,37 +330,37 @@ forest-all P t h u zero i m e = h i (t .root i m e)
 forest-all {via = via} P t h u (suc k) i m e = u i (getD via i 0) (t .user i k m e)
 
 pub frontier-rows : {rel users : List ℕ} {short free : ℕ} {from via from₀ via₀ : List ℕ} {S F seen depth : ℕ} → Room rel users from₀ via₀ short → Frontier rel users short free from via S F seen depth
-    → (i : ℕ) → member F i ≡ true → i < length rel
-frontier-rows {rel} w s i m = forest-all (λ (k : ℕ). k < length rel) (s .forest) (w .starts) (w .rows) (s .rank i) i (s .inside i m) refl
+    → (i : ℕ) → member F i ≡ true → i < height rel
+frontier-rows {rel} w s i m = forest-all (λ (k : ℕ). k < height rel) (s .forest) (w .starts) (w .rows) (s .rank i) i (s .inside i m) refl
 
 -- how many rows are not reached
 unfoldable pub unreached : ℕ → ℕ
-unreached S = sum 64 (λ i. when (not (member S i)) 1)
+unreached S = sum most-states (λ i. when (not (member S i)) 1)
 
-pub unreached-most : (S : ℕ) → unreached S ≤ 64
+pub unreached-most : (S : ℕ) → unreached S ≤ most-states
 unfolding unreached
-unreached-most S = members-most 64 (λ i. not (member S i))
+unreached-most S = members-most most-states (λ i. not (member S i))
 
 not-not : (b : Bool) → b ≡ true → T (not (not b))
 not-not b e = subst (λ c. T (not (not c))) (sym e) tt
 
-fewer-terms : (S S′ : ℕ) → ((i : ℕ) → member S i ≡ true → member S′ i ≡ true) → (i : ℕ) → i < 64 → when (not (member S′ i)) 1 ≤ when (not (member S i)) 1
+fewer-terms : (S S′ : ℕ) → ((i : ℕ) → member S i ≡ true → member S′ i ≡ true) → (i : ℕ) → i < most-states → when (not (member S′ i)) 1 ≤ when (not (member S i)) 1
 fewer-terms S S′ k i l = when-not (member S i) (member S′ i) 1 (λ t. true-T (k i (is-true (member S i) t)))
 
 fewer : (S S′ : ℕ) → ((i : ℕ) → member S i ≡ true → member S′ i ≡ true) → unreached S′ ≤ unreached S
 unfolding unreached
-fewer S S′ k = sum-mono 64 (λ i. when (not (member S′ i)) 1) (λ i. when (not (member S i)) 1) (fewer-terms S S′ k)
+fewer S S′ k = sum-mono most-states (λ i. when (not (member S′ i)) 1) (λ i. when (not (member S i)) 1) (fewer-terms S S′ k)
 
-one-fewer : (S S′ : ℕ) → ((i : ℕ) → member S i ≡ true → member S′ i ≡ true) → (i : ℕ) → i < 64 → member S i ≡ false → member S′ i ≡ true → unreached S′ < unreached S
+one-fewer : (S S′ : ℕ) → ((i : ℕ) → member S i ≡ true → member S′ i ≡ true) → (i : ℕ) → i < most-states → member S i ≡ false → member S′ i ≡ true → unreached S′ < unreached S
 unfolding unreached
-one-fewer S S′ k i l m m′ = sum-strict 64 (λ i. when (not (member S′ i)) 1) (λ i. when (not (member S i)) 1) (fewer-terms S S′ k) i l
+one-fewer S S′ k i l m m′ = sum-strict most-states (λ i. when (not (member S′ i)) 1) (λ i. when (not (member S i)) 1) (fewer-terms S S′ k) i l
     (one-less (not (member S′ i)) (not (member S i)) (not-not (member S′ i) m′) (false-T m))
 
 -- each level reaches a row more, or is the last
-pub unreached-falls : (S S′ F′ : ℕ) → F′ < 2 ^ 64 → ((i : ℕ) → member S i ≡ true → member S′ i ≡ true) → member F′ ≡ except (member S′) (member S) → unreached S′ + min 1 F′ ≤ unreached S
+pub unreached-falls : (S S′ F′ : ℕ) → F′ < 2 ^ most-states → ((i : ℕ) → member S i ≡ true → member S′ i ≡ true) → member F′ ≡ except (member S′) (member S) → unreached S′ + min 1 F′ ≤ unreached S
 unreached-falls S S′ F′ b k e = elim (ℕ-discrete F′ 0) [
   | yes z ↦ omega (arith, fewer S S′ k)
   | no n ↦ let m = some-member F′ b n in
       let w = except-at (member S′) (member S) (m .0) e (m .1) in
-      omega (arith, one-fewer S S′ k (m .0) (member-below 64 F′ (m .0) b (m .1)) (w .1) (w .0))
+      omega (arith, one-fewer S S′ k (m .0) (member-below most-states F′ (m .0) b (m .1)) (w .1) (w .0))
 ]

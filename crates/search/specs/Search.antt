@@ -6,17 +6,19 @@ use mathlib.Core.Bool.{true, false}
 use mathlib.Core.List.{List}
 use Prim.Native.Nat.{ℕ, zero, suc, _≤_, _<_}
 use lib.ListN.{length, getD}
+use Rattle.simulation.specs.Limits.{most-states}
 use Rattle.relation.specs.Mask.{Test, member}
+use Rattle.relation.specs.Words.{height}
 use Rattle.matrix.specs.Problem.{relates}
 use Rattle.matrix.specs.Masks.{MaskOf}
 
 -- the lists are long enough, and the rows that can be reached have masks
 pub record Room (rel users from via : List ℕ) (short : ℕ) : Type 0 where
-  pub columns : 64 ≤ length users
-  pub froms : 64 ≤ length from
-  pub vias : 64 ≤ length via
-  pub starts : (i : ℕ) → member short i ≡ true → i < length rel
-  pub rows : (i j : ℕ) → relates users j i ≡ true → i < length rel
+  pub columns : most-states ≤ height users
+  pub froms : most-states ≤ length from
+  pub vias : most-states ≤ length via
+  pub starts : (i : ℕ) → member short i ≡ true → i < height rel
+  pub rows : (i j : ℕ) → relates users j i ≡ true → i < height rel
 
 -- the rows of a set are reached from row r by column j, the others as they were
 pub record Linked (X : Test) (r j : ℕ) (from via from′ via′ : List ℕ) : Type 0 where
@@ -55,10 +57,10 @@ pub record Hit (rel : List ℕ) (free r : ℕ) : Type 0 where
   pub related : relates rel r column ≡ true
   pub is-free : member free column ≡ true
 
--- r is a row of the set F with a free column; 64 where there is none
+-- r is a row of the set F with a free column; most-states where there is none
 pub record HitOf (rel : List ℕ) (free : ℕ) (F : Test) (r : ℕ) : Type 0 where
-  pub found : r < 64 → (F r ≡ true) × Hit rel free r
-  pub none : 64 ≤ r → (i j : ℕ) → F i ≡ true → relates rel i j ≡ true → member free j ≡ false
+  pub found : r < most-states → (F r ≡ true) × Hit rel free r
+  pub none : most-states ≤ r → (i j : ℕ) → F i ≡ true → relates rel i j ≡ true → member free j ≡ false
 
 -- each row of S has a rank: 0 for a short row, else one more than the row it was reached from
 pub record Forest (rel users : List ℕ) (short : ℕ) (from via : List ℕ) (S : Test) (rank : ℕ → ℕ) : Type 0 where
@@ -90,10 +92,10 @@ pub record Stuck (rel users : List ℕ) (short free : ℕ) (from via : List ℕ)
   pub shut : (i j : ℕ) → S i ≡ true → relates rel i j ≡ true → member free j ≡ false
   pub closed : (i i′ j : ℕ) → S i ≡ true → relates rel i j ≡ true → relates users j i′ ≡ true → S i′ ≡ true
 
--- the search's answer: row r, or 64 where there is no path
+-- the search's answer: row r, or most-states where there is no path
 pub record SearchOf (rel users : List ℕ) (short free : ℕ) (from via : List ℕ) (S : Test) (r depth : ℕ) : Type 0 where
-  pub found : r < 64 → Reaches rel users short free from via S r depth
-  pub none : 64 ≤ r → Stuck rel users short free from via S
+  pub found : r < most-states → Reaches rel users short free from via S r depth
+  pub none : most-states ≤ r → Stuck rel users short free from via S
 
 -- no path is left in a flow: short rows, free columns and links of the last search
 pub record Ended (p q : ℕ) (rel a b users : List ℕ) (S : Test) : Type 0 where

@@ -1,53 +1,63 @@
-// The search for a path, level by level over masks, from the short rows to a row with a free column.
+// The search for a path, level by level over sets, from the short rows to a row with a free column.
 use matrix::byte;
+use relation::rows;
 use relation::set;
+use relation::set::Set;
+use relation::walk;
+use simulation::Table;
 ghost use mathlib.Core.Path.{_≡_};
 ghost use mathlib.Core.Bool.{true};
 ghost use Prim.Native.Nat.{ℕ, _≤_, _<_};
 ghost use lib.ListN.{length};
+ghost use Rattle.simulation.specs.Limits.{most-states};
 ghost use Rattle.relation.specs.Mask.{member};
+ghost use Rattle.relation.specs.Words.{mask, height};
 ghost use Rattle.search.specs.Search.{Room, Linked, Spread, Closed, Levelled, HitOf, SearchOf};
 
 // The rows reached and the columns gone to.
 struct Covered {
-    reached: u64,
-    seen: u64,
+    reached: Set,
+    seen: Set,
 }
 
-// The rows reached, and the row of a free column with the length of its path; row 64 where there is none.
+// The rows reached, and the row of a free column with the length of its path; row Table::STATES where there is none.
 pub struct Found {
-    pub reached: u64,
+    pub reached: Set,
     pub row: usize,
     pub depth: usize,
 }
 
-// The first of the rows with a free column; 64 where there is none.
-fn hit(rel: &[u64], free: u64, rows: u64) -> usize
-    requires { ⌜ ((i : ℕ) → member rows i ≡ true → i < length (now rel)) ⌝ }
-    ensures { λ r. ⌜ HitOf (now (rel .entry)) free (member rows) r ⌝ }
+// The first of the rows with a free column; Table::STATES where there is none.
+fn hit(rel: &[u64], free: Set, rows: Set) -> usize
+    requires { ⌜ ((i : ℕ) → member (mask rows) i ≡ true → i < height (now rel)) ⌝ }
+    ensures { λ r. ⌜ HitOf (now (rel .entry)) (mask free) (member (mask rows)) r ⌝ }
 {
-    let mut left = rows;
-    while left != 0 {
-        let r = set::lowest(left);
-        if set::intersection(rel[r], free) != 0 {
-            return r;
+    for w in 0..Set::WORDS {
+        let mut left = rows.words[w];
+        while left != 0 {
+            let r = walk::lowest(rows, w, left);
+            if !set::is_empty(set::intersection(rows::get(rel, r), free)) {
+                return r;
+            }
+            left = walk::without_lowest(rows, w, left);
         }
-        left = set::without_lowest(left);
     }
-    64
+    Table::STATES
 }
 
 // The rows of a set were reached from row r by column j.
-fn link(from: &mut [u8], via: &mut [u8], rows: u64, r: usize, j: usize)
-    requires { ⌜ (64 ≤ length (now from)) × (64 ≤ length (now via)) × (r < 64) × (j < 64) ⌝ }
-    ensures { λ o. ⌜ Linked (member rows) r j (now (from .entry)) (now (via .entry)) (now (from .exit)) (now (via .exit)) ⌝ }
+fn link(from: &mut [u8], via: &mut [u8], rows: Set, r: usize, j: usize)
+    requires { ⌜ (most-states ≤ length (now from)) × (most-states ≤ length (now via)) × (r < most-states) × (j < most-states) ⌝ }
+    ensures { λ o. ⌜ Linked (member (mask rows)) r j (now (from .entry)) (now (via .entry)) (now (from .exit)) (now (via .exit)) ⌝ }
 {
-    let mut left = rows;
-    while left != 0 {
-        let i = set::lowest(left);
-        from[i] = byte(r);
-        via[i] = byte(j);
-        left = set::without_lowest(left);
+    for w in 0..Set::WORDS {
+        let mut left = rows.words[w];
+        while left != 0 {
+            let i = walk::lowest(rows, w, left);
+            from[i] = byte(r);
+            via[i] = byte(j);
+            left = walk::without_lowest(rows, w, left);
+        }
     }
 }
 
@@ -56,21 +66,23 @@ fn spread(
     users: &[u64],
     from: &mut [u8],
     via: &mut [u8],
-    columns: u64,
+    columns: Set,
     r: usize,
-    reached: u64,
-) -> u64
-    requires { ⌜ (64 ≤ length (now users)) × (64 ≤ length (now from)) × (64 ≤ length (now via)) × (r < 64) ⌝ }
-    ensures { λ s. ⌜ Spread (now (users .entry)) (member columns) r (member reached) (member s) (now (from .entry)) (now (via .entry)) (now (from .exit)) (now (via .exit)) ⌝ }
+    reached: Set,
+) -> Set
+    requires { ⌜ (most-states ≤ height (now users)) × (most-states ≤ length (now from)) × (most-states ≤ length (now via)) × (r < most-states) ⌝ }
+    ensures { λ s. ⌜ Spread (now (users .entry)) (member (mask columns)) r (member (mask reached)) (member (mask s)) (now (from .entry)) (now (via .entry)) (now (from .exit)) (now (via .exit)) ⌝ }
 {
     let mut all = reached;
-    let mut left = columns;
-    while left != 0 {
-        let j = set::lowest(left);
-        let new = set::difference(users[j], all);
-        link(from, via, new, r, j);
-        all = set::union(all, new);
-        left = set::without_lowest(left);
+    for w in 0..Set::WORDS {
+        let mut left = columns.words[w];
+        while left != 0 {
+            let j = walk::lowest(columns, w, left);
+            let new = set::difference(rows::get(users, j), all);
+            link(from, via, new, r, j);
+            all = set::union(all, new);
+            left = walk::without_lowest(columns, w, left);
+        }
     }
     all
 }
@@ -81,22 +93,24 @@ fn level(
     users: &[u64],
     from: &mut [u8],
     via: &mut [u8],
-    rows: u64,
-    reached: u64,
-    seen: u64,
+    rows: Set,
+    reached: Set,
+    seen: Set,
 ) -> Covered
-    requires { ⌜ (64 ≤ length (now users)) × (64 ≤ length (now from)) × (64 ≤ length (now via)) × ((i : ℕ) → member rows i ≡ true → i < length (now rel)) × Closed (now users) (member seen) (member reached) ⌝ }
-    ensures { λ s. ⌜ Levelled (now (rel .entry)) (now (users .entry)) (member rows) (member seen) (member (s .seen)) (member reached) (member (s .reached)) (now (from .entry)) (now (via .entry)) (now (from .exit)) (now (via .exit)) ⌝ }
+    requires { ⌜ (most-states ≤ height (now users)) × (most-states ≤ length (now from)) × (most-states ≤ length (now via)) × ((i : ℕ) → member (mask rows) i ≡ true → i < height (now rel)) × Closed (now users) (member (mask seen)) (member (mask reached)) ⌝ }
+    ensures { λ s. ⌜ Levelled (now (rel .entry)) (now (users .entry)) (member (mask rows)) (member (mask seen)) (member (mask (s .seen))) (member (mask reached)) (member (mask (s .reached))) (now (from .entry)) (now (via .entry)) (now (from .exit)) (now (via .exit)) ⌝ }
 {
     let mut all = reached;
     let mut gone = seen;
-    let mut left = rows;
-    while left != 0 {
-        let r = set::lowest(left);
-        let columns = set::difference(rel[r], gone);
-        all = spread(users, from, via, columns, r, all);
-        gone = set::union(gone, columns);
-        left = set::without_lowest(left);
+    for w in 0..Set::WORDS {
+        let mut left = rows.words[w];
+        while left != 0 {
+            let r = walk::lowest(rows, w, left);
+            let columns = set::difference(rows::get(rel, r), gone);
+            all = spread(users, from, via, columns, r, all);
+            gone = set::union(gone, columns);
+            left = walk::without_lowest(rows, w, left);
+        }
     }
     Covered {
         reached: all,
@@ -110,19 +124,19 @@ pub fn search(
     users: &[u64],
     from: &mut [u8],
     via: &mut [u8],
-    short: u64,
-    free: u64,
+    short: Set,
+    free: Set,
 ) -> Found
-    requires { ⌜ Room (now rel) (now users) (now from) (now via) short ⌝ }
-    ensures { λ s. ⌜ SearchOf (now (rel .entry)) (now (users .entry)) short free (now (from .exit)) (now (via .exit)) (member (s .reached)) (s .row) (s .depth) ⌝ }
+    requires { ⌜ Room (now rel) (now users) (now from) (now via) (mask short) ⌝ }
+    ensures { λ s. ⌜ SearchOf (now (rel .entry)) (now (users .entry)) (mask short) (mask free) (now (from .exit)) (now (via .exit)) (member (mask (s .reached))) (s .row) (s .depth) ⌝ }
 {
     let mut reached = short;
     let mut rows = short;
-    let mut seen = 0u64;
+    let mut seen = set::empty();
     let mut depth = 0;
-    while rows != 0 {
+    while !set::is_empty(rows) {
         let r = hit(rel, free, rows);
-        if r < 64 {
+        if r < Table::STATES {
             return Found {
                 reached,
                 row: r,
@@ -130,14 +144,16 @@ pub fn search(
             };
         }
         let next = level(rel, users, from, via, rows, reached, seen);
-        rows = set::difference(next.reached, reached);
-        reached = next.reached;
-        seen = next.seen;
+        let all = next.reached;
+        let gone = next.seen;
+        rows = set::difference(all, reached);
+        reached = all;
+        seen = gone;
         depth += 1;
     }
     Found {
         reached,
-        row: 64,
+        row: Table::STATES,
         depth,
     }
 }

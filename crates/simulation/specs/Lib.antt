@@ -2,6 +2,7 @@
 -- Assumes nothing.
 pub mod Sum
 pub mod Fit
+pub mod Limits
 pub mod Table
 pub mod Round
 pub mod Tree

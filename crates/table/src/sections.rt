@@ -2,13 +2,13 @@
 use crate::parts::Answer;
 use crate::parts::Layout;
 use crate::parts::Stage;
-use form::Table;
 use items::cursor::Cursor;
 use items::cursor::Read;
 use items::items::codes_refusal;
 use items::items::entries_refusal;
 use items::items::sum_of;
 use items::items::transitions_refusal;
+use simulation::Table;
 ghost use mathlib.Core.Path.{_≡_};
 ghost use Prim.Native.Nat.{_≤_, _<_};
 ghost use Rattle.table.specs.Answers.{items-read};

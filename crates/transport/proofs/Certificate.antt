@@ -11,6 +11,7 @@ use native.Mathlib.Omega.{arith}
 use lib.Dec.{T, eqb, eqb→eq, T-not}
 use lib.ListN.{length, getD}
 use borrow.Author.Tests.{eq-eqb}
+use Rattle.simulation.specs.Limits.{most-states}
 use Rattle.simulation.specs.Fit.{weight, total, fits?}
 use Rattle.simulation.proofs.Finite.Tests.{same-test, is-true, true-T, false-T}
 use Rattle.simulation.proofs.Finite.Sums.{sum-mono, sum-tight}
@@ -122,5 +123,5 @@ module _ {ws vs rel x a b users from via : List ℕ} {short free : ℕ} (r : ℕ
   within : (i : ℕ) → length ws ≤ i → member r i ≡ false
   within i h = ⊎-elim (λ m. absurd (let k : i < length ws = forest-row {a = supply ws vs} (t .forest) (f .used) (rows .below) short-row (t .rank i) i m refl in omega arith)) (λ m. m) (true-or-false (member r i))
 
-  pub finished : {x₀ : List ℕ} → r < 2 ^ 64 → Outside (length ws) (length vs) x₀ x → length x ≡ length x₀ → Answered ws vs rel x₀ x r
-  finished l = answered ws vs rel x r flow certified reached (below-power 64 (length ws) r l within)
+  pub finished : {x₀ : List ℕ} → r < 2 ^ most-states → Outside (length ws) (length vs) x₀ x → length x ≡ length x₀ → Answered ws vs rel x₀ x r
+  finished l = answered ws vs rel x r flow certified reached (below-power most-states (length ws) r l within)

@@ -1,24 +1,26 @@
 // The flow kernel for callers in C and Rust. A slice passes as a pointer and a length.
+use relation::rows;
+use simulation::Table;
 ghost use Rattle.transport_c.specs.Flowed.{Accepts, Flowed};
 
-// Whether the input is taken: not with more than 64 targets on a side, a total above 65,535, too few masks, too few cells, or no place for the
+// Whether the input is taken: not with more than Table::STATES targets on a side, a total above 65,535, too few masks, too few cells, or no place for the
 // cut or for the number of paths.
 fn accepts(m: &[u16], n: &[u16], rel: &[u64], x: &[u32], cut: &[u64], paths: &[u32]) -> bool
     ensures { λ r. ⌜ Accepts (now (m .entry)) (now (n .entry)) (now (rel .entry)) (now (x .entry)) (now (cut .entry)) (now (paths .entry)) r ⌝ }
 {
-    if 64 < m.len() {
+    if Table::STATES < m.len() {
         return false;
     }
-    if 64 < n.len() {
+    if Table::STATES < n.len() {
         return false;
     }
-    if rel.len() < m.len() {
+    if rel.len() / 2 < m.len() {
         return false;
     }
-    if x.len() < 4096 {
+    if x.len() < Table::PAIRS {
         return false;
     }
-    if cut.len() < 1 {
+    if cut.len() < 2 {
         return false;
     }
     if paths.len() < 1 {
@@ -33,7 +35,7 @@ fn accepts(m: &[u16], n: &[u16], rel: &[u64], x: &[u32], cut: &[u64], paths: &[u
     true
 }
 
-// The kernel's flow in x, its cut in cut[0] and the number of augmenting paths in paths[0], and 1; or 0, with nothing changed, where the input
+// The kernel's flow in x, its cut in the first two words of cut and the number of augmenting paths in paths[0], and 1; or 0, with nothing changed, where the input
 // is refused.
 #[no_mangle]
 pub extern "C" fn transport_flow(
@@ -49,7 +51,7 @@ pub extern "C" fn transport_flow(
 {
     if accepts(m, n, rel, x, cut, paths) {
         let r = transport::counted(m, n, rel, x);
-        cut[0] = r.cut;
+        rows::put(cut, 0, r.cut);
         paths[0] = r.paths;
         return 1;
     }

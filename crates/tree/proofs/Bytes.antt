@@ -13,6 +13,7 @@ use lib.ListN.{length, getD, drop, length-map, drop-of-length-le, List·getD-map
 use lib.Seq.{drop-cons}
 use native.Mathlib.Numerals.{add-one}
 use borrow.Author.Tests.{eq-eqb, ne-eqb}
+use Rattle.simulation.specs.Limits.{most-states}
 use Rattle.simulation.specs.Sum.{sum, when}
 use Rattle.simulation.specs.Table.{Entry, Table, states-of}
 use Rattle.simulation.specs.Tree.{Tree, leaf, step, count, child-weights, transition-bytes, child-bytes, node-bytes, States, chosen, set-of, own-children, own-step, own-steps, own-node}
@@ -35,9 +36,9 @@ sum-ends n (suc m) f le h = at (ℕ-discrete n (suc m)) (λ le′. sum-ends n m 
     at (yes e) ih = ap (λ (k : ℕ). sum k f) (sym e)
     at (no ne) ih = omega (arith, ne, h m (omega (arith, ne)), ih (omega (arith, ne)))
 
--- the members below 64 of a set of numbers below n
-pub members-all : (n : ℕ) (X : States) → n ≤ 64 → ((t : ℕ) → T (X t) → t < n) → members 64 X ≡ members n X
-members-all n X le h = sum-ends n 64 (λ k. when (X k) 1) le (λ k out. none-past (X k) (λ x. lt-irrefl k (let l = h k x in omega arith)))
+-- the members of a set of numbers below n, counted among all states
+pub members-all : (n : ℕ) (X : States) → n ≤ most-states → ((t : ℕ) → T (X t) → t < n) → members most-states X ≡ members n X
+members-all n X le h = sum-ends n most-states (λ k. when (X k) 1) le (λ k out. none-past (X k) (λ x. lt-irrefl k (let l = h k x in omega arith)))
   where
     none-past : (b : Bool) → (T b → ⊥) → when b 1 ≡ 0
     none-past true f = absurd (f tt)

@@ -9,18 +9,21 @@ use native.Mathlib.Omega.{arith}
 use lib.Dec.{T}
 use lib.ListN.{length, getD, set, length-set, length-append}
 use lib.Seq.{getD-set-same}
+use Rattle.simulation.specs.Limits.{most-states}
 use Rattle.simulation.specs.Sum.{sum, when}
 use Rattle.simulation.specs.Table.{target-at, states-of}
 use Rattle.simulation.specs.Round.{pairs}
 use Rattle.simulation.specs.Tree.{chosen, set-of, own-node}
 use Rattle.simulation.specs.Length.{one-length, pair-length}
-use Rattle.simulation.proofs.Finite.Sums.{sum-one, sum-add, sum-mul}
+use Rattle.simulation.proofs.Finite.Sums.{sum-one, sum-add, sum-mul, members-most}
 use Rattle.simulation.proofs.Finite.Tests.{and-left}
 use Rattle.simulation.proofs.Simulation.Ranks.{rank-law}
 use Rattle.simulation.proofs.Trees.Length.{pair-length-step}
 use Rattle.form.specs.Form.{Loaded, table-of}
 use Rattle.form.proofs.FormLaws.{limits, sound}
 use Rattle.relation.specs.Mask.{Test, member, without-member, size, Lowest}
+use Rattle.relation.specs.Words.{mask}
+use Rattle.relation.specs.declared.set.Set.{Set}
 use Rattle.relation.proofs.Mask.{member-none, below-or-not}
 use Rattle.choice.specs.Choice.{Lost}
 use Rattle.tree.proofs.Bytes.{members-all, steps-lowest, no-steps, steps-bytes, node-is}
@@ -147,6 +150,10 @@ given-next g er ex =
 
 -- ---- the loop over the members
 
+-- a set's count fits a byte
+pub count-byte : (X : Set) {n : ℕ} → n ≡ size most-states (member (mask X)) → n < 2 ^ 8
+count-byte X e = omega (arith, e, members-most most-states (member (mask X)))
+
 module _ (first second : List ℕ) (s : ℕ) where
   -- the bytes of the transitions of the members left
   abbrev pub steps-left : Test → List ℕ
@@ -180,7 +187,7 @@ module _ {first second ranks choices lengths : List ℕ} {levels half s members 
   pub node-room : 0 < length buf
   node-room = omega (arith, g .size, ap length node-parts)
 
-  pub node-begins : (n : ℕ) → n ≡ size 64 (member members) → length buf < 2 ^ 64
+  pub node-begins : (n : ℕ) → n ≡ size most-states (member members) → length buf < 2 ^ 64
       → NodeLoop first second s ranks choices lengths levels half members rel x stack (set buf 0 n) rel x stack (set buf 0 n) s 0 0 0 1 members
   node-begins n e h =
       let N = table-of second in
@@ -220,6 +227,24 @@ module _ {first second ranks choices lengths : List ℕ} {levels half s members 
 
 module _ {first second : List ℕ} {s : ℕ} {ranks choices lengths : List ℕ} {levels half members : ℕ} {rel₀ x₀ stack₀ buf₀ rel x stack buf : List ℕ} {u v a len at left : ℕ}
     (l : NodeLoop first second s ranks choices lengths levels half members rel₀ x₀ stack₀ buf₀ rel x stack buf u v a len at left) where
+  -- the same, by another name of the set left and counted from other lists of the same lengths
+  pub node-same : {rel₁ x₁ stack₁ buf₁ : List ℕ} (left′ : ℕ) → left ≡ left′ → length rel ≡ length rel₁ → length x ≡ length x₁ → length stack ≡ length stack₁ → length buf ≡ length buf₁
+      → NodeLoop first second s ranks choices lengths levels half members rel₁ x₁ stack₁ buf₁ rel x stack buf u v a len at left′
+  node-same {rel₁} {x₁} {stack₁} {buf₁} left′ e er ex es eb =
+      subst (λ (n : ℕ). NodeLoop first second s ranks choices lengths levels half members rel₁ x₁ stack₁ buf₁ rel x stack buf u v a len at n) e
+      (record {
+        node = l .node;
+        small = l .small;
+        inside = l .inside;
+        place = l .place;
+        ends = l .ends;
+        stands = l .stands;
+        same-rel = er;
+        same-x = ex;
+        same-stack = es;
+        same-buf = eb;
+      })
+
   pub node-ends : left ≡ 0 → Around first second choices lengths (node-of first second s members) half u v a len buf
   node-ends z =
       let M = table-of first in
@@ -237,7 +262,7 @@ module _ {first second : List ℕ} {s : ℕ} {ranks choices lengths : List ℕ} 
     pub node-measured : Measured first second choices lengths s t
     node-measured = l .node .measured t (l .inside t (member-holds low))
 
-    pub node-asked : Loaded second × (s < 64) × (t < 64) × (s * states-of (table-of second) + t < length lengths)
+    pub node-asked : Loaded second × (s < most-states) × (t < most-states) × (s * states-of (table-of second) + t < length lengths)
     node-asked =
         let g = l .node .given in
         let p = pair-lost g node-measured in (

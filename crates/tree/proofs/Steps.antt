@@ -9,6 +9,7 @@ use native.Mathlib.Omega.{arith}
 use lib.Dec.{T}
 use lib.ListN.{length, getD, take, drop, set, length-set, length-append, length-drop, List·getD-append}
 use lib.Seq.{getD-take, length-take-le, ext-getD, take-suc-set, drop-drop, drop-set-lt}
+use Rattle.simulation.specs.Limits.{most-states}
 use Rattle.simulation.specs.Table.{Transition, Table, weights, target-at, states-of, transition}
 use Rattle.simulation.specs.Round.{pairs, rank}
 use Rattle.simulation.specs.Tree.{chosen, set-of, own-node, tree, node-bytes}
@@ -20,7 +21,9 @@ use Rattle.simulation.proofs.Trees.OwnTree.{node-fuel}
 use Rattle.form.specs.Form.{Loaded, table-of, transitions-of, transition-at}
 use Rattle.form.proofs.FormLaws.{limits, sound, weights-length, limited-of}
 use Rattle.relation.specs.Mask.{Test, member}
+use Rattle.relation.specs.Words.{words, row-of}
 use Rattle.relation.proofs.Mask.{below-or-not}
+use Rattle.relation.proofs.Words.{number-ext}
 use Rattle.buffer.specs.Buffer.{over, Filled}
 use Rattle.buffer.proofs.Buffer.{part, back, part-all}
 use Rattle.choice.specs.Choice.{Lost, Choice, Sets}
@@ -28,7 +31,7 @@ use Rattle.tree.specs.Begin.{head-bytes, entry-bytes, BeginGiven, Begun}
 use Rattle.tree.proofs.Bytes.{children-from, child-at, no-children, step-is}
 use Rattle.choice.proofs.Choices.{choice-number, below-lost}
 use Rattle.measure.specs.Lengths.{set-length, SumGiven, Measured}
-use Rattle.tree.specs.Parts.{At, words-for, node-of, step-of, Left, Given, StepGiven, StepWritten, NodeGiven, Around, TreeGiven}
+use Rattle.tree.specs.Parts.{At, words-for, stack-words, node-of, step-of, Left, Given, StepGiven, StepWritten, NodeGiven, Around, TreeGiven}
 use Rattle.tree.proofs.Places.{at-self, at-trans, at-is, at-front, at-back, piece, placed, piece-length, placed-length, placed-before, placed-in, placed-after}
 use Rattle.tree.proofs.Lengths.{fallen-set, node-size, step-size, tree-parts}
 use Rattle.tree.proofs.Nodes.{zero-or, zero-pos, left-none, left-more, left-is, Standing, pair-lost, pair-long, pair-size, pair-in, pair-noted, given-next}
@@ -49,14 +52,14 @@ half-deep (suc l) limit pos d =
     subst (λ (k : ℕ). limit / 2 < 2 ^ k) e (omega (arith, pow-suc 2 l))
 
 -- a transition leaves the words for the calls below it
-words-next : (levels limit n : ℕ) → n ≤ 64 → 2 + 4 * n ≤ limit → limit < 2 ^ levels → n + words-for (levels - 1) ≤ words-for levels
+words-next : (levels limit n : ℕ) → n ≤ most-states → 2 + 4 * n ≤ limit → limit < 2 ^ levels → words * n + words-for (levels - 1) ≤ words-for levels
 unfolding words-for
 words-next zero limit n few long d = absurd (omega (arith, pow-zero 2))
 words-next (suc l) limit n few long d =
     let e : suc l - 1 ≡ l = omega arith in
     omega (arith, ap words-for e)
 
-words-enough : words-for 16 ≤ 640
+words-enough : words-for 16 ≤ stack-words
 unfolding words-for
 words-enough = omega arith
 
@@ -86,10 +89,13 @@ module _ {first second choices lengths total : List ℕ} (n a b : ℕ) (now : Li
           subst (λ (j : ℕ). getD (placed a b now zs) j 0 ≡ getD total j 0) e
           (placed-in a b now le room zs same (k - a) (omega arith) ∙ l .written (k - a) (omega (arith, eP)) (shift k h o) ∙ sym (p .same (k - a) (omega (arith, eP))))
 
--- the words of the stack below the part that is lent stay
-kept-below : (n i : ℕ) (l ys : List ℕ) → n ≤ length l → i < n → getD (back n l ys) i 0 ≡ getD l i 0
+-- the rows of the stack below the part that is lent stay
+kept-below : (n i : ℕ) (l ys : List ℕ) → words * n ≤ length l → i < n → row-of (back (words * n) l ys) i ≡ row-of l i
+unfolding row-of
 kept-below n i l ys le lt =
-    List·getD-append (take n l) _ 0 i (omega (arith, length-take-le n l le)) ∙ getD-take n l i 0 lt
+    number-ext words (λ k. getD (back (words * n) l ys) (i * words + k) 0) (λ k. getD l (i * words + k) 0)
+    (λ k b. let c : i * words + k < words * n = omega arith in
+    List·getD-append (take (words * n) l) _ 0 (i * words + k) (omega (arith, length-take-le (words * n) l le)) ∙ getD-take (words * n) l (i * words + k) 0 c)
 
 -- ---- the loop over the children
 
@@ -126,16 +132,16 @@ module _ {first second ranks choices lengths : List ℕ} {levels limit s t : ℕ
   pub step-levels : 0 < levels
   step-levels = some-level levels limit (omega (arith, pair-long (g .given) (g .measured), g .size)) (g .deep)
 
-  pub step-few : length (chosen (table-of first) (table-of second) s t .entries) ≤ 64
+  pub step-few : length (chosen (table-of first) (table-of second) s t .entries) ≤ most-states
   step-few =
       let M = table-of first in
       let N = table-of second in
       let p = pair-lost (g .given) (g .measured) in
       let c = chosen-law M N s t (p .left) (p .right) (p .fell) in
-      subst (λ (m : Transition). length (m .entries) ≤ 64) (c .same)
+      subst (λ (m : Transition). length (m .entries) ≤ most-states) (c .same)
       (omega (arith, limited-of first (g .given .ranked .first-loaded) s (c .place) (c .here) .few, weights-length (transition M s (c .place))))
 
-  pub step-words : length (chosen (table-of first) (table-of second) s t .entries) + words-for (levels - 1) ≤ length stack
+  pub step-words : words * length (chosen (table-of first) (table-of second) s t .entries) + words-for (levels - 1) ≤ length stack
   step-words = omega (arith, words-next levels limit _ step-few (omega (arith, pair-long (g .given) (g .measured), g .size)) (g .deep), g .words)
 
   pub begin-given : BeginGiven first second ranks choices s t rel x stack buf
@@ -213,10 +219,10 @@ module _ {first second : List ℕ} {s t : ℕ} {ranks choices lengths : List ℕ
   pub around-levels : 0 < levels
   around-levels = step-levels (l .step) (l .short)
 
-  pub few-children : n ≤ 64
+  pub few-children : n ≤ most-states
   few-children = omega (arith, l .width, step-few (l .step) (l .short))
 
-  pub stack-room : n ≤ length stack
+  pub stack-room : words * n ≤ length stack
   stack-room = omega (arith, l .width, step-words (l .step) (l .short))
 
   pub number-known : j < transitions-of first
@@ -248,12 +254,12 @@ module _ {first second : List ℕ} {s t : ℕ} {ranks choices lengths : List ℕ
     entry-piece = piece-length at (at + 3) buf (omega arith) entry-room ∙ (let e : (at + 3) - at ≡ 3 = omega arith in e)
 
     module _ {w : ℕ} {ys : List ℕ} (ew : w ≡ target-at (transition-at first j) i) (put : ys ≡ over (entry-bytes w (getD (weights (transition-at first j)) i 0)) (piece at (at + 3) buf))
-        (same : length ys ≡ length (piece at (at + 3) buf)) where
+        (same : length ys ≡ length (piece at (at + 3) buf)) {members : ℕ} (em : members ≡ row-of stack i) where
       target-is : w ≡ target-at m i
       target-is = ew ∙ ap (λ (m : Transition). target-at m i) (l .choice .is)
 
-      set-is : member (getD stack i 0) ≡ set-of M N s t i
-      set-is = l .sets .set i place
+      set-is : member members ≡ set-of M N s t i
+      set-is = ap member em ∙ l .sets .set i place
 
       same-ys : length ys ≡ (at + 3) - at
       same-ys = same ∙ piece-length at (at + 3) buf (omega arith) entry-room
@@ -270,7 +276,7 @@ module _ {first second : List ℕ} {s t : ℕ} {ranks choices lengths : List ℕ
       entry-length = placed-length at (at + 3) buf (omega arith) entry-room ys same-ys
 
       -- the child's pairs
-      below : (v : ℕ) → T (member (getD stack i 0) v) → Measured first second choices lengths w v
+      below : (v : ℕ) → T (member members v) → Measured first second choices lengths w v
       below v h =
           let q = l .step .measured in
           subst (λ (k : ℕ). Measured first second choices lengths k v) (sym target-is)
@@ -291,15 +297,15 @@ module _ {first second : List ℕ} {s t : ℕ} {ranks choices lengths : List ℕ
               let p = pair-lost (l .step .given) (l .step .measured) in
               chosen-target M N (sound first (l .step .given .ranked .first-loaded)) s t (p .left) (p .right) (p .fell) i (omega (arith, weights-length m, place))
 
-      child-lost : (v : ℕ) → T (member (getD stack i 0) v) → (v < states-of N) × (0 < rank M N w v)
+      child-lost : (v : ℕ) → T (member members v) → (v < states-of N) × (0 < rank M N w v)
       child-lost v h = let p = pair-lost (l .step .given) (below v h) in (p .right, p .fell)
 
       -- its node, which does not depend on the fuel
-      node-same : node-bytes (own-node M N (pairs M N - 1) (target-at m i) (set-of M N s t i)) ≡ node-of first second w (getD stack i 0)
+      node-same : node-bytes (own-node M N (pairs M N - 1) (target-at m i) (set-of M N s t i)) ≡ node-of first second w members
       node-same =
           let g = l .step .given in
           let p = pair-lost g (l .step .measured) in
-          let lower : Fallen M N (pairs M N - 1) w (member (getD stack i 0)) =
+          let lower : Fallen M N (pairs M N - 1) w (member members) =
           record {
             state = child-state;
             ranks = λ v b h.
@@ -308,22 +314,22 @@ module _ {first second : List ℕ} {s t : ℕ} {ranks choices lengths : List ℕ
                 (child-lost v h .1, omega (arith, r, rank-law M N s t (p .left) (p .right) .bound));
           } in
           ap₂ (λ (u : ℕ) (X : Test). node-bytes (own-node M N (pairs M N - 1) u X)) (sym target-is) (sym set-is)
-          ∙ ap node-bytes (node-fuel M N (sound first (g .ranked .first-loaded)) (pairs M N - 1) (pairs M N) w (member (getD stack i 0)) lower
-          (fallen-set M N (sound first (g .ranked .first-loaded)) w child-state (member (getD stack i 0)) child-lost))
+          ∙ ap node-bytes (node-fuel M N (sound first (g .ranked .first-loaded)) (pairs M N - 1) (pairs M N) w (member members) lower
+          (fallen-set M N (sound first (g .ranked .first-loaded)) w child-state (member members) child-lost))
 
-      node-turn : At (step-of first second s t) (at + 3) (node-of first second w (getD stack i 0) ++ children-left first second s t (i + 1))
+      node-turn : At (step-of first second s t) (at + 3) (node-of first second w members ++ children-left first second s t (i + 1))
       node-turn = at-is (ap (λ (z : List ℕ). z ++ children-left first second s t (i + 1)) node-same) (at-back entry others turn)
 
       -- its length, from the list
-      node-sum : 1 + set-length (states-of N) lengths w (member (getD stack i 0)) ≡ length (node-of first second w (getD stack i 0))
+      node-sum : 1 + set-length (states-of N) lengths w (member members) ≡ length (node-of first second w members)
       node-sum =
-          ap (_+_ 1) (sum-ext (states-of N) _ _ (λ v _. when-same (member (getD stack i 0) v) _ _ (λ h. let q = below v h in q .right w v (q .here))))
-          ∙ sym (node-size M N (sound first (l .step .given .ranked .first-loaded)) w child-state (member (getD stack i 0)) child-lost)
+          ap (_+_ 1) (sum-ext (states-of N) _ _ (λ v _. when-same (member members v) _ _ (λ h. let q = below v h in q .right w v (q .here))))
+          ∙ sym (node-size M N (sound first (l .step .given .ranked .first-loaded)) w child-state (member members) child-lost)
 
-      node-room : at + 3 + length (node-of first second w (getD stack i 0)) ≤ length buf
-      node-room = omega (arith, node-turn .fits, length-append (node-of first second w (getD stack i 0)) (children-left first second s t (i + 1)), l .step .size)
+      node-room : at + 3 + length (node-of first second w members) ≤ length buf
+      node-room = omega (arith, node-turn .fits, length-append (node-of first second w members) (children-left first second s t (i + 1)), l .step .size)
 
-      pub sum-given : SumGiven second lengths w (getD stack i 0)
+      pub sum-given : SumGiven second lengths w members
       sum-given =
           let g = l .step .given in
           record {
@@ -334,8 +340,8 @@ module _ {first second : List ℕ} {s t : ℕ} {ranks choices lengths : List ℕ
             small = omega (arith, node-sum, node-room, l .small);
           }
 
-      module _ (r : ℕ) (er : r ≡ 1 + set-length (states-of N) lengths w (member (getD stack i 0))) where
-        r-is : r ≡ length (node-of first second w (getD stack i 0))
+      module _ (r : ℕ) (er : r ≡ 1 + set-length (states-of N) lengths w (member members)) where
+        r-is : r ≡ length (node-of first second w members)
         r-is = er ∙ node-sum
 
         abbrev buf′ : List ℕ
@@ -350,7 +356,7 @@ module _ {first second : List ℕ} {s t : ℕ} {ranks choices lengths : List ℕ
         child-piece : length (piece (at + 3) (at + 3 + r) buf′) ≡ (at + 3 + r) - (at + 3)
         child-piece = piece-length (at + 3) (at + 3 + r) buf′ (omega arith) child-room
 
-        pub child-given : NodeGiven first second ranks choices lengths (levels - 1) (limit / 2) w (getD stack i 0) rel x (part n stack) (piece (at + 3) (at + 3 + r) buf′)
+        pub child-given : NodeGiven first second ranks choices lengths (levels - 1) (limit / 2) w members rel x (part (words * n) stack) (piece (at + 3) (at + 3 + r) buf′)
         child-given =
             record {
               given = l .step .given;
@@ -359,10 +365,10 @@ module _ {first second : List ℕ} {s t : ℕ} {ranks choices lengths : List ℕ
               size = omega (arith, child-piece, r-is);
               once = omega (arith, child-piece, child-room, entry-length, l .short, half-law limit);
               deep = half-deep levels limit around-levels (l .step .deep);
-              words = omega (arith, ap length (part-all n stack), length-drop n stack, l .width, step-words (l .step) (l .short));
+              words = omega (arith, ap length (part-all (words * n) stack), length-drop (words * n) stack, l .width, step-words (l .step) (l .short));
             }
 
-        module _ {iu iv ia il : ℕ} {zs : List ℕ} (w′ : Around first second choices lengths (node-of first second w (getD stack i 0)) (limit / 2) iu iv ia il zs)
+        module _ {iu iv ia il : ℕ} {zs : List ℕ} (w′ : Around first second choices lengths (node-of first second w members) (limit / 2) iu iv ia il zs)
             (same′ : length zs ≡ length (piece (at + 3) (at + 3 + r) buf′)) where
           same-zs : length zs ≡ (at + 3 + r) - (at + 3)
           same-zs = same′ ∙ child-piece
@@ -382,7 +388,7 @@ module _ {first second : List ℕ} {s t : ℕ} {ranks choices lengths : List ℕ
                 let q = j₀ z in
                 record {
                   held = left-is (q .0) (q .1) (q .2) (q .3)
-                      (left-more entry-done (at + 3) (at + 3 + r) (omega arith) child-room refl zs same-zs (node-of first second w (getD stack i 0)) (at-front _ (children-left first second s t (i + 1)) node-turn)
+                      (left-more entry-done (at + 3) (at + 3 + r) (omega arith) child-room refl zs same-zs (node-of first second w members) (at-front _ (children-left first second s t (i + 1)) node-turn)
                       (omega (arith, r-is)) (λ k b. left-none (w′ .left) z k (omega (arith, r-is))));
                   tail = omega (arith, q .3, l .stands .tail);
                   long = λ h. omega (arith, q .3, l .stands .long (omega (arith, q .3)));
@@ -392,7 +398,7 @@ module _ {first second : List ℕ} {s t : ℕ} {ranks choices lengths : List ℕ
                 let none : len ≡ 0 = zero-or len (λ h. absurd (omega (arith, l .stands .long h, l .stands .tail, w′ .long pos, w′ .less, r-is, child-room, entry-length, l .short, half-law limit))) in
                 record {
                   held = left-is (q .0) (q .1) (q .2) (q .3)
-                      (left-inner (at + 3 + r) (at + 3) (at + 3 + r) buf′ (omega arith) (le-refl _) child-room (λ k b o. before k b o) (node-of first second w (getD stack i 0))
+                      (left-inner (at + 3 + r) (at + 3) (at + 3 + r) buf′ (omega arith) (le-refl _) child-room (λ k b o. before k b o) (node-of first second w members)
                       (at-front _ (children-left first second s t (i + 1)) node-turn) (omega (arith, r-is)) same-zs (w′ .left));
                   tail = omega (arith, q .3, w′ .less, r-is, l .stands .tail);
                   long = λ h. omega (arith, q .3, w′ .long pos);
@@ -402,8 +408,8 @@ module _ {first second : List ℕ} {s t : ℕ} {ranks choices lengths : List ℕ
                 before k b (inl o) = left-none entry-done (zero-or len (λ h. absurd (omega (arith, l .stands .long h, l .stands .tail, w′ .long pos, w′ .less, r-is, child-room, entry-length, l .short, half-law limit)))) k o
                 before k b (inr o) = absurd (omega arith)
 
-            pub around-next : {rel′ x′ : List ℕ} (ws : List ℕ) → length rel′ ≡ length rel → length x′ ≡ length x → length (back n stack ws) ≡ length stack
-                → AroundLoop first second s t ranks choices lengths levels limit j n rel₀ x₀ stack₀ buf₀ rel′ x′ (back n stack ws) (placed (at + 3) (at + 3 + r) buf′ zs) u′ v′ a′ len′ (at + 3 + r) (i + 1)
+            pub around-next : {rel′ x′ : List ℕ} (ws : List ℕ) → length rel′ ≡ length rel → length x′ ≡ length x → length (back (words * n) stack ws) ≡ length stack
+                → AroundLoop first second s t ranks choices lengths levels limit j n rel₀ x₀ stack₀ buf₀ rel′ x′ (back (words * n) stack ws) (placed (at + 3) (at + 3 + r) buf′ zs) u′ v′ a′ len′ (at + 3 + r) (i + 1)
             around-next ws er′ ex es =
                 record {
                   step = record {
@@ -419,7 +425,7 @@ module _ {first second : List ℕ} {s t : ℕ} {ranks choices lengths : List ℕ
                   width = l .width;
                   sets = record { set = λ k b. ap member (kept-below n k stack ws stack-room (omega (arith, l .width))) ∙ l .sets .set k b };
                   place = subst (λ (k : ℕ). At (step-of first second s t) (at + 3 + k) (children-left first second s t (i + 1))) (sym r-is)
-                      (at-back (node-of first second w (getD stack i 0)) (children-left first second s t (i + 1)) node-turn);
+                      (at-back (node-of first second w members) (children-left first second s t (i + 1)) node-turn);
                   ends = omega (arith, l .ends, ap length parts, length-append entry others, length-append (node-bytes (own-node M N (pairs M N - 1) (target-at m i) (set-of M N s t i))) (children-left first second s t (i + 1)), ap length node-same, r-is);
                   stands = joined (zero-pos il);
                   same-rel = er′ ∙ l .same-rel;
@@ -535,7 +541,7 @@ module _ {first second ranks choices lengths : List ℕ} {s t : ℕ} {rel x stac
   root-size =
       step-size (table-of first) (table-of second) (sound first (g .given .ranked .first-loaded)) s (root-lost .left) t (root-lost .right) (root-lost .fell)
 
-  pub root-asked : Loaded second × (s < 64) × (t < 64) × (s * states-of (table-of second) + t < length lengths)
+  pub root-asked : Loaded second × (s < most-states) × (t < most-states) × (s * states-of (table-of second) + t < length lengths)
   root-asked = (
     g .given .ranked .second-loaded,
     omega (arith, root-lost .left, limits first (g .given .ranked .first-loaded) .states-few),

@@ -7,6 +7,7 @@ use lib.ListN.{length, getD}
 use Rattle.simulation.specs.Table.{Transition, states-of}
 use Rattle.simulation.specs.Tree.{chosen}
 use Rattle.form.specs.Form.{table-of}
+use Rattle.relation.specs.Words.{height}
 use Rattle.buffer.specs.Buffer.{over}
 use Rattle.relate.specs.Ranked.{Ranked, Lent}
 use Rattle.choice.specs.Choice.{Lost, Choice, Sets}
@@ -26,7 +27,7 @@ pub record BeginGiven (first second ranks choices : List ℕ) (s t : ℕ) (rel x
   pub noted : s * states-of (table-of second) + t < length choices
   pub choice : Choice first second s t (getD choices (s * states-of (table-of second) + t) 0)
   pub lent : Lent rel x
-  pub words : length (chosen (table-of first) (table-of second) s t .entries) ≤ length stack
+  pub words : length (chosen (table-of first) (table-of second) s t .entries) ≤ height stack
   pub room : 2 ≤ length buf
 
 -- the transition j of the pair is begun

@@ -6,12 +6,14 @@ use mathlib.Core.List.{List}
 use Prim.Native.Nat.{ℕ, zero, suc, _+_, _-_, _*_, _/_, _^_, _≤_, _<_, min}
 use lib.Dec.{T}
 use lib.ListN.{length, getD}
+use Rattle.simulation.specs.Limits.{most-states}
 use Rattle.simulation.specs.Table.{states-of}
 use Rattle.simulation.specs.Round.{pairs}
 use Rattle.simulation.specs.Tree.{leaf, own-step, own-node, transition-bytes, node-bytes}
 use Rattle.simulation.specs.Length.{tree-length}
 use Rattle.form.specs.Form.{table-of}
 use Rattle.relation.specs.Mask.{member}
+use Rattle.relation.specs.Words.{words}
 use Rattle.order.specs.Count.{longest}
 use Rattle.measure.specs.Lengths.{Measured}
 use Rattle.relate.specs.Ranked.{Ranked, Lent}
@@ -21,10 +23,14 @@ pub record At (l : List ℕ) (a : ℕ) (P : List ℕ) : Type 0 where
   pub fits : a + length P ≤ length l
   pub same : (k : ℕ) → k < length P → getD l (a + k) 0 ≡ getD P k 0
 
--- the words for the calls of so many levels, one for each child: a transition has 64 children at most, and no more than a quarter of 2 ^ levels, since each takes four bytes
+-- the words for the calls of so many levels, a set for each child: a transition has most-states children at most, and no more than a quarter of 2 ^ levels, since each takes four bytes
 unfoldable pub words-for : (levels : ℕ) → ℕ
 words-for zero = 0
-words-for (suc levels) = min 64 (2 ^ suc levels / 4) + words-for levels
+words-for (suc levels) = words * min most-states (2 ^ suc levels / 4) + words-for levels
+
+-- the words for 16 levels: most-states children at the upper eight, one less than that at all levels below them together
+abbrev pub stack-words : ℕ
+stack-words = words * (9 * most-states - 1)
 
 module _ (first second : List ℕ) where
   -- the bytes of the node of a state and a set of states that it is not kept with; no rank is above the number of pairs
@@ -84,10 +90,10 @@ module _ (first second : List ℕ) where
     pub less : len < length total
     pub long : 0 < len → half < len
 
-  -- what the writing of a pair's tree rests on; there are 16 levels at most on the way down, and 640 words are enough for them
+  -- what the writing of a pair's tree rests on; there are 16 levels at most on the way down, and the stack has the words for them
   pub record TreeGiven (ranks choices lengths : List ℕ) (s t : ℕ) (rel x stack buf : List ℕ) : Type 0 where
     pub given : Given ranks choices lengths rel x
     pub measured : Measured first second choices lengths s t
     pub short : tree-length (table-of first) (table-of second) s t ≤ longest
-    pub words : 640 ≤ length stack
+    pub words : stack-words ≤ length stack
     pub room : tree-length (table-of first) (table-of second) s t ≤ length buf

@@ -5,19 +5,29 @@ use measure::node_length;
 use measure::pair_length;
 use order::count::LONGEST;
 use order::pair::number;
+use relation::rows;
 use relation::set;
+use relation::set::Set;
+use relation::walk;
+use simulation::Table;
 ghost use mathlib.Core.Path.{_≡_};
 ghost use Prim.Native.Nat.{_+_, _/_, _^_, _≤_, _<_};
 ghost use lib.ListN.{length, getD};
 ghost use Rattle.simulation.specs.Table.{weights, target-at};
 ghost use Rattle.simulation.specs.Tree.{tree, node-bytes};
 ghost use Rattle.form.specs.Form.{Loaded, transitions-of, transition-at, table-of};
+ghost use Rattle.relation.specs.Words.{mask};
 ghost use Rattle.buffer.specs.Buffer.{over, Filled};
 ghost use Rattle.tree.specs.Begin.{head-bytes, entry-bytes, BeginGiven, Begun};
 ghost use Rattle.tree.specs.Parts.{step-of, node-of, StepGiven, StepWritten, NodeGiven, Around, TreeGiven};
 
 // The calls that write a tree are no deeper than this many pairs: LONGEST is below 2 ^ LEVELS.
 const LEVELS: u32 = 16;
+
+// The words of the stack: a set for each child of the transition in hand at each level. A transition at level k has no more children than
+// a quarter of 2 ^ k, since each takes four bytes, and no more than Table::STATES: that many at the upper eight levels, and one less than
+// that at all levels below them together.
+pub const STACK: usize = Set::WORDS * (9 * Table::STATES - 1);
 
 // The pair whose part of the buffer is still to be written, and where it is; none if its length is 0.
 pub struct Rest {
@@ -84,14 +94,14 @@ fn write_node(
     levels: u32,
     half: usize,
     s: usize,
-    members: u64,
+    members: Set,
     rel: &mut [u64],
     x: &mut [u32],
     stack: &mut [u64],
     buf: &mut [u8],
 ) -> Rest
-    requires { ⌜ NodeGiven (now first) (now second) (now ranks) (now choices) (now lengths) levels half s members (now rel) (now x) (now stack) (now buf) ⌝ }
-    ensures { λ r. ⌜ Around (now (first .entry)) (now (second .entry)) (now (choices .entry)) (now (lengths .entry)) (node-of (now (first .entry)) (now (second .entry)) s members)
+    requires { ⌜ NodeGiven (now first) (now second) (now ranks) (now choices) (now lengths) levels half s (mask members) (now rel) (now x) (now stack) (now buf) ⌝ }
+    ensures { λ r. ⌜ Around (now (first .entry)) (now (second .entry)) (now (choices .entry)) (now (lengths .entry)) (node-of (now (first .entry)) (now (second .entry)) s (mask members))
         half (r .s) (r .t) (r .at) (r .len) (now (buf .exit)) ⌝ }
 {
     buf[0] = set::count(members) as u8;
@@ -102,29 +112,31 @@ fn write_node(
         len: 0,
     };
     let mut at = 1;
-    let mut left = members;
-    while left != 0 {
-        let t = set::lowest(left);
-        let end = at + pair_length(second, lengths, s, t);
-        rest = write_transition(
-            first,
-            second,
-            ranks,
-            choices,
-            lengths,
-            levels,
-            half,
-            s,
-            t,
-            rel,
-            x,
-            stack,
-            &mut buf[at..end],
-            at,
-            rest,
-        );
-        at = end;
-        left = set::without_lowest(left);
+    for w in 0..Set::WORDS {
+        let mut left = members.words[w];
+        while left != 0 {
+            let t = walk::lowest(members, w, left);
+            let end = at + pair_length(second, lengths, s, t);
+            rest = write_transition(
+                first,
+                second,
+                ranks,
+                choices,
+                lengths,
+                levels,
+                half,
+                s,
+                t,
+                rel,
+                x,
+                stack,
+                &mut buf[at..end],
+                at,
+                rest,
+            );
+            at = end;
+            left = walk::without_lowest(members, w, left);
+        }
     }
     rest
 }
@@ -179,7 +191,7 @@ fn write_around(
     for i in 0..n {
         let start = at + 3;
         let target = put_entry(first, j, i, &mut buf[at..start]);
-        let members = stack[i];
+        let members = rows::get(stack, i);
         let end = start + node_length(second, lengths, target, members);
         let inner = write_node(
             first,
@@ -193,7 +205,7 @@ fn write_around(
             members,
             rel,
             x,
-            &mut stack[n..],
+            &mut stack[Set::WORDS * n..],
             &mut buf[start..end],
         );
         rest = join(rest, inner, start);

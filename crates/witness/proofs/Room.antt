@@ -8,7 +8,7 @@ use lib.ListN.{length}
 use Rattle.simulation.specs.Sum.{sum}
 use Rattle.simulation.specs.Table.{Transition, Table, targets, states-of, steps, transition}
 use Rattle.simulation.proofs.Finite.Sums.{sum-le}
-use Rattle.form.specs.Limits.{most-states}
+use Rattle.simulation.specs.Limits.{most-states}
 use Rattle.form.specs.Form.{table-of, Loaded, start-of, transitions-of, transition-at}
 use Rattle.form.proofs.FormLaws.{counts, limited-at, targets-length, transition-numbered, start-bound}
 use Rattle.flows.specs.Flow.{step-room, flow-room, most-flow}
@@ -35,7 +35,7 @@ module _ (f g : List ℕ) (lf : Loaded f) (lg : Loaded g) (s : ℕ) (a : s < sta
   room-end {j} e = ap (λ (n : ℕ). 1 + sum n (λ k. step-room N (transition M s k))) (let z : j - start-of f s ≡ length (steps M s) = omega (arith, counts f lf s a) in z)
 
   pub room-limit : flow-room M N s ≤ most-flow
-  room-limit = let v = lf .valid .shape in room-most M N (v .few-transitions) (v .few-entries) (lg .valid .shape .few-states) s
+  room-limit = room-most M N s (lf .valid .few-each s a) (lf .valid .shape .few-entries) (lg .valid .shape .few-states)
 
   module _ (j : ℕ) (low : start-of f s ≤ j) (high : j < start-of f (s + 1)) where
     here : transition-at f j ≡ transition M s (j - start-of f s)

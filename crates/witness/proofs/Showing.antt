@@ -1,14 +1,18 @@
 -- What is shown of a pair, by what the functions below give.
 -- Assumes nothing.
-use mathlib.Core.Path.{_≡_, refl, ap, _∙_}
+use mathlib.Core.Path.{_≡_, refl, ap, ap₂, _∙_}
 use mathlib.Core.List.{List}
-use Prim.Native.Nat.{ℕ, _≤_, _<_, min}
+use Prim.Native.Nat.{ℕ, _*_, _≤_, _<_, min}
 use native.Mathlib.Omega.{arith}
 use lib.ListN.{length}
+use Rattle.simulation.specs.Limits.{most-pairs}
 use Rattle.simulation.specs.Table.{Table, states-of}
+use Rattle.simulation.specs.Round.{pairs}
 use Rattle.simulation.specs.Demands.{Kept}
 use Rattle.simulation.specs.Length.{tree-length}
 use Rattle.simulation.proofs.Trees.Length.{tree-bytes as bytes-length}
+use Rattle.form.specs.Form.{Loaded, table-of}
+use Rattle.form.proofs.FormLaws.{few-pairs}
 use Rattle.flows.specs.Flow.{flow-room}
 use Rattle.flows.specs.FlowSteps.{Flowed}
 use Rattle.flows.proofs.FlowPlace.{right-amounts}
@@ -17,6 +21,14 @@ use Rattle.order.specs.Count.{longest}
 use Rattle.answer.specs.Numbers.{refusal, with-written}
 use Rattle.answer.specs.declared.answer.Answer.{Answer}
 use Rattle.witness.specs.Shown.{tree-bytes, FlowShown, TreeShown}
+
+-- the pairs, counted by the code
+module _ (f g : List ℕ) (lf : Loaded f) (lg : Loaded g) {p q : ℕ} (ep : p ≡ states-of (table-of f)) (eq : q ≡ states-of (table-of g)) where
+  pub count-is : p * q ≡ pairs (table-of f) (table-of g)
+  count-is = ap₂ _*_ ep eq
+
+  pub count-small : p * q ≤ most-pairs
+  count-small = omega (arith, count-is, few-pairs f g lf lg)
 
 -- what is shown of a kept pair
 module _ (M N : Table) (s t : ℕ) (a : Answer) (flow : List ℕ) where

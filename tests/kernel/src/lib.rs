@@ -19,6 +19,25 @@ pub fn flow(m: &[u16], n: &[u16], rel: &[u64], x: &mut [u32], cut: &mut [u64], p
     }
 }
 
+/// The most targets on a side, the cells that hold their amounts, and the bits of a word and the words of a set of
+/// them.
+pub const SIDE: usize = 128;
+pub const CELLS: usize = SIDE * SIDE;
+pub const WORD: usize = u64::BITS as usize;
+pub const WORDS: usize = SIDE / WORD;
+
+/// The most that the weights on a side come to.
+pub const WHOLE: u64 = 65_535;
+
+/// A set of targets: bit j stands for target j.
+pub type Set = u128;
+const _: () = assert!(SIDE == Set::BITS as usize);
+
+/// Sets in words, the low one of each first.
+pub fn words(sets: &[Set]) -> Vec<u64> {
+    sets.iter().flat_map(|set| [*set as u64, (set >> WORD) as u64]).collect()
+}
+
 pub struct Random(pub u64);
 
 impl Random {
@@ -38,14 +57,14 @@ impl Random {
 pub struct Problem {
     pub m: Vec<u16>,
     pub n: Vec<u16>,
-    pub rel: Vec<u64>,
+    pub rel: Vec<Set>,
 }
 
 /// What is right: the most that can be sent, and the smallest set of the largest excess.
 #[derive(Debug, PartialEq, Eq)]
 pub struct Right {
     pub sent: u64,
-    pub cut: u64,
+    pub cut: Set,
 }
 
 pub fn total(w: &[u16]) -> u64 {
@@ -56,7 +75,7 @@ impl Problem {
     /// Weights up to `most`, the last raised to make the total `whole` where it is below that.
     pub fn weights(random: &mut Random, count: usize, most: u64, whole: Option<u64>) -> Vec<u16> {
         let mut w: Vec<u16> = (0..count).map(|_| random.below(most + 1) as u16).collect();
-        while total(&w) > 65535 {
+        while total(&w) > WHOLE {
             w.iter_mut().for_each(|w| *w /= 2);
         }
         if let (Some(whole), Some(last)) = (whole, w.len().checked_sub(1)) {
@@ -70,7 +89,7 @@ impl Problem {
         let n = Problem::weights(random, columns, most, whole);
         // Bits past the columns don't matter.
         let rel = (0..rows)
-            .map(|_| (0..64).fold(0, |row, j| row | ((random.below(100) < percent) as u64) << j))
+            .map(|_| (0..SIDE).fold(0, |row, j| row | ((random.below(100) < percent) as Set) << j))
             .collect();
         Problem { m, n, rel }
     }
@@ -79,12 +98,19 @@ impl Problem {
         self.rel[i] >> j & 1 == 1
     }
 
+    /// The same targets with `by` more before them on each side, each of weight 0 and related to none.
+    pub fn shifted(&self, by: usize) -> Problem {
+        let weights = |w: &[u16]| [&vec![0; by], w].concat();
+        let rel = self.rel.iter().map(|row| row << by);
+        Problem { m: weights(&self.m), n: weights(&self.n), rel: vec![0; by].into_iter().chain(rel).collect() }
+    }
+
     /// By the definition: the gain of every set of rows.
     pub fn by_subsets(&self) -> Right {
         let (t, u) = (total(&self.m), total(&self.n));
         let mut most = 0;
-        let mut cut = u64::MAX;
-        for set in 0..1u64 << self.m.len() {
+        let mut cut = Set::MAX;
+        for set in 0..(1 as Set) << self.m.len() {
             let inside: u64 = (0..self.m.len()).filter(|i| set >> i & 1 == 1).map(|i| self.m[i] as u64).sum();
             let touched = (0..self.m.len()).filter(|i| set >> i & 1 == 1).fold(0, |all, i| all | self.rel[i]);
             let out: u64 = (0..self.n.len()).filter(|j| touched >> j & 1 == 0).map(|j| self.n[j] as u64).sum();
@@ -119,31 +145,31 @@ impl Problem {
         Right { sent, cut: (0..p).filter(|&i| level[i] != usize::MAX).fold(0, |cut, i| cut | 1 << i) }
     }
 
-    /// Runs the kernel, which takes the problem. Returns its cut and the number of its augmenting paths, each the first of two words: the
-    /// second stays as it was.
-    pub fn answer(&self, x: &mut [u32]) -> (u64, u32) {
-        let (mut cut, mut paths) = ([7; 2], [7; 2]);
-        assert_eq!(flow(&self.m, &self.n, &self.rel, x, &mut cut, &mut paths), 1, "refused: {self:?}");
-        assert_eq!((cut[1], paths[1]), (7, 7), "{self:?}");
-        (cut[0], paths[0])
+    /// Runs the kernel, which takes the problem. Returns its cut and the number of its augmenting paths. The word after each stays as it
+    /// was.
+    pub fn answer(&self, x: &mut [u32]) -> (Set, u32) {
+        let (mut cut, mut paths) = ([7; WORDS + 1], [7; 2]);
+        assert_eq!(flow(&self.m, &self.n, &words(&self.rel), x, &mut cut, &mut paths), 1, "refused: {self:?}");
+        assert_eq!((cut[WORDS], paths[1]), (7, 7), "{self:?}");
+        (cut[0] as Set | (cut[1] as Set) << WORD, paths[0])
     }
 
     /// Runs the kernel over filled memory and checks everything that it leaves there. Returns its answer in the oracles' terms.
     pub fn by_kernel(&self) -> Right {
         let (p, q) = (self.m.len(), self.n.len());
         let (t, u) = (total(&self.m), total(&self.n));
-        let mut x: Vec<u32> = (0..4100u32).map(|k| k.wrapping_mul(2654435761)).collect();
+        let mut x: Vec<u32> = (0..CELLS as u32 + 4).map(|k| k.wrapping_mul(2654435761)).collect();
         let before = x.clone();
         let (cut, _) = self.answer(&mut x);
         for k in 0..x.len() {
-            let (i, j) = (k / 64, k % 64);
+            let (i, j) = (k / SIDE, k % SIDE);
             if i < p && j < q {
                 assert!(x[k] == 0 || self.related(i, j), "amount off the relation at {i} {j}: {self:?}");
             } else {
                 assert_eq!(x[k], before[k], "cell {i} {j} changed: {self:?}");
             }
         }
-        let cell = |i: usize, j: usize| x[i * 64 + j] as u64;
+        let cell = |i: usize, j: usize| x[i * SIDE + j] as u64;
         let rows: Vec<u64> = (0..p).map(|i| (0..q).map(|j| cell(i, j)).sum()).collect();
         let columns: Vec<u64> = (0..q).map(|j| (0..p).map(|i| cell(i, j)).sum()).collect();
         for i in 0..p {
@@ -159,7 +185,7 @@ impl Problem {
 
     /// The number of augmenting paths that the kernel takes.
     pub fn paths(&self) -> usize {
-        self.answer(&mut vec![0; 4096]).1 as usize
+        self.answer(&mut vec![0; CELLS]).1 as usize
     }
 
     /// What a flow sends that grows along depth-first paths, and how many it takes. It starts as the kernel does.

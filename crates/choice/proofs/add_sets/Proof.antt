@@ -4,7 +4,7 @@ use Prim.Native.Nat.{pred}
 use borrow.Author.Needs.{needs}
 use Rattle.simulation.specs.Round.{round}
 use Rattle.form.specs.Form.{table-of, transition-at}
-use Rattle.choice.proofs.Choosing.{none-added}
+use Rattle.choice.proofs.Choosing.{parted-other}
 use Rattle.choice.proofs.add_sets.Statement.{statement}
 use Rattle.choice.proofs.add_sets.Tie as tie
 
@@ -18,7 +18,7 @@ returns : tie.Need-returns
 returns c =
     let entry = c .before .before .before .before .before .before .before .before .before in
     let a = entry .args in
-    none-added (round (table-of (a .first .now)) (table-of (a .second .now)) (pred (a .r))) (transition-at (a .first .now) (a .j)) (transition-at (a .second .now) (a .k))
+    parted-other (round (table-of (a .first .now)) (table-of (a .second .now)) (pred (a .r))) (transition-at (a .first .now) (a .j)) (transition-at (a .second .now) (a .k))
     (λ e. c .if1 .taken (c .before .before .code .ensures ∙ e ∙ sym (c .before .code2 .ensures))) (a .sets .now)
 
 part-sets-requires : tie.Need-part-sets-requires

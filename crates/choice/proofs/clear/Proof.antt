@@ -1,5 +1,7 @@
--- `choice::clear` meets its contract. Assumes nothing.
-use Prim.Native.Nat.{_-_}
+-- `choice::clear` meets its contract: the sets passed are empty. Assumes nothing.
+use mathlib.Core.Path.{sym, subst}
+use mathlib.Core.List.{List}
+use Prim.Native.Nat.{ℕ, _+_, _-_}
 use native.Mathlib.Omega.{arith}
 use Rattle.choice.proofs.Choosing.{Clearing, clearing-start, clearing-next}
 use Rattle.choice.proofs.clear.Statement.{statement}
@@ -12,29 +14,40 @@ abbrev μ-loop : tie.MeasureT-loop
 μ-loop sets₀ n i₀ sets i = n - i
 
 loop-holds : tie.Need-loop-holds Inv-loop μ-loop
-loop-holds c = clearing-start (c .args .n) (c .args .sets .now)
+loop-holds c = clearing-start (c .before .args .n) (c .before .args .sets .now)
 
-mul-sets : tie.Need-mul-sets Inv-loop μ-loop
-mul-sets c = record { fits = omega (arith, c .before .before .pre .0, c .loop-test .taken) }
+empty-requires : tie.Need-empty-requires Inv-loop μ-loop
+empty-requires c κs = tt
 
-slice-write-sets : tie.Need-slice-write-sets Inv-loop μ-loop
-slice-write-sets c = omega (arith, c .before .before .pre .1, c .loop-test .taken, c .before .loop .inv .size)
+put-requires : tie.Need-put-requires Inv-loop μ-loop
+put-requires c κs = omega (arith, c .before .before .before .before .before .pre .1, c .before .before .loop-test .taken, c .before .before .before .loop .inv .size)
 
 add-i : tie.Need-add-i Inv-loop μ-loop
-add-i c = record { fits = omega (arith, c .before .before .pre .0, c .loop-test .taken) }
+add-i c = omega (arith, c .before .before .before .before .before .before .before .before .pre .0, c .before .before .before .before .before .loop-test .taken)
 
 loop-less : tie.Need-loop-less Inv-loop μ-loop
-loop-less c = omega (arith, c .loop-test .taken)
+loop-less c = omega (arith, c .before .before .before .before .before .loop-test .taken)
 
 loop-again : tie.Need-loop-again Inv-loop μ-loop
-loop-again c = clearing-next (c .before .loop .inv) (c .loop-test .taken) (c .before .before .pre .1)
+loop-again c = subst (λ (l : List ℕ). Clearing (c .before .before .before .before .before .before .before .before .args .n) (c .before .before .before .before .before .before .before .before .args .sets .now) l (c .before .before .before .before .before .before .loop .i + 1)) (sym (c .before .before .put .ensures)) (clearing-next (c .before .before .before .before .before .before .loop .inv) (c .before .before .before .before .before .loop-test .taken) (c .before .before .before .before .before .before .before .before .pre .1) (c .before .before .before .empty .result) (c .before .before .before .empty .ensures))
 
 same-length : tie.Need-same-length Inv-loop μ-loop
 same-length c = c .before .loop .inv .size
 
 returns : tie.Need-returns Inv-loop μ-loop
-returns c i lt = c .before .loop .inv .empty i (omega (arith, c .loop-test .left))
+returns c = λ i lt. c .before .loop .inv .empty i (omega (arith, c .loop-test .left))
 
 pub clear-spec : {M : Type 1} → statement M
 clear-spec =
-    tie.close (tie.spec Inv-loop μ-loop loop-holds mul-sets slice-write-sets add-i loop-less loop-again same-length returns)
+    tie.close
+    (tie.spec
+    Inv-loop
+    μ-loop
+    loop-holds
+    empty-requires
+    put-requires
+    add-i
+    loop-less
+    loop-again
+    same-length
+    returns)

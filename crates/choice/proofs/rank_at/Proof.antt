@@ -6,14 +6,15 @@ use native.Mathlib.Omega.{arith}
 use native.Mathlib.Nat.{mul-le-mul-left}
 use lib.ListN.{getD}
 use borrow.Author.Needs.{needs}
+use Rattle.simulation.specs.Limits.{most-pairs, most-states}
 use Rattle.simulation.specs.Table.{states-of}
 use Rattle.form.proofs.FormLaws.{limits}
 use Rattle.form.specs.Form.{Loaded, table-of}
 use Rattle.choice.proofs.rank_at.Statement.{statement}
 use Rattle.choice.proofs.rank_at.Tie as tie
 
-small : (f : List ℕ) (s n : ℕ) → Loaded f → s < 64 → n ≡ states-of (table-of f) → s * n < 4096
-small f s n l a e = omega (arith, mul-le-mul-left s (let h : n ≤ 64 = omega (arith, limits f l .states-few) in h))
+small : (f : List ℕ) (s n : ℕ) → Loaded f → s < most-states → n ≡ states-of (table-of f) → s * n < most-pairs
+small f s n l a e = omega (arith, mul-le-mul-left s (let h : n ≤ most-states = omega (arith, limits f l .states-few) in h))
 
 states-requires : tie.Need-states-requires
 states-requires c κs = search needs

@@ -1,80 +1,103 @@
 -- `choice::spread` meets its contract: the sets of the members passed are joined. Assumes nothing.
+use mathlib.Core.Path.{sym, ap, _∙_, subst}
+use mathlib.Core.List.{List}
+use Prim.Native.Nat.{ℕ, _≤_, _-_}
 use native.Mathlib.Omega.{arith}
-use borrow.Author.Needs.{needs}
+use Rattle.relation.specs.Mask.{member, either}
+use Rattle.relation.specs.Words.{words, mask, after, rest}
+use Rattle.relation.proofs.Sets.{walk-begin, walk-into, walk-on, walk-done}
 use Rattle.choice.proofs.Choosing.{Joining, joining-start, joining-next, joining-end}
 use Rattle.choice.proofs.spread.Statement.{statement}
 use Rattle.choice.proofs.spread.Tie as tie
 
+-- what the outer loop has joined when the inner one starts, it has joined still
+abbrev Inv-loop2 : tie.InvT-loop2
+Inv-loop2 sets₀ more named w left₀ sets left = (l : List ℕ) → Joining (mask named) (mask more) l sets₀ (after w named) → Joining (mask named) (mask more) l sets (rest w left named)
+
+abbrev μ-loop2 : tie.MeasureT-loop2
+μ-loop2 sets₀ more named w left₀ sets left = left
+
 abbrev Inv-loop : tie.InvT-loop
-Inv-loop sets₀ mask more left₀ sets left = Joining mask more sets₀ sets left
+Inv-loop sets₀ more named w₀ sets w = (w ≤ words) × Joining (mask named) (mask more) sets₀ sets (after w named)
 
 abbrev μ-loop : tie.MeasureT-loop
-μ-loop sets₀ mask more left₀ sets left = left
+μ-loop sets₀ more named w₀ sets w = words - w
 
-loop-holds : tie.Need-loop-holds Inv-loop μ-loop
-loop-holds c = joining-start _ _ _
+loop-holds : tie.Need-loop-holds Inv-loop2 μ-loop2 Inv-loop μ-loop
+loop-holds c = let a = c .before .args in (omega arith, walk-begin (a .t2) (λ (n : ℕ). Joining (mask (a .t2)) (mask (a .more)) (a .sets .now) (a .sets .now) n) (joining-start _ _ _))
 
-lowest-requires : tie.Need-lowest-requires Inv-loop μ-loop
-lowest-requires c κs = omega arith
+mul-left : tie.Need-mul-left Inv-loop2 μ-loop2 Inv-loop μ-loop
+mul-left c = omega arith
 
-mul-union : tie.Need-mul-union Inv-loop μ-loop
-mul-union c = omega (arith, c .lowest .ensures .0)
+element-copy-out-left : tie.Need-element-copy-out-left Inv-loop2 μ-loop2 Inv-loop μ-loop
+element-copy-out-left c = omega arith
 
-slice-read-union : tie.Need-slice-read-union Inv-loop μ-loop
-slice-read-union c =
-    let at-lowest = c .before in
-    let at-loop = at-lowest .before .before in
-    let entry = at-loop .before .before in
-    let v = at-loop .loop .inv in
-    omega (arith, entry .pre _ (v .part _ (at-lowest .lowest .ensures .1 .here)), v .size)
+loop2-holds : tie.Need-loop2-holds Inv-loop2 μ-loop2 Inv-loop μ-loop
+loop2-holds c = λ l h. let a = c .before .before .before .before .args in walk-into (a .t2) (λ (n : ℕ). Joining (mask (a .t2)) (mask (a .more)) l (c .before .before .loop .sets) n) (c .before .before .loop .w) h
 
-union-requires : tie.Need-union-requires Inv-loop μ-loop
-union-requires c κs = search needs
+lowest-requires : tie.Need-lowest-requires Inv-loop2 μ-loop2 Inv-loop μ-loop
+lowest-requires c κs = (omega arith, omega arith)
 
-mul-sets : tie.Need-mul-sets Inv-loop μ-loop
-mul-sets c = omega (arith, c .before .before .lowest .ensures .0)
+get-requires : tie.Need-get-requires Inv-loop2 μ-loop2 Inv-loop μ-loop
+get-requires c κs = let o = c .before .before .before .before .before .before .loop in let v = c .before .before .before .loop2 .inv _ (o .inv .1) in omega (arith, c .before .before .before .before .before .before .before .before .pre _ (v .part _ (c .before .lowest .ensures .1 .here)), v .size)
 
-slice-write-sets : tie.Need-slice-write-sets Inv-loop μ-loop
-slice-write-sets c =
-    let at-lowest = c .before .before in
-    let at-loop = at-lowest .before .before in
-    let entry = at-loop .before .before in
-    let v = at-loop .loop .inv in
-    omega (arith, entry .pre _ (v .part _ (at-lowest .lowest .ensures .1 .here)), v .size)
+union-requires : tie.Need-union-requires Inv-loop2 μ-loop2 Inv-loop μ-loop
+union-requires c κs = tt
 
-without-lowest-requires : tie.Need-without-lowest-requires Inv-loop μ-loop
-without-lowest-requires c κs = omega arith
+put-requires : tie.Need-put-requires Inv-loop2 μ-loop2 Inv-loop μ-loop
+put-requires c κs = let o = c .before .before .before .before .before .before .before .before .before .loop in let v = c .before .before .before .before .before .before .loop2 .inv _ (o .inv .1) in omega (arith, c .before .before .before .before .before .before .before .before .before .before .before .pre _ (v .part _ (c .before .before .before .before .lowest .ensures .1 .here)), v .size)
 
-loop-less : tie.Need-loop-less Inv-loop μ-loop
-loop-less c = c .without-lowest .ensures .1
+without-lowest-requires : tie.Need-without-lowest-requires Inv-loop2 μ-loop2 Inv-loop μ-loop
+without-lowest-requires c κs = (omega (arith, c .before .before .before .before .before .before .before .before .before .before .before .loop-test .taken), omega (arith, c .before .before .before .before .before .before .before .before .loop2-test .taken))
 
-loop-again : tie.Need-loop-again Inv-loop μ-loop
-loop-again c =
-    let at-lowest = c .before .before .before in
-    let at-loop = at-lowest .before .before in
-    let low = at-lowest .lowest .ensures .1 in
-    joining-next _ (at-loop .loop .inv) (at-loop .before .before .pre) low (c .without-lowest .ensures .0 _ low) (c .before .union .ensures)
+loop2-less : tie.Need-loop2-less Inv-loop2 μ-loop2 Inv-loop μ-loop
+loop2-less c = c .without-lowest .ensures .1
 
-same-length : tie.Need-same-length Inv-loop μ-loop
-same-length c = c .before .loop .inv .size
+loop2-again : tie.Need-loop2-again Inv-loop2 μ-loop2 Inv-loop μ-loop
+loop2-again c = λ l h.
+    let d = c .before .before .before .before .before .before .before .before .before .before .before .before .before .before .before in
+    let a = d .args in
+    let o = c .before .before .before .before .before .before .before .before .before .before .loop2 in
+    let low = c .before .before .before .before .before .before .before .before .lowest .ensures .1 in
+    let e = c .before .before .before .before .before .union .ensures ∙ ap (λ (n : ℕ). either (member (mask (a .more))) (member n)) (c .before .before .before .before .before .before .get .ensures) in
+    subst (λ (s : List ℕ). Joining (mask (a .t2)) (mask (a .more)) l s (rest (c .before .before .before .before .before .before .before .before .before .before .before .before .before .loop .w) (c .without-lowest .result) (a .t2))) (sym (c .before .before .before .put .ensures))
+    (joining-next (c .before .before .before .before .before .union .result) (o .inv l h) (λ i m. omega (arith, d .pre i m, o .inv l h .size, o .inv _ (c .before .before .before .before .before .before .before .before .before .before .before .before .before .loop .inv .1) .size)) low (c .without-lowest .ensures .0 _ low) e)
 
-returns : tie.Need-returns Inv-loop μ-loop
-returns c = joining-end (c .loop-test .left) (c .before .loop .inv)
+add-w : tie.Need-add-w Inv-loop2 μ-loop2 Inv-loop μ-loop
+add-w c = omega arith
+
+loop-less : tie.Need-loop-less Inv-loop2 μ-loop2 Inv-loop μ-loop
+loop-less c = omega arith
+
+loop-again : tie.Need-loop-again Inv-loop2 μ-loop2 Inv-loop μ-loop
+loop-again c = let a = c .before .before .before .before .before .before .args in let u = c .before .loop2 in let o = c .before .before .before .before .loop in (omega arith, walk-on (a .t2) (λ (n : ℕ). Joining (mask (a .t2)) (mask (a .more)) (a .sets .now) (u .sets) n) (o .w) (u .left) (c .loop2-test .left) (u .inv _ (o .inv .1)))
+
+same-length : tie.Need-same-length Inv-loop2 μ-loop2 Inv-loop μ-loop
+same-length c = c .before .loop .inv .1 .size
+
+returns : tie.Need-returns Inv-loop2 μ-loop2 Inv-loop μ-loop
+returns c = joining-end (walk-done (c .before .before .before .args .t2) (c .before .loop .w) (omega arith)) (c .before .loop .inv .1)
 
 pub spread-spec : {M : Type 1} → statement M
 spread-spec =
     tie.close
     (tie.spec
+    Inv-loop2
+    μ-loop2
     Inv-loop
     μ-loop
     loop-holds
+    mul-left
+    element-copy-out-left
+    loop2-holds
     lowest-requires
-    mul-union
-    slice-read-union
+    get-requires
     union-requires
-    mul-sets
-    slice-write-sets
+    put-requires
     without-lowest-requires
+    loop2-less
+    loop2-again
+    add-w
     loop-less
     loop-again
     same-length

@@ -1,7 +1,7 @@
--- `cut::cut` meets its contract. Assumes nothing.
-use native.Mathlib.Omega.{arith}
-use borrow.Author.Needs.{needs}
+-- `quick::cut` meets its contract. Assumes nothing.
+use Rattle.relation.proofs.Sets.{mask-lt}
 use Rattle.cut.proofs.QuickLaws.{cut-settled}
+use borrow.Author.Needs.{needs}
 use Rattle.cut.proofs.cut.Statement.{statement}
 use Rattle.cut.proofs.cut.Tie as tie
 
@@ -12,10 +12,7 @@ settled-requires : tie.Need-settled-requires
 settled-requires c κs = search needs
 
 returns : tie.Need-returns
-returns c =
-    let at-scan = c .before .before in
-    let entry = at-scan .before .before .before .before .before in
-    cut-settled (entry .pre .1) (entry .pre .2) (omega (arith, at-scan .scan .ok)) (at-scan .scan .ensures) (c .before .settled .ensures (c .if1 .taken))
+returns c = cut-settled (c .before .before .before .before .before .before .before .before .pre .1) (c .before .before .before .before .before .before .before .before .pre .2) (mask-lt (c .before .before .before .scan .result .rows)) (c .before .before .before .scan .ensures) (c .before .before .settled .ensures (c .before .if1 .taken))
 
 transport-requires : tie.Need-transport-requires
 transport-requires c κs = search needs
@@ -29,4 +26,10 @@ returns-2 c = search needs
 pub cut-spec : {M : Type 1} → statement M
 cut-spec =
     tie.close
-    (tie.spec scan-requires settled-requires returns transport-requires same-length returns-2)
+    (tie.spec
+    scan-requires
+    settled-requires
+    returns
+    transport-requires
+    same-length
+    returns-2)

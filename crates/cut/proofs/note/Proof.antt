@@ -1,28 +1,29 @@
--- `cut::note` meets its contract. Assumes nothing.
-use borrow.Author.Needs.{needs}
+-- `quick::note` meets its contract. Assumes nothing.
+use Rattle.relation.specs.Mask.{member}
+use Rattle.relation.specs.Words.{mask}
+use Rattle.relation.proofs.Sets.{mask-lt, both-by, except-by, is-none, is-some}
 use Rattle.cut.proofs.QuickLaws.{lacking-skip, lacking-next}
+use borrow.Author.Needs.{needs}
 use Rattle.cut.proofs.note.Statement.{statement}
 use Rattle.cut.proofs.note.Tie as tie
 
-mul-difference : tie.Need-mul-difference
-mul-difference c = search needs
-
-shared-slice-read-difference : tie.Need-shared-slice-read-difference
-shared-slice-read-difference c = search needs
+get-requires : tie.Need-get-requires
+get-requires c κs = search needs
 
 difference-requires : tie.Need-difference-requires
 difference-requires c κs = search needs
 
+is-empty-requires : tie.Need-is-empty-requires
+is-empty-requires c κs = search needs
+
 returns : tie.Need-returns
 returns c =
-    let entry = c .before .before .before .before in
-    lacking-skip _ _ (entry .pre .3) (entry .pre .2) (c .before .difference .ensures) (c .if1 .taken)
+    let entry = (c .before .before .before .before .before) in
+    let a = member (mask (entry .args .all)) in
+    lacking-skip _ _ (entry .pre .3) (entry .pre .2) (except-by (c .before .before .before .get .ensures) a (c .before .before .difference .ensures)) (is-none (c .before .is-empty .ensures) (c .if1 .taken))
 
-mul-intersection : tie.Need-mul-intersection
-mul-intersection c = search needs
-
-shared-slice-read-intersection : tie.Need-shared-slice-read-intersection
-shared-slice-read-intersection c = search needs
+get-requires-2 : tie.Need-get-requires-2
+get-requires-2 c κs = search needs
 
 intersection-requires : tie.Need-intersection-requires
 intersection-requires c κs = search needs
@@ -38,23 +39,20 @@ union-requires-2 c κs = search needs
 
 returns-2 : tie.Need-returns-2
 returns-2 c =
-    let at-insert = c .before .before in
-    let at-if1 = at-insert .before .before .before in
-    let at-difference = at-if1 .before in
-    let entry = at-difference .before .before .before in
-    lacking-next _ _ (entry .pre .3) (entry .pre .2) (at-difference .difference .ensures) _ _ _ _ (at-if1 .if1 .left) (at-difference .difference .ok)
-    (at-insert .before .intersection .ensures) (at-insert .insert .ensures) (c .before .union .ensures) (c .union2 .ensures)
+    let entry = (c .before .before .before .before .before .before .before .before .before .before) in
+    let a = member (mask (entry .args .all)) in
+    lacking-next _ _ (entry .pre .3) (entry .pre .2) (except-by (c .before .before .before .before .before .before .before .before .get .ensures) a (c .before .before .before .before .before .before .before .difference .ensures)) _ _ _ _ (is-some (c .before .before .before .before .before .before .is-empty .ensures) (c .before .before .before .before .before .if1 .left)) (mask-lt (c .before .before .before .before .before .before .before .difference .result))
+    (both-by (c .before .before .before .before .get2 .ensures) a (c .before .before .before .intersection .ensures)) (c .before .before .insert .ensures) (c .before .union .ensures) (c .union2 .ensures)
 
 pub note-spec : {M : Type 1} → statement M
 note-spec =
     tie.close
     (tie.spec
-    mul-difference
-    shared-slice-read-difference
+    get-requires
     difference-requires
+    is-empty-requires
     returns
-    mul-intersection
-    shared-slice-read-intersection
+    get-requires-2
     intersection-requires
     insert-requires
     union-requires

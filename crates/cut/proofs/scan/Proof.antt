@@ -1,13 +1,14 @@
--- `cut::scan` meets its contract: the rows passed are noted. Assumes nothing.
+-- `quick::scan` meets its contract: the rows passed are noted. Assumes nothing.
 use Prim.Native.Nat.{_≤_, _-_}
-use native.Mathlib.Omega.{arith}
+use Rattle.relation.specs.Words.{mask}
 use Rattle.cut.specs.Quick.{Lacking}
-use Rattle.cut.proofs.QuickLaws.{lacking-none, lacking-is}
+use Rattle.cut.proofs.QuickLaws.{lacking-start, lacking-is}
+use native.Mathlib.Omega.{arith}
 use Rattle.cut.proofs.scan.Statement.{statement}
 use Rattle.cut.proofs.scan.Tie as tie
 
 abbrev Inv-loop : tie.InvT-loop
-Inv-loop rel p q all s₀ i₀ s i = (i ≤ p) × Lacking rel i q (s .rows) (s .has) (s .lacks)
+Inv-loop rel p q all s₀ i₀ s i = (i ≤ p) × Lacking rel i q (mask (s .rows)) (mask (s .has)) (mask (s .lacks))
 
 abbrev μ-loop : tie.MeasureT-loop
 μ-loop rel p q all s₀ i₀ s i = p - i
@@ -15,14 +16,20 @@ abbrev μ-loop : tie.MeasureT-loop
 below-requires : tie.Need-below-requires Inv-loop μ-loop
 below-requires c κs = omega arith
 
+empty-requires : tie.Need-empty-requires Inv-loop μ-loop
+empty-requires c κs = tt
+
+empty-requires-2 : tie.Need-empty-requires-2 Inv-loop μ-loop
+empty-requires-2 c κs = tt
+
+empty-requires-3 : tie.Need-empty-requires-3 Inv-loop μ-loop
+empty-requires-3 c κs = tt
+
 loop-holds : tie.Need-loop-holds Inv-loop μ-loop
-loop-holds c = (omega arith, lacking-none _ _)
+loop-holds c = (omega arith, lacking-start _ _ (c .before .before .empty .ensures) (c .before .empty2 .ensures) (c .empty3 .ensures))
 
 note-requires : tie.Need-note-requires Inv-loop μ-loop
-note-requires c κs =
-    let at-loop = c .before in
-    let at-below = at-loop .before in
-    (omega arith, omega arith, at-below .below .ensures, at-loop .loop .inv .1)
+note-requires c κs = (omega arith, omega arith, c .before .before .before .before .before .below .ensures, c .before .loop .inv .1)
 
 add-i : tie.Need-add-i Inv-loop μ-loop
 add-i c = omega arith
@@ -43,6 +50,9 @@ scan-spec =
     Inv-loop
     μ-loop
     below-requires
+    empty-requires
+    empty-requires-2
+    empty-requires-3
     loop-holds
     note-requires
     add-i

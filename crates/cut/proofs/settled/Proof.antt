@@ -1,17 +1,23 @@
--- `cut::settled` meets its contract. Assumes nothing.
+-- `quick::settled` meets its contract. Assumes nothing.
 use mathlib.Core.Path.{sym}
 use mathlib.Core.Bool.{true≢false}
-use borrow.Author.Tests.{eqb-true}
-use borrow.Author.Needs.{needs}
+use Rattle.relation.proofs.Sets.{is-none, not-none}
 use Rattle.cut.proofs.QuickLaws.{settled-none, settled-alike}
+use borrow.Author.Needs.{needs}
 use Rattle.cut.proofs.settled.Statement.{statement}
 use Rattle.cut.proofs.settled.Tie as tie
 
+is-empty-requires : tie.Need-is-empty-requires
+is-empty-requires c κs = search needs
+
 returns : tie.Need-returns
-returns c = λ _. settled-none _ _ _ _ (c .if1 .taken)
+returns c = λ _. settled-none _ _ _ _ (is-none (c .before .is-empty .ensures) (c .if1 .taken))
 
 intersection-requires : tie.Need-intersection-requires
 intersection-requires c κs = search needs
+
+is-empty-requires-2 : tie.Need-is-empty-requires-2
+is-empty-requires-2 c κs = search needs
 
 returns-2 : tie.Need-returns-2
 returns-2 c = λ e. absurd (true≢false (sym e))
@@ -22,12 +28,22 @@ below-requires c κs = search needs
 difference-requires : tie.Need-difference-requires
 difference-requires c κs = search needs
 
+is-empty-requires-3 : tie.Need-is-empty-requires-3
+is-empty-requires-3 c κs = search needs
+
 returns-3 : tie.Need-returns-3
-returns-3 c =
-    let at-if2 = c .before .before in
-    λ e. settled-alike _ _ _ _ _ _ _ (at-if2 .before .intersection .ensures) (at-if2 .if2 .left) (c .before .below .ensures) (c .difference .ensures) (eqb-true _ 0 e)
+returns-3 c = λ e. settled-alike _ _ _ _ _ _ _ (c .before .before .before .before .before .intersection .ensures) (not-none (c .before .before .before .before .is-empty2 .ensures) (c .before .before .before .if2 .left)) (c .before .before .below .ensures) (c .before .difference .ensures) (is-none (c .is-empty3 .ensures) e)
 
 pub settled-spec : {M : Type 1} → statement M
 settled-spec =
     tie.close
-    (tie.spec returns intersection-requires returns-2 below-requires difference-requires returns-3)
+    (tie.spec
+    is-empty-requires
+    returns
+    intersection-requires
+    is-empty-requires-2
+    returns-2
+    below-requires
+    difference-requires
+    is-empty-requires-3
+    returns-3)

@@ -3,7 +3,7 @@
 use mathlib.Core.Path.{refl}
 use Prim.Native.Nat.{_+_, _≤_}
 use native.Mathlib.Omega.{arith}
-use Rattle.form.specs.Limits.{most-states}
+use Rattle.simulation.specs.Limits.{most-states}
 use Rattle.form.specs.Form.{starts-from, start-of}
 use Rattle.form.proofs.first.Statement.{statement}
 use Rattle.form.proofs.first.Tie as tie

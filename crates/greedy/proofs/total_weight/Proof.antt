@@ -1,4 +1,4 @@
--- `greedy::total_weight` meets its contract: a weight is below 2^16, so that 64 of them fit. Assumes nothing.
+-- `transport::total_weight` meets its contract: a weight is below 2^16, so that most-states of them fit. Assumes nothing.
 use mathlib.Core.Path.{_≡_, ap, _∙_}
 use Prim.Native.Nat.{ℕ, _*_, _≤_, _-_}
 use native.Mathlib.Omega.{arith}

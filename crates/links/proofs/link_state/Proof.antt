@@ -11,6 +11,7 @@ use Rattle.form.specs.Form.{transitions-of, transition-at}
 use Rattle.form.proofs.FormLaws.{limits, counts, start-bound}
 use Rattle.relation.specs.Related.{holds}
 use Rattle.matching.specs.Held.{Places}
+use Rattle.relation.specs.Words.{height}
 use Rattle.links.specs.Links.{Joins}
 use Rattle.matching.proofs.Fitting.{places-of}
 use Rattle.links.proofs.Growing.{joins-none, joins-more, links-next}
@@ -51,7 +52,7 @@ link-targets-requires c κs =
     let d = l .before .before .before .before .before in
     let f = d .args .f .now in
     let b : l .loop .j < transitions-of f = omega (arith, c .before .before .loop-test .taken, l .before .before .first .ensures, start-bound f (d .pre .0) (d .args .s + 1) (omega (arith, d .pre .1))) in (
-      subst (Places (length (l .loop .before))) (sym (c .before .targets .ensures)) (places-of (length (l .loop .before)) f (d .pre .0) (l .loop .j) b (omega (arith, l .loop .inv .2, d .pre .2))),
+      subst (Places (height (l .loop .before))) (sym (c .before .targets .ensures)) (places-of (height (l .loop .before)) f (d .pre .0) (l .loop .j) b (omega (arith, l .loop .inv .2, d .pre .2))),
       omega (arith, d .pre .1, limits f (d .pre .0) .states-few),
     )
 

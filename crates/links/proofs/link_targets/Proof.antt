@@ -1,20 +1,21 @@
--- `links::link_targets` meets its contract. The loop's invariant: the targets passed are linked.
--- Assumes nothing.
-use mathlib.Core.Path.{_≡_, refl, sym, ap, _∙_}
+-- `links::link_targets` meets its contract: the targets passed are linked. Assumes nothing.
+use mathlib.Core.Path.{_≡_, refl, sym, ap, _∙_, subst}
 use mathlib.Core.Bool.{true}
-use Prim.Native.Nat.{ℕ, _-_, _≤_, _<_}
-use native.Mathlib.Omega.{arith}
-use borrow.Author.Needs.{needs}
-use lib.ListN.{length, getD, set, length-set}
+use Prim.Native.Nat.{ℕ, _+_, _-_, _≤_, _<_}
+use mathlib.Core.List.{List}
+use lib.ListN.{length, getD}
+use Rattle.relation.specs.Mask.{with-member, member}
+use Rattle.relation.specs.Words.{mask, row-of, height, put-row}
+use Rattle.relation.proofs.Sets.{length-put}
 use Rattle.relation.specs.Related.{holds}
 use Rattle.links.specs.Links.{Joins}
 use Rattle.links.proofs.Growing.{with-new, joins-none, joins-more, joins-set, set-here, each-next}
+use native.Mathlib.Omega.{arith}
 use Rattle.links.proofs.link_targets.Statement.{statement}
 use Rattle.links.proofs.link_targets.Tie as tie
 
 abbrev Inv-loop : tie.InvT-loop
-Inv-loop to s before₀ i₀ before i =
-    (i ≤ length to) × (length before ≡ length before₀) × Joins s before₀ before × ((k : ℕ) → k < i → holds before (getD to k 0) s ≡ true)
+Inv-loop to s before₀ i₀ before i = (i ≤ length to) × (length before ≡ length before₀) × Joins s before₀ before × ((k : ℕ) → k < i → holds before (getD to k 0) s ≡ true)
 
 abbrev μ-loop : tie.MeasureT-loop
 μ-loop to s before₀ i₀ before i = length to - i
@@ -29,50 +30,39 @@ shared-slice-read-wide : tie.Need-shared-slice-read-wide Inv-loop μ-loop
 shared-slice-read-wide c = omega arith
 
 wide-requires : tie.Need-wide-requires Inv-loop μ-loop
-wide-requires c κs = search needs
+wide-requires c κs = tt
 
-mul-insert : tie.Need-mul-insert Inv-loop μ-loop
-mul-insert c =
-    let l = c .before .before .before in
-    omega (arith, c .wide .ensures, l .before .before .before .pre .0 .below (l .loop .i) (omega arith))
-
-slice-read-insert : tie.Need-slice-read-insert Inv-loop μ-loop
-slice-read-insert c =
-    let l = c .before .before .before .before in
-    omega (arith, c .before .wide .ensures, l .before .before .before .pre .0 .below (l .loop .i) (omega arith), l .loop .inv .1)
+get-requires : tie.Need-get-requires Inv-loop μ-loop
+get-requires c κs = omega (arith, c .before .before .wide .ensures, c .before .before .before .before .before .before .before .before .pre .0 .below (c .before .before .before .before .before .loop .i) (omega arith), c .before .before .before .before .before .loop .inv .1)
 
 insert-requires : tie.Need-insert-requires Inv-loop μ-loop
-insert-requires c κs = search needs
+insert-requires c κs = c .before .before .before .before .before .before .before .before .before .pre .1
 
-mul-before : tie.Need-mul-before Inv-loop μ-loop
-mul-before c =
-    let l = c .before .before .before .before .before in
-    omega (arith, c .before .before .wide .ensures, l .before .before .before .pre .0 .below (l .loop .i) (omega arith))
-
-slice-write-before : tie.Need-slice-write-before Inv-loop μ-loop
-slice-write-before c =
-    let l = c .before .before .before .before .before in
-    omega (arith, c .before .before .wide .ensures, l .before .before .before .pre .0 .below (l .loop .i) (omega arith), l .loop .inv .1)
+put-requires : tie.Need-put-requires Inv-loop μ-loop
+put-requires c κs = omega (arith, c .before .before .before .before .wide .ensures, c .before .before .before .before .before .before .before .before .before .before .pre .0 .below (c .before .before .before .before .before .before .before .loop .i) (omega (arith, c .before .before .before .before .before .before .loop-test .taken)), c .before .before .before .before .before .before .before .loop .inv .1)
 
 add-i : tie.Need-add-i Inv-loop μ-loop
-add-i c = omega arith
+add-i c = omega (arith, c .before .before .before .before .before .before .before .before .before .loop-test .taken)
 
 loop-less : tie.Need-loop-less Inv-loop μ-loop
-loop-less c = omega arith
+loop-less c = omega (arith, c .before .before .before .before .before .before .before .before .before .loop-test .taken)
 
 loop-again : tie.Need-loop-again Inv-loop μ-loop
 loop-again c =
-    let l = c .before .before .before .before .before in
-    let a = l .before .before .before .args in
-    let t = c .before .before .wide .result in
-    let x = c .insert .result in
-    let room = slice-write-before c in
-    let grows = joins-set (l .loop .before) (a .s) t x room (c .insert .ensures) in (
-      omega arith,
-      length-set (l .loop .before) t x ∙ l .loop .inv .1,
-      joins-more (l .loop .inv .2) grows,
-      each-next _ (l .loop .i) (λ k b. grows .grown .still _ _ (l .loop .inv .3 k b))
-          (ap (λ (n : ℕ). holds (set (l .loop .before) t x) n (a .s)) (sym (c .before .before .wide .ensures)) ∙ set-here (l .loop .before) t x (a .s) room (with-new (getD (l .loop .before) t 0) x (a .s) (c .insert .ensures))),
+    let a = c .before .before .before .before .before .before .before .before .before .before .before .before .before .args in
+    let o = c .before .before .before .before .before .before .before .before .before .before .loop in
+    let t = c .before .before .before .before .before .before .before .wide .result in
+    let x = c .before .before .before .insert .result in
+    let e = c .before .before .put .ensures in
+    let room : t < height (o .before) = omega (arith, c .before .before .before .before .before .before .before .wide .ensures, c .before .before .before .before .before .before .before .before .before .before .before .before .before .pre .0 .below (o .i) (omega (arith, c .before .before .before .before .before .before .before .before .before .loop-test .taken)), o .inv .1) in
+    let row = c .before .before .before .insert .ensures ∙ ap (λ (n : ℕ). with-member (a .s) (member n)) (c .before .before .before .before .get .ensures) in
+    let grows = joins-set (o .before) (a .s) t x room row in (
+      omega (arith, c .before .before .before .before .before .before .before .before .before .loop-test .taken),
+      ap length e ∙ length-put (o .before) t x ∙ o .inv .1,
+      subst (Joins (a .s) (a .before .now)) (sym e) (joins-more (o .inv .2) grows),
+      subst (λ (l : List ℕ). (k : ℕ) → k < o .i + 1 → holds l (getD (a .to .now) k 0) (a .s) ≡ true) (sym e)
+          (each-next _ (o .i) (λ k b. grows .grown .still _ _ (o .inv .3 k b))
+          (ap (λ (n : ℕ). holds (put-row (o .before) t x) n (a .s)) (sym (c .before .before .before .before .before .before .before .wide .ensures)) ∙ set-here (o .before) t x (a .s) room (with-new (row-of (o .before) t) (mask x) (a .s) row))),
     )
 
 same-length : tie.Need-same-length Inv-loop μ-loop
@@ -91,11 +81,9 @@ link-targets-spec =
     mul-wide
     shared-slice-read-wide
     wide-requires
-    mul-insert
-    slice-read-insert
+    get-requires
     insert-requires
-    mul-before
-    slice-write-before
+    put-requires
     add-i
     loop-less
     loop-again

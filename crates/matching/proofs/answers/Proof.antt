@@ -5,8 +5,9 @@ use Prim.Native.Nat.{ℕ, _+_, _-_, _*_, _≤_}
 use native.Mathlib.Omega.{arith}
 use borrow.Author.Needs.{needs}
 use lib.ListN.{length, length-set}
+use Rattle.simulation.specs.Limits.{most-states}
 use Rattle.form.specs.Form.{start-of}
-use Rattle.form.proofs.FormLaws.{limits, start-bound}
+use Rattle.form.proofs.FormLaws.{limits, start-bound, few-each}
 use Rattle.matching.specs.Held.{relation-of}
 use Rattle.matching.specs.Known.{Tried}
 use Rattle.matching.proofs.Steps.{one-passes, none-passes}
@@ -54,7 +55,7 @@ add-l c =
     omega (
       arith,
       c .index .ensures,
-      c .before .slice-known3 .given (d .args .j * 64 + d .args .t),
+      c .before .slice-known3 .given (d .args .j * most-states + d .args .t),
       c .before .before .before .first .ensures,
       start-few (d .args .second .now) (d .pre .0 .second) (d .args .t) (omega (arith, d .pre .3)),
     )
@@ -85,7 +86,7 @@ cast-tried c =
       arith,
       c .before .before .before .before .before .loop-test .taken,
       l .before .before .before .first2 .ensures,
-      start-few (d .args .second .now) (d .pre .0 .second) (d .args .t + 1) (omega (arith, d .pre .3)),
+      few-each (d .args .second .now) (d .pre .0 .second) (d .args .t) (d .pre .3),
     )
 
 slice-write-tried : tie.Need-slice-write-tried Inv-loop μ-loop
@@ -113,7 +114,7 @@ returns c =
           one-passes g (d .pre .0 .second) (d .args .t) (d .pre .3) _ (l .loop .l) (l .loop .inv .0) (omega (arith, c .before .before .before .before .before .loop-test .taken, l .before .before .before .first2 .ensures))
           (c .before .before .before .fits-step .ensures) (c .if1 .taken);
       known =
-          tried-next f g _ (d .args .j) (d .args .t) (l .loop .tried) n (limits g (d .pre .0 .second) .states-few) (d .pre .3) (slice-write-tried c)
+          tried-next f g _ (d .args .j) (d .args .t) (l .loop .tried) n (omega (arith, limits g (d .pre .0 .second) .states-few)) (d .pre .3) (slice-write-tried c)
           (subst (Tried f g _) (sym (l .loop .inv .1)) (d .pre .1)) (subst (Passing f g _ (d .args .j) (d .args .t)) (sym e) (l .loop .inv .3));
     }
 

@@ -2,10 +2,11 @@
 -- Assumes nothing.
 use mathlib.Core.Path.{_≡_, sym, _∙_, subst}
 use native.Mathlib.Omega.{arith}
-use lib.ListN.{length}
 use Rattle.simulation.specs.Round.{fits-step}
 use Rattle.form.specs.Form.{transition-at}
 use Rattle.form.proofs.FormLaws.{limits}
+use Rattle.relation.specs.Words.{height}
+use Rattle.matching.specs.Known.{SetOf}
 use Rattle.matching.specs.Held.{Places, relation-of}
 use Rattle.matching.proofs.Sets.{set-at}
 use Rattle.matching.proofs.Fitting.{places-of, other-code, same-code, Tells, by-sets}
@@ -24,7 +25,7 @@ told n =
     let i = n .before .before .before in
     let d = i .before .before .before .before .before .before .before .before in
     by-sets (d .args .first .now) (d .args .second .now) (d .args .rows .now) (d .pre .0 .first) (d .pre .0 .second) (d .args .j) (d .args .l) (d .pre .1) (d .pre .2)
-    (n .before .before .targets .ensures) (set-at (d .pre .0 .masks) (d .args .l) (d .pre .2)) (n .scan .result) (same i) (n .scan .ensures)
+    (n .before .before .targets .ensures) (subst (SetOf _ _) (sym (n .before .get .ensures)) (set-at (d .pre .0 .masks) (d .args .l) (d .pre .2))) (n .scan .result) (same i) (n .scan .ensures)
 
 code-requires : tie.Need-code-requires
 code-requires c κs = search needs
@@ -38,19 +39,16 @@ returns c = other-code _ _ _ (λ e. c .if1 .taken (c .before .before .code .ensu
 targets-requires : tie.Need-targets-requires
 targets-requires c κs = search needs
 
-mul-scan : tie.Need-mul-scan
-mul-scan c = search needs
-
-shared-slice-read-scan : tie.Need-shared-slice-read-scan
-shared-slice-read-scan c =
-    let d = c .before .before .before .before .before .before .before .before .before .before in
+get-requires : tie.Need-get-requires
+get-requires c κs =
+    let d = c .before .before .before .before .before .before .before .before .before in
     omega (arith, d .pre .2, d .pre .0 .masks .room, limits (d .args .second .now) (d .pre .0 .second) .transitions-few)
 
 scan-requires : tie.Need-scan-requires
 scan-requires c κs =
     let d = c .before .before .before .before .before .before .before .before .before .before in
-    subst (Places (length (d .args .rows .now))) (sym (c .before .targets .ensures))
-    (places-of (length (d .args .rows .now)) (d .args .first .now) (d .pre .0 .first) (d .args .j) (d .pre .1) (d .pre .0 .rows-room))
+    subst (Places (height (d .args .rows .now))) (sym (c .before .targets .ensures))
+    (places-of (height (d .args .rows .now)) (d .args .first .now) (d .pre .0 .first) (d .args .j) (d .pre .1) (omega (arith, d .pre .0 .rows-room)))
 
 enum-told : tie.Need-enum-told
 enum-told c = search needs
@@ -84,8 +82,7 @@ fits-step-spec =
     code-requires-2
     returns
     targets-requires
-    mul-scan
-    shared-slice-read-scan
+    get-requires
     scan-requires
     enum-told
     enum-told-2

@@ -1,13 +1,13 @@
--- `matching::gather` meets its contract. The loop's invariant: the rows passed are gathered.
--- Assumes nothing.
-use mathlib.Core.Path.{_≡_, refl, ap, _∙_}
-use Prim.Native.Nat.{ℕ, _-_, _≤_}
-use native.Mathlib.Omega.{arith}
-use borrow.Author.Needs.{needs}
-use lib.ListN.{length, getD, length-set}
+-- `gather` meets its contract: the rows passed are gathered. Assumes nothing.
+use mathlib.Core.Path.{_≡_, refl, sym, ap, _∙_, subst}
+use Prim.Native.Nat.{ℕ, _+_, _-_, _≤_}
+use lib.ListN.{length}
 use Rattle.relation.specs.Mask.{part}
+use Rattle.relation.specs.Words.{row-of}
+use Rattle.relation.proofs.Sets.{length-put}
 use Rattle.matching.specs.Held.{row-at, Gathered}
 use Rattle.matching.proofs.Gathering.{gather-next}
+use native.Mathlib.Omega.{arith}
 use Rattle.matching.proofs.gather.Statement.{statement}
 use Rattle.matching.proofs.gather.Tie as tie
 
@@ -27,46 +27,39 @@ shared-slice-read-wide : tie.Need-shared-slice-read-wide Inv-loop μ-loop
 shared-slice-read-wide c = omega arith
 
 wide-requires : tie.Need-wide-requires Inv-loop μ-loop
-wide-requires c κs = search needs
+wide-requires c κs = tt
 
 gather-row-requires : tie.Need-gather-row-requires Inv-loop μ-loop
-gather-row-requires c κs =
-    let l = c .before .before .before in
-    let given = l .before .before .before .before .before .pre in
-    (omega (arith, c .wide .ensures, given .0 .below (l .loop .i) (omega arith)), given .1, given .2)
+gather-row-requires c κs = (omega (arith, c .wide .ensures, c .before .before .before .before .before .before .before .before .before .pre .0 .below (c .before .before .before .before .loop .i) (omega arith)), c .before .before .before .before .before .before .before .before .before .pre .1, c .before .before .before .before .before .before .before .before .before .pre .2)
 
-mul-rel : tie.Need-mul-rel Inv-loop μ-loop
-mul-rel c = omega arith
-
-slice-write-rel : tie.Need-slice-write-rel Inv-loop μ-loop
-slice-write-rel c =
-    let l = c .before .before .before .before in
-    omega (arith, l .loop .inv .1, l .before .before .before .before .before .pre .3)
+put-requires : tie.Need-put-requires Inv-loop μ-loop
+put-requires c κs = omega (arith, c .before .before .before .before .loop-test .taken, c .before .before .before .before .before .loop .inv .1, c .before .before .before .before .before .before .before .before .before .before .pre .3)
 
 add-i : tie.Need-add-i Inv-loop μ-loop
-add-i c = omega arith
+add-i c = omega (arith, c .before .before .before .before .before .before .before .loop-test .taken)
 
 loop-less : tie.Need-loop-less Inv-loop μ-loop
-loop-less c = omega arith
+loop-less c = omega (arith, c .before .before .before .before .before .before .before .loop-test .taken)
 
 loop-again : tie.Need-loop-again Inv-loop μ-loop
 loop-again c =
-    let l = c .before .before .before .before in
-    let a = l .before .before .before .before .before .args in
-    let i = l .loop .i in (
+    let a = c .before .before .before .before .before .before .before .before .before .before .before .before .before .args in
+    let o = c .before .before .before .before .before .before .before .before .loop in
+    let t = c .before .before .before .before .before .before .before .loop-test .taken in
+    let e = c .before .before .put .ensures in
+    let g = c .before .before .before .gather-row in (
       omega arith,
-      length-set (l .loop .rel) i (c .gather-row .result) ∙ l .loop .inv .1,
-      gather-next (a .rows .now) (a .from .now) (a .to .now) (l .loop .rel) i (c .gather-row .result) (slice-write-rel c)
-          (c .gather-row .ensures ∙ ap (λ (n : ℕ). part (length (a .to .now)) (row-at (getD (a .rows .now) n 0) (a .to .now))) (c .before .wide .ensures)) (l .loop .inv .2),
+      ap length e ∙ length-put (o .rel) (o .i) (g .result) ∙ o .inv .1,
+      subst (Gathered (a .rows .now) (a .from .now) (a .to .now) (o .i + 1)) (sym e)
+          (gather-next (a .rows .now) (a .from .now) (a .to .now) (o .rel) (o .i) (g .result) (omega (arith, o .inv .1, c .before .before .before .before .before .before .before .before .before .before .before .before .before .pre .3))
+          (g .ensures ∙ ap (λ (n : ℕ). part (length (a .to .now)) (row-at (row-of (a .rows .now) n) (a .to .now))) (c .before .before .before .before .wide .ensures)) (o .inv .2)),
     )
 
 same-length : tie.Need-same-length Inv-loop μ-loop
 same-length c = c .before .loop .inv .1
 
 returns : tie.Need-returns Inv-loop μ-loop
-returns c =
-    let l = c .before in
-    record { related-at = λ i j a b. l .loop .inv .2 .related-at i j (omega arith) b }
+returns c = record { related-at = λ i j a b. c .before .loop .inv .2 .related-at i j (omega arith) b }
 
 pub gather-spec : {M : Type 1} → statement M
 gather-spec =
@@ -79,8 +72,7 @@ gather-spec =
     shared-slice-read-wide
     wide-requires
     gather-row-requires
-    mul-rel
-    slice-write-rel
+    put-requires
     add-i
     loop-less
     loop-again

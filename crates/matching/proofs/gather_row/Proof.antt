@@ -1,22 +1,26 @@
--- `matching::gather_row` meets its contract: of targets that are all states in order the row itself is the answer.
--- Assumes nothing.
+-- `gather_row` meets its contract: of targets that are all states in order the row itself is the answer. Assumes nothing.
 use mathlib.Core.Path.{refl, sym, ap, _∙_}
 use Prim.Native.Nat.{ℕ, _-_}
-use native.Mathlib.Omega.{arith}
-use lib.ListN.{length, getD}
+use lib.ListN.{length}
 use Rattle.relation.specs.Mask.{member, part, both}
+use Rattle.relation.specs.Words.{mask, row-of}
 use Rattle.relation.proofs.Mask.{part-start}
+use Rattle.relation.proofs.Sets.{both-of}
 use Rattle.matching.specs.Held.{row-at}
 use Rattle.matching.proofs.Gathering.{dense-row}
 use borrow.Author.Needs.{needs}
+use native.Mathlib.Omega.{arith}
 use Rattle.matching.proofs.gather_row.Statement.{statement}
 use Rattle.matching.proofs.gather_row.Tie as tie
 
+empty-requires : tie.Need-empty-requires
+empty-requires c κs = search needs
+
 returns : tie.Need-returns
 returns c =
-    let a = c .before .before .before .args in
-    let X = row-at (getD (a .rows .now) (a .s) 0) (a .to .now) in
-    part-start X ∙ ap (λ (n : ℕ). part n X) (sym (c .if1 .taken))
+    let a = c .before .before .before .before .args in
+    let X = row-at (row-of (a .rows .now) (a .s)) (a .to .now) in
+    ap member (c .empty .ensures) ∙ part-start X ∙ ap (λ (n : ℕ). part n X) (sym (c .before .if1 .taken))
 
 sub-wide : tie.Need-sub-wide
 sub-wide c = search needs
@@ -31,15 +35,10 @@ wide-requires : tie.Need-wide-requires
 wide-requires c κs = search needs
 
 add-if2 : tie.Need-add-if2
-add-if2 c =
-    let d = c .before .before .before .before .before in
-    omega (arith, c .wide .ensures, d .pre .1 .below (length (d .args .to .now) - 1) (omega arith))
+add-if2 c = omega (arith, c .wide .ensures, c .before .before .before .before .before .pre .1 .below (length (c .before .before .before .before .before .args .to .now) - 1) (omega arith))
 
-mul-intersection : tie.Need-mul-intersection
-mul-intersection c = search needs
-
-shared-slice-read-intersection : tie.Need-shared-slice-read-intersection
-shared-slice-read-intersection c = search needs
+get-requires : tie.Need-get-requires
+get-requires c κs = search needs
 
 below-requires : tie.Need-below-requires
 below-requires c κs = search needs
@@ -49,12 +48,11 @@ intersection-requires c κs = search needs
 
 returns-2 : tie.Need-returns-2
 returns-2 c =
-    let d = c .before .before .before .before .before .before .before .before .before in
+    let d = (c .before .before .before .before .before .before .before .before .before) in
     let a = d .args in
-    let row = getD (a .rows .now) (a .s) 0 in
-    c .intersection .ensures
-    ∙ ap (both (member row)) (c .before .below .ensures)
-    ∙ dense-row (a .to .now) (d .pre .2) row refl (omega arith) (omega (arith, c .before .before .before .before .wide .ensures))
+    both-of (c .before .before .get .ensures) (member (mask (c .before .below .result))) (c .intersection .ensures)
+    ∙ ap (both (member (row-of (a .rows .now) (a .s)))) (c .before .below .ensures)
+    ∙ dense-row (a .to .now) (d .pre .2) (row-of (a .rows .now) (a .s)) refl (omega arith) (omega (arith, c .before .before .before .before .wide .ensures))
 
 sparse-row-requires : tie.Need-sparse-row-requires
 sparse-row-requires c κs = search needs
@@ -66,14 +64,14 @@ pub gather-row-spec : {M : Type 1} → statement M
 gather-row-spec =
     tie.close
     (tie.spec
+    empty-requires
     returns
     sub-wide
     mul-wide
     shared-slice-read-wide
     wide-requires
     add-if2
-    mul-intersection
-    shared-slice-read-intersection
+    get-requires
     below-requires
     intersection-requires
     returns-2

@@ -1,31 +1,46 @@
--- `matching::settle` meets its contract: a member of a difference is the witness.
--- Assumes nothing.
-use borrow.Author.Needs.{needs}
+-- `settle` meets its contract: a member of a difference is the witness. Assumes nothing.
+use Rattle.relation.specs.Words.{mask}
+use Rattle.relation.proofs.Sets.{mask-lt, is-none, not-some}
 use Rattle.matching.proofs.Covering.{missing, covered}
+use borrow.Author.Needs.{needs}
 use Rattle.matching.proofs.settle.Statement.{statement}
 use Rattle.matching.proofs.settle.Tie as tie
 
 difference-requires : tie.Need-difference-requires
 difference-requires c κs = search needs
 
+is-empty-requires : tie.Need-is-empty-requires
+is-empty-requires c κs = search needs
+
 returns : tie.Need-returns
 returns c =
-    let d = c .before .difference in
-    let a = c .before .before .args in
-    missing (a .to) (a .some) (d .result) (d .ok) (c .if1 .taken) (d .ensures)
+    let a = c .before .before .before .args in
+    let d = c .before .before .difference in
+    covered (mask (a .to)) (mask (a .every)) (mask (d .result)) (is-none (c .before .is-empty .ensures) (c .if1 .taken)) (d .ensures)
 
 difference-requires-2 : tie.Need-difference-requires-2
 difference-requires-2 c κs = search needs
 
+is-empty-requires-2 : tie.Need-is-empty-requires-2
+is-empty-requires-2 c κs = search needs
+
 returns-2 : tie.Need-returns-2
 returns-2 c =
-    let d = c .before .difference2 in
-    let a = c .before .before .before .before .args in
-    covered (a .to) (a .every) (d .result) (c .if2 .taken) (d .ensures)
+    let a = c .before .before .before .before .before .before .args in
+    let d = c .before .before .difference2 in
+    missing (mask (a .to)) (mask (a .some)) (mask (d .result)) (mask-lt (d .result)) (not-some (c .before .is-empty2 .ensures) (c .if2 .taken)) (d .ensures)
 
 returns-3 : tie.Need-returns-3
 returns-3 c = search needs
 
 pub settle-spec : {M : Type 1} → statement M
 settle-spec =
-    tie.close (tie.spec difference-requires returns difference-requires-2 returns-2 returns-3)
+    tie.close
+    (tie.spec
+    difference-requires
+    is-empty-requires
+    returns
+    difference-requires-2
+    is-empty-requires-2
+    returns-2
+    returns-3)

@@ -1,81 +1,63 @@
--- `matching::sparse_row` meets its contract. The loop's invariant: the places passed are gathered.
--- Assumes nothing.
-use mathlib.Core.Path.{_≡_, ap, _∙_}
-use Prim.Native.Nat.{ℕ, _-_, _≤_}
-use native.Mathlib.Omega.{arith}
-use borrow.Author.Needs.{needs}
-use lib.ListN.{length, getD}
-use Rattle.relation.specs.Mask.{member, part, bit}
-use Rattle.relation.specs.Related.{holds}
+-- `sparse_row` meets its contract: by one word, or by two. Assumes nothing.
+use mathlib.Core.Path.{_≡_, _∙_}
+use Prim.Native.Nat.{_-_}
+use lib.ListN.{length, take, drop, length-take, length-drop}
+use Rattle.simulation.specs.Limits.{most-states}
+use Rattle.relation.specs.Mask.{member}
+use Rattle.relation.specs.Words.{row-of}
 use Rattle.matching.specs.Held.{row-at}
-use Rattle.simulation.proofs.Finite.Sums.{one-most}
-use Rattle.relation.proofs.Mask.{part-start, part-bit}
+use Rattle.relation.proofs.Sets.{low-part, high-part, part-take, part-drop}
+use Rattle.matching.proofs.Gathering.{places-take, places-drop}
+use borrow.Author.Needs.{needs}
+use native.Mathlib.Omega.{arith}
 use Rattle.matching.proofs.sparse_row.Statement.{statement}
 use Rattle.matching.proofs.sparse_row.Tie as tie
 
-abbrev Inv-loop : tie.InvT-loop
-Inv-loop rows s to r₀ j₀ r j = (j ≤ length to) × (member r ≡ part j (row-at (getD rows s 0) to))
+row-word-requires : tie.Need-row-word-requires
+row-word-requires c κs = search needs
 
-abbrev μ-loop : tie.MeasureT-loop
-μ-loop rows s to r₀ j₀ r j = length to - j
+returns : tie.Need-returns
+returns c = let a = c .before .before .before .before .args in low-part (row-at (row-of (a .rows .now) (a .s)) (a .to .now)) (length (a .to .now)) (c .row-word .result) (omega arith) (c .row-word .ensures)
 
-loop-holds : tie.Need-loop-holds Inv-loop μ-loop
-loop-holds c = (omega arith, part-start _)
+slice-aggregate-row-word : tie.Need-slice-aggregate-row-word
+slice-aggregate-row-word c = let e : 64 ≡ length (take 64 (c .before .before .before .before .args .to .now)) = simp length-take (omega arith) in e
 
-mul-wide : tie.Need-mul-wide Inv-loop μ-loop
-mul-wide c = omega arith
+row-word-requires-2 : tie.Need-row-word-requires-2
+row-word-requires-2 c κs = (c .before .before .before .before .pre .0, places-take most-states 64 (c .before .before .before .before .args .to .now) (c .before .before .before .before .pre .1), simp length-take (omega arith))
 
-shared-slice-read-wide : tie.Need-shared-slice-read-wide Inv-loop μ-loop
-shared-slice-read-wide c = omega arith
+sub-row-word : tie.Need-sub-row-word
+sub-row-word c = search needs
 
-wide-requires : tie.Need-wide-requires Inv-loop μ-loop
-wide-requires c κs = search needs
+part-row-word-start : tie.Need-part-row-word-start
+part-row-word-start c = search needs
 
-bit-requires : tie.Need-bit-requires Inv-loop μ-loop
-bit-requires c κs =
-    let l = c .before .before .before in
-    let given = l .before .before .before .pre in
-    (given .0, rw (← c .wide .ensures) at (given .1 .below (l .loop .j) (omega arith)))
+part-row-word-end : tie.Need-part-row-word-end
+part-row-word-end c = search needs
 
-with-bit-requires : tie.Need-with-bit-requires Inv-loop μ-loop
-with-bit-requires c κs =
-    let d = c .before .before .before .before .before .before .before in
-    (omega (arith, d .pre .1 .few), omega (arith, c .bit .ensures, one-most (holds (d .args .rows .now) (d .args .s) (c .before .wide .result))))
+row-word-requires-3 : tie.Need-row-word-requires-3
+row-word-requires-3 c κs =
+    let to = c .before .before .before .before .before .before .args .to .now in
+    let p = c .before .before .before .before .before .before .pre .1 in
+    (c .before .before .before .before .before .before .pre .0, places-take most-states (length to - 64) (drop 64 to) (places-drop most-states 64 to p), simp (length-take, length-drop) (omega (arith, p .few)))
 
-add-j : tie.Need-add-j Inv-loop μ-loop
-add-j c = omega arith
-
-loop-less : tie.Need-loop-less Inv-loop μ-loop
-loop-less c = omega arith
-
-loop-again : tie.Need-loop-again Inv-loop μ-loop
-loop-again c =
-    let l = c .before .before .before .before .before in
-    let a = l .before .before .before .args in (
-      omega arith,
-      part-bit (row-at (getD (a .rows .now) (a .s) 0) (a .to .now)) (l .loop .j) (l .loop .r) (c .with-bit .result) (c .before .bit .result) (l .loop .inv .1)
-          (c .before .bit .ensures ∙ ap (bit (holds (a .rows .now) (a .s))) (c .before .before .wide .ensures)) (c .with-bit .ensures),
-    )
-
-returns : tie.Need-returns Inv-loop μ-loop
-returns c =
-    let l = c .before in
-    let a = l .before .before .before .args in
-    l .loop .inv .1 ∙ ap (λ (n : ℕ). part n (row-at (getD (a .rows .now) (a .s) 0) (a .to .now))) (omega arith)
+returns-2 : tie.Need-returns-2
+returns-2 c =
+    let a = c .before .before .before .before .before .before .before .args in
+    let R = row-of (a .rows .now) (a .s) in
+    let to = a .to .now in
+    high-part (row-at R to) (length to) (c .before .before .row-word2 .result) (c .row-word3 .result) (omega arith) (c .before .before .before .before .before .before .before .pre .1 .few)
+    (c .before .before .row-word2 .ensures ∙ part-take (member R) 64 to (omega arith)) (c .row-word3 .ensures ∙ part-drop (member R) 64 to (omega arith))
 
 pub sparse-row-spec : {M : Type 1} → statement M
 sparse-row-spec =
     tie.close
     (tie.spec
-    Inv-loop
-    μ-loop
-    loop-holds
-    mul-wide
-    shared-slice-read-wide
-    wide-requires
-    bit-requires
-    with-bit-requires
-    add-j
-    loop-less
-    loop-again
-    returns)
+    row-word-requires
+    returns
+    slice-aggregate-row-word
+    row-word-requires-2
+    sub-row-word
+    part-row-word-start
+    part-row-word-end
+    row-word-requires-3
+    returns-2)

@@ -1,15 +1,16 @@
--- `matching::target_sets` meets its contract. The loop's invariant: the places passed have their sets.
--- Assumes nothing.
-use mathlib.Core.Path.{_≡_, refl, sym, _∙_, subst}
-use Prim.Native.Nat.{ℕ, _-_, _≤_}
-use native.Mathlib.Omega.{arith}
-use borrow.Author.Needs.{needs}
-use lib.ListN.{length, length-set}
+-- `target_sets` meets its contract: the places passed have their sets. Assumes nothing.
+use mathlib.Core.Path.{_≡_, refl, sym, _∙_, ap, subst}
+use Prim.Native.Nat.{ℕ, _+_, _-_, _≤_}
+use lib.ListN.{length}
+use Rattle.simulation.specs.Limits.{most-states}
 use Rattle.form.specs.Form.{transitions-of}
 use Rattle.form.proofs.FormLaws.{limits}
 use Rattle.matching.specs.Held.{Places}
+use Rattle.relation.proofs.Sets.{length-put}
 use Rattle.matching.proofs.Fitting.{places-of}
 use Rattle.matching.proofs.Sets.{SetsTo, sets-next, last-start}
+use borrow.Author.Needs.{needs}
+use native.Mathlib.Omega.{arith}
 use Rattle.matching.proofs.target_sets.Statement.{statement}
 use Rattle.matching.proofs.target_sets.Tie as tie
 
@@ -31,37 +32,31 @@ loop-holds c =
     (omega arith, subst (λ (n : ℕ). c .first .result ≡ n) (last-start f) (rw (← c .before .states .ensures) (c .first .ensures)), refl, λ k a. absurd (omega arith))
 
 targets-requires : tie.Need-targets-requires Inv-loop μ-loop
-targets-requires c κs = (c .before .before .before .before .before .before .pre .0, omega (arith, c .before .loop .inv .1, c .loop-test .taken))
+targets-requires c κs = (c .before .before .before .before .before .before .before .pre .0, omega (arith, c .before .before .loop .inv .1, c .before .loop-test .taken))
 
 set-of-requires : tie.Need-set-of-requires Inv-loop μ-loop
-set-of-requires c κs =
-    let l = c .before .before in
-    let d = l .before .before .before .before .before in
-    subst (Places 64) (sym (c .targets .ensures)) (places-of 64 (d .args .f .now) (d .pre .0) (l .loop .l) (omega (arith, l .loop .inv .1, c .before .loop-test .taken)) (omega arith))
+set-of-requires c κs = subst (Places most-states) (sym (c .targets .ensures)) (places-of most-states (c .before .before .before .before .before .before .before .before .args .f .now) (c .before .before .before .before .before .before .before .before .pre .0) (c .before .before .before .loop .l) (omega (arith, c .before .before .before .loop .inv .1, c .before .before .loop-test .taken)) (omega arith))
 
-mul-masks : tie.Need-mul-masks Inv-loop μ-loop
-mul-masks c = omega arith
-
-slice-write-masks : tie.Need-slice-write-masks Inv-loop μ-loop
-slice-write-masks c =
-    let l = c .before .before .before in
-    let d = l .before .before .before .before .before in
-    omega (arith, l .loop .inv .1, l .loop .inv .2, limits (d .args .f .now) (d .pre .0) .transitions-few, d .pre .1)
+put-requires : tie.Need-put-requires Inv-loop μ-loop
+put-requires c κs = omega (arith, c .before .before .before .loop-test .taken, c .before .before .before .before .loop .inv .1, c .before .before .before .before .loop .inv .2, limits (c .before .before .before .before .before .before .before .before .before .args .f .now) (c .before .before .before .before .before .before .before .before .before .pre .0) .transitions-few, c .before .before .before .before .before .before .before .before .before .pre .1)
 
 add-l : tie.Need-add-l Inv-loop μ-loop
-add-l c = omega arith
+add-l c = omega (arith, c .before .before .before .before .before .before .loop-test .taken)
 
 loop-less : tie.Need-loop-less Inv-loop μ-loop
-loop-less c = omega arith
+loop-less c = omega (arith, c .before .before .before .before .before .before .loop-test .taken)
 
 loop-again : tie.Need-loop-again Inv-loop μ-loop
 loop-again c =
-    let l = c .before .before .before in
-    let f = l .before .before .before .before .before .args .f .now in (
+    let f = c .before .before .before .before .before .before .before .before .before .before .before .before .args .f .now in
+    let o = c .before .before .before .before .before .before .before .loop in
+    let t = c .before .before .before .before .before .before .loop-test .taken in
+    let e = c .before .before .put .ensures in (
       omega arith,
-      l .loop .inv .1,
-      length-set (l .loop .masks) (l .loop .l) (c .set-of .result) ∙ l .loop .inv .2,
-      sets-next f (l .loop .masks) (l .loop .l) (c .set-of .result) (slice-write-masks c) (c .before .targets .ensures) (c .set-of .ensures) (l .loop .inv .3),
+      o .inv .1,
+      ap length e ∙ length-put (o .masks) (o .l) (c .before .before .before .set-of .result) ∙ o .inv .2,
+      subst (SetsTo f (o .l + 1)) (sym e) (sets-next f (o .masks) (o .l) (c .before .before .before .set-of .result)
+          (omega (arith, o .inv .1, o .inv .2, limits f (c .before .before .before .before .before .before .before .before .before .before .before .before .pre .0) .transitions-few, c .before .before .before .before .before .before .before .before .before .before .before .before .pre .1)) (c .before .before .before .before .targets .ensures) (c .before .before .before .set-of .ensures) (o .inv .3)),
     )
 
 same-length : tie.Need-same-length Inv-loop μ-loop
@@ -69,12 +64,11 @@ same-length c = c .before .loop .inv .2
 
 returns : tie.Need-returns Inv-loop μ-loop
 returns c =
-    let l = c .before in
-    let h = l .loop .inv .3 in
+    let h = c .before .loop .inv .3 in
     record {
-      room = omega (arith, l .loop .inv .2, l .before .before .before .before .before .pre .1);
-      has = λ k i a b. h k (omega (arith, l .loop .inv .1)) .has i b;
-      only = λ k u a m. h k (omega (arith, l .loop .inv .1)) .only u m;
+      room = omega (arith, c .before .loop .inv .2, c .before .before .before .before .before .before .pre .1);
+      has = λ k i a b. h k (omega (arith, c .before .loop .inv .1)) .has i b;
+      only = λ k u a m. h k (omega (arith, c .before .loop .inv .1)) .only u m;
     }
 
 pub target-sets-spec : {M : Type 1} → statement M
@@ -88,8 +82,7 @@ target-sets-spec =
     loop-holds
     targets-requires
     set-of-requires
-    mul-masks
-    slice-write-masks
+    put-requires
     add-l
     loop-less
     loop-again

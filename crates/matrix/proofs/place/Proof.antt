@@ -1,10 +1,10 @@
 -- `matrix::place` meets its contract. Assumes nothing.
 use mathlib.Core.Path.{refl}
-use native.Mathlib.Omega.{arith}
 use lib.Seq.{getD-set-same}
 use Rattle.matrix.proofs.MatrixLaws.{adds, set-adds-at}
 use Rattle.matrix.proofs.MaskedLaws.{noted}
 use borrow.Author.Needs.{needs}
+use native.Mathlib.Omega.{arith}
 use Rattle.matrix.proofs.place.Statement.{statement}
 use Rattle.matrix.proofs.place.Tie as tie
 
@@ -29,20 +29,14 @@ mul-x c = search needs
 slice-write-x : tie.Need-slice-write-x
 slice-write-x c = search needs
 
-mul-old : tie.Need-mul-old
-mul-old c = search needs
-
-slice-read-old : tie.Need-slice-read-old
-slice-read-old c = search needs
+get-requires : tie.Need-get-requires
+get-requires c κs = search needs
 
 marked-requires : tie.Need-marked-requires
 marked-requires c κs = search needs
 
-mul-users : tie.Need-mul-users
-mul-users c = search needs
-
-slice-write-users : tie.Need-slice-write-users
-slice-write-users c = search needs
+put-requires : tie.Need-put-requires
+put-requires c κs = search needs
 
 same-length : tie.Need-same-length
 same-length c = search needs
@@ -51,7 +45,11 @@ same-length-2 : tie.Need-same-length-2
 same-length-2 c = search needs
 
 returns : tie.Need-returns
-returns c = let s = c .before .before .before .before .before .args in (adds _ _ (omega arith) (set-adds-at (s .x .now) _ _ (s .d) (omega arith) (refl)), noted (s .users .now) (c .marked .result) (omega arith) (getD-set-same (s .x .now) _ _ 0 (omega arith)) (c .marked .ensures))
+returns c =
+    let s = c .before .before .before .before .before .before .before .before .before .before .args in (
+      adds _ _ (omega arith) (set-adds-at (s .x .now) _ _ (s .d) (omega arith) refl),
+      noted (s .users .now) _ (c .before .before .before .before .get .result) (c .before .before .before .marked .result) (omega arith) (getD-set-same (s .x .now) _ _ 0 (omega arith)) (c .before .before .before .before .get .ensures) (c .before .before .before .marked .ensures) (c .before .before .put .ensures),
+    )
 
 pub place-spec : {M : Type 1} → statement M
 place-spec =
@@ -64,11 +62,9 @@ place-spec =
     add-v
     mul-x
     slice-write-x
-    mul-old
-    slice-read-old
+    get-requires
     marked-requires
-    mul-users
-    slice-write-users
+    put-requires
     same-length
     same-length-2
     returns)

@@ -1,54 +1,26 @@
--- `matrix::positive` meets its contract: the mask has the places passed. Assumes nothing.
-use mathlib.Core.Path.{refl}
-use Prim.Native.Nat.{_≤_, _-_}
+-- `positive` meets its contract. Assumes nothing.
+use mathlib.Core.Path.{_≡_, _∙_}
+use lib.ListN.{length, take, length-take}
+use Rattle.relation.proofs.Sets.{part-take}
+use Rattle.matrix.specs.Masks.{nonzero}
+use Rattle.matrix.proofs.MaskedLaws.{mask-of-part}
 use native.Mathlib.Omega.{arith}
-use lib.ListN.{getD}
-use Rattle.matrix.specs.Masks.{MaskOf}
-use Rattle.matrix.proofs.MaskedLaws.{mask-none, mask-next, mask-is}
 use Rattle.matrix.proofs.positive.Statement.{statement}
 use Rattle.matrix.proofs.positive.Tie as tie
 
-abbrev Inv-loop : tie.InvT-loop
-Inv-loop a n mask₀ i₀ mask i = (i ≤ n) × MaskOf i (λ k. getD a k 0) mask
+slice-aggregate-positive-places : tie.Need-slice-aggregate-positive-places
+slice-aggregate-positive-places c =
+    let a = c .before .before .args in
+    let e : a .n ≡ length (take (a .n) (a .a .now)) = simp length-take (omega (arith, c .before .before .pre .1)) in
+    e
 
-abbrev μ-loop : tie.MeasureT-loop
-μ-loop a n mask₀ i₀ mask i = n - i
+positive-places-requires : tie.Need-positive-places-requires
+positive-places-requires c κs = simp length-take (omega (arith, c .before .before .pre .0))
 
-loop-holds : tie.Need-loop-holds Inv-loop μ-loop
-loop-holds c = (omega arith, mask-none)
-
-mul-marked : tie.Need-mul-marked Inv-loop μ-loop
-mul-marked c = omega arith
-
-shared-slice-read-marked : tie.Need-shared-slice-read-marked Inv-loop μ-loop
-shared-slice-read-marked c = omega arith
-
-marked-requires : tie.Need-marked-requires Inv-loop μ-loop
-marked-requires c κs = omega arith
-
-add-i : tie.Need-add-i Inv-loop μ-loop
-add-i c = omega arith
-
-loop-less : tie.Need-loop-less Inv-loop μ-loop
-loop-less c = omega arith
-
-loop-again : tie.Need-loop-again Inv-loop μ-loop
-loop-again c = (omega arith, mask-next (c .before .before .before .loop .inv .1) refl (c .marked .ensures))
-
-returns : tie.Need-returns Inv-loop μ-loop
-returns c = mask-is (omega arith) (c .before .loop .inv .1)
+returns : tie.Need-returns
+returns c =
+    let a = c .before .before .before .args in
+    mask-of-part (c .positive-places .ensures ∙ part-take nonzero (a .n) (a .a .now) (c .before .before .before .pre .1))
 
 pub positive-spec : {M : Type 1} → statement M
-positive-spec =
-    tie.close
-    (tie.spec
-    Inv-loop
-    μ-loop
-    loop-holds
-    mul-marked
-    shared-slice-read-marked
-    marked-requires
-    add-i
-    loop-less
-    loop-again
-    returns)
+positive-spec = tie.close (tie.spec slice-aggregate-positive-places positive-places-requires returns)

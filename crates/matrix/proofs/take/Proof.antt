@@ -1,9 +1,9 @@
--- `matrix::take` meets its contract. Assumes nothing.
-use native.Mathlib.Omega.{arith}
+-- `cells::take` meets its contract. Assumes nothing.
 use lib.Seq.{getD-set-same}
 use Rattle.matrix.proofs.MatrixLaws.{adds, set-takes-at}
 use Rattle.matrix.proofs.MaskedLaws.{noted}
 use borrow.Author.Needs.{needs}
+use native.Mathlib.Omega.{arith}
 use Rattle.matrix.proofs.take.Statement.{statement}
 use Rattle.matrix.proofs.take.Tie as tie
 
@@ -28,20 +28,14 @@ mul-x c = search needs
 slice-write-x : tie.Need-slice-write-x
 slice-write-x c = search needs
 
-mul-old : tie.Need-mul-old
-mul-old c = search needs
-
-slice-read-old : tie.Need-slice-read-old
-slice-read-old c = search needs
+get-requires : tie.Need-get-requires
+get-requires c κs = search needs
 
 marked-requires : tie.Need-marked-requires
 marked-requires c κs = search needs
 
-mul-users : tie.Need-mul-users
-mul-users c = search needs
-
-slice-write-users : tie.Need-slice-write-users
-slice-write-users c = search needs
+put-requires : tie.Need-put-requires
+put-requires c κs = search needs
 
 same-length : tie.Need-same-length
 same-length c = search needs
@@ -50,7 +44,11 @@ same-length-2 : tie.Need-same-length-2
 same-length-2 c = search needs
 
 returns : tie.Need-returns
-returns c = let s = c .before .before .before .before .before .args in (adds _ _ (omega arith) (set-takes-at (s .x .now) _ _ (s .d) (omega arith) (omega arith)), noted (s .users .now) (c .marked .result) (omega arith) (getD-set-same (s .x .now) _ _ 0 (omega arith)) (c .marked .ensures))
+returns c =
+    let s = c .before .before .before .before .before .before .before .before .before .before .args in (
+      adds _ _ (omega arith) (set-takes-at (s .x .now) _ _ (s .d) (omega arith) (omega arith)),
+      noted (s .users .now) _ (c .before .before .before .before .get .result) (c .before .before .before .marked .result) (omega arith) (getD-set-same (s .x .now) _ _ 0 (omega arith)) (c .before .before .before .before .get .ensures) (c .before .before .before .marked .ensures) (c .before .before .put .ensures),
+    )
 
 pub take-spec : {M : Type 1} → statement M
 take-spec =
@@ -63,11 +61,9 @@ take-spec =
     sub-v
     mul-x
     slice-write-x
-    mul-old
-    slice-read-old
+    get-requires
     marked-requires
-    mul-users
-    slice-write-users
+    put-requires
     same-length
     same-length-2
     returns)

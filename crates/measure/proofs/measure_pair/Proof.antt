@@ -1,11 +1,18 @@
 -- `measure::measure_pair` meets its contract. Assumes nothing.
 use mathlib.Core.Path.{_∙_}
 use native.Mathlib.Omega.{arith}
+use Rattle.relate.proofs.Places.{few-places}
+use Rattle.choice.specs.Choice.{Sets}
 use Rattle.order.proofs.Pairs.{rank-asked}
-use Rattle.order.proofs.Targets.{step-number, step-words}
+use Rattle.order.proofs.Targets.{step-number}
 use Rattle.measure.proofs.Measuring.{pair-choice, pair-children, pair-over, pair-under}
 use Rattle.measure.proofs.measure_pair.Statement.{statement}
 use Rattle.measure.proofs.measure_pair.Tie as tie
+
+-- the sets that were found are those of the pair's transition
+found : (c : tie.After-find-sets) → let a = c .before .before .before .before .before .before .before .before .before .before .before .before .args in
+    Sets (a .first .now) (a .second .now) (a .s) (a .t) (c .find-sets .last .1 .1 .1 .1 .1 .1 .1 .0)
+found c = c .find-sets .ensures .found (c .before .before .before .before .before .before .before .before .before .before .before .before .pre .1)
 
 rank-at-requires : tie.Need-rank-at-requires
 rank-at-requires c κs =
@@ -16,13 +23,17 @@ find-sets-requires : tie.Need-find-sets-requires
 find-sets-requires c κs =
     let at-rank-at = c .before .before .before in
     let entry = at-rank-at .before .before .before .before .before .before .before .before in
-    let p = entry .pre .0 in let a = entry .args in let is-rank = at-rank-at .rank-at .ensures ∙ p .given .ranked .ranked (a .s) (a .t) (p .lost .left) (p .lost .right) in (
+    let p = entry .pre .0 in
+    let w = entry .pre .1 in
+    let a = entry .args in
+    let few = few-places (a .first .now) (a .j) (p .given .ranked .first-loaded) (step-number (pair-choice p w)) in (
       p .given .ranked,
       p .lost,
-      is-rank,
-      entry .pre .1,
+      at-rank-at .rank-at .ensures ∙ p .given .ranked .ranked (a .s) (a .t) (p .lost .left) (p .lost .right),
+      w .low,
+      w .high,
       p .given .lent,
-      step-words (pair-choice p (entry .pre .1)) (p .given .words),
+      omega (arith, few, p .given .words),
     )
 
 targets-requires : tie.Need-targets-requires
@@ -36,7 +47,7 @@ children-length-requires c κs =
     let at-sets = at-targets .before .before .before .before .before .before in
     let at-find-sets = at-sets .before in
     let entry = at-find-sets .before .before .before .before .before .before .before .before .before .before .before .before in
-    let p = entry .pre .0 in pair-children p (entry .pre .1) (at-targets .targets .ensures) (at-find-sets .find-sets .ensures) (at-sets .sets .given)
+    let p = entry .pre .0 in pair-children p (entry .pre .1) (at-targets .targets .ensures) (found at-find-sets) (at-sets .sets .given)
 
 add-len : tie.Need-add-len
 add-len c = record { fits = omega (arith, c .children-length .ensures .1) }
@@ -65,7 +76,7 @@ returns c =
     let at-targets = at-children-length .before .before in
     let at-find-sets = at-targets .before .before .before .before .before .before .before in
     let entry = at-find-sets .before .before .before .before .before .before .before .before .before .before .before .before in
-    let p = entry .pre .0 in pair-over p (entry .pre .1) (at-targets .targets .ensures) (at-find-sets .find-sets .ensures) _ (at-children-length .children-length .ensures .0) (c .if1 .taken)
+    let p = entry .pre .0 in pair-over p (entry .pre .1) (at-targets .targets .ensures) (found at-find-sets) _ (at-children-length .children-length .ensures .0) (c .if1 .taken)
 
 cast-result : tie.Need-cast-result
 cast-result c = record { fits = omega (arith, c .if1 .left) }
@@ -91,7 +102,7 @@ returns-2 c =
     let at-targets = at-children-length .before .before in
     let at-find-sets = at-targets .before .before .before .before .before .before .before in
     let entry = at-find-sets .before .before .before .before .before .before .before .before .before .before .before .before in
-    let p = entry .pre .0 in pair-under p (entry .pre .1) (at-targets .targets .ensures) (at-find-sets .find-sets .ensures) _ (at-children-length .children-length .ensures .0) (omega (arith, c .if1 .left))
+    let p = entry .pre .0 in pair-under p (entry .pre .1) (at-targets .targets .ensures) (found at-find-sets) _ (at-children-length .children-length .ensures .0) (omega (arith, c .if1 .left))
 
 pub measure-pair-spec : {M : Type 1} → statement M
 measure-pair-spec =

@@ -1,62 +1,56 @@
--- `ranking::narrow` meets its contract. The loop's invariant: the rows passed are cut, the others as they were.
--- Assumes nothing.
-use mathlib.Core.Path.{_≡_, refl, ap, _∙_}
-use Prim.Native.Nat.{ℕ, _-_, _≤_, _<_}
-use native.Mathlib.Omega.{arith}
-use borrow.Author.Needs.{needs}
-use lib.ListN.{length, getD, length-set}
-use Rattle.relation.specs.Mask.{Test, member, both, up-to}
+-- `narrow` meets its contract: the rows passed are cut. Assumes nothing.
+use mathlib.Core.Path.{_≡_, refl, sym, ap, _∙_, subst}
+use Prim.Native.Nat.{ℕ, _+_, _-_, _≤_, _<_}
+use lib.ListN.{length}
+use mathlib.Core.List.{List}
+use Rattle.relation.specs.Mask.{member, both, up-to}
+use Rattle.relation.specs.Words.{mask, row-of, height}
+use Rattle.relation.proofs.Sets.{length-put, both-of}
 use Rattle.relation.specs.Related.{holds}
 use Rattle.rounds.proofs.Settling.{rows-next, rows-left}
+use native.Mathlib.Omega.{arith}
 use Rattle.ranking.proofs.narrow.Statement.{statement}
 use Rattle.ranking.proofs.narrow.Tie as tie
 
 abbrev Inv-loop : tie.InvT-loop
-Inv-loop rows₀ p q columns s₀ rows s =
-    (s ≤ p) × (length rows ≡ length rows₀) × ((r t : ℕ) → r < s → holds rows r t ≡ both (holds rows₀ r) (up-to q) t)
-    × ((r : ℕ) → s ≤ r → getD rows r 0 ≡ getD rows₀ r 0)
+Inv-loop rows₀ p q columns s₀ rows s = (s ≤ p) × (length rows ≡ length rows₀) × ((r t : ℕ) → r < s → holds rows r t ≡ both (holds rows₀ r) (up-to q) t) × ((r : ℕ) → s ≤ r → row-of rows r ≡ row-of rows₀ r)
 
 abbrev μ-loop : tie.MeasureT-loop
 μ-loop rows₀ p q columns s₀ rows s = p - s
 
 below-requires : tie.Need-below-requires Inv-loop μ-loop
-below-requires c κs = search needs
+below-requires c κs = omega arith
 
 loop-holds : tie.Need-loop-holds Inv-loop μ-loop
 loop-holds c = (omega arith, refl, λ r t a. absurd (omega arith), λ r a. refl)
 
-mul-intersection : tie.Need-mul-intersection Inv-loop μ-loop
-mul-intersection c = omega arith
-
-slice-read-intersection : tie.Need-slice-read-intersection Inv-loop μ-loop
-slice-read-intersection c = omega arith
+get-requires : tie.Need-get-requires Inv-loop μ-loop
+get-requires c κs = omega (arith, c .before .before .before .loop .inv .1)
 
 intersection-requires : tie.Need-intersection-requires Inv-loop μ-loop
-intersection-requires c κs = search needs
+intersection-requires c κs = tt
 
-mul-rows : tie.Need-mul-rows Inv-loop μ-loop
-mul-rows c = omega arith
-
-slice-write-rows : tie.Need-slice-write-rows Inv-loop μ-loop
-slice-write-rows c = omega arith
+put-requires : tie.Need-put-requires Inv-loop μ-loop
+put-requires c κs = omega (arith, c .before .before .before .before .before .loop .inv .1, c .before .before .before .before .loop-test .taken)
 
 add-s : tie.Need-add-s Inv-loop μ-loop
-add-s c = omega arith
+add-s c = omega (arith, c .before .before .before .before .before .before .before .loop-test .taken)
 
 loop-less : tie.Need-loop-less Inv-loop μ-loop
-loop-less c = omega arith
+loop-less c = omega (arith, c .before .before .before .before .before .before .before .loop-test .taken)
 
 loop-again : tie.Need-loop-again Inv-loop μ-loop
 loop-again c =
-    let l = c .before .before .before in
-    let a = l .before .before .before .args in
-    let s = l .loop .s in (
-      omega arith,
-      length-set (l .loop .rows) s (c .intersection .result) ∙ l .loop .inv .1,
-      rows-next (λ r. both (holds (a .rows .now) r) (up-to (a .q))) (l .loop .rows) s (c .intersection .result) (omega arith)
-          (c .intersection .ensures ∙ ap (λ (Y : Test). both (holds (l .loop .rows) s) Y) (l .before .below .ensures) ∙ ap (λ (x : ℕ). both (member x) (up-to (a .q))) (l .loop .inv .3 s (omega arith)))
-          (l .loop .inv .2),
-      rows-left (a .rows .now) (l .loop .rows) s (c .intersection .result) (l .loop .inv .3),
+    let a = c .before .before .before .before .before .before .before .before .before .before .before .args in
+    let o = c .before .before .before .before .before .before .before .before .loop in
+    let e = c .before .before .put .ensures in
+    let x = c .before .before .before .intersection .result in
+    let room : o .s < height (o .rows) = omega (arith, o .inv .1, c .before .before .before .before .before .before .before .loop-test .taken) in
+    let row = both-of (c .before .before .before .before .get .ensures ∙ o .inv .3 (o .s) (omega arith)) (member (mask (c .before .before .before .before .before .before .before .before .before .below .result))) (c .before .before .before .intersection .ensures) ∙ ap (both (member (row-of (a .rows .now) (o .s)))) (c .before .before .before .before .before .before .before .before .before .below .ensures) in (
+      omega (arith, c .before .before .before .before .before .before .before .loop-test .taken),
+      ap length e ∙ length-put (o .rows) (o .s) x ∙ o .inv .1,
+      subst (λ (l : List ℕ). (r t : ℕ) → r < o .s + 1 → holds l r t ≡ both (holds (a .rows .now) r) (up-to (a .q)) t) (sym e) (rows-next (λ r. both (holds (a .rows .now) r) (up-to (a .q))) (o .rows) (o .s) x room row (o .inv .2)),
+      subst (λ (l : List ℕ). (r : ℕ) → o .s + 1 ≤ r → row-of l r ≡ row-of (a .rows .now) r) (sym e) (rows-left (a .rows .now) (o .rows) (o .s) x (o .inv .3)),
     )
 
 same-length : tie.Need-same-length Inv-loop μ-loop
@@ -73,11 +67,9 @@ narrow-spec =
     μ-loop
     below-requires
     loop-holds
-    mul-intersection
-    slice-read-intersection
+    get-requires
     intersection-requires
-    mul-rows
-    slice-write-rows
+    put-requires
     add-s
     loop-less
     loop-again

@@ -1,13 +1,14 @@
 -- `ranking::none_tried` meets its contract.
 -- Assumes nothing.
-use Prim.Native.Nat.{ℕ}
+use Prim.Native.Nat.{ℕ, _*_}
 use lib.ListN.{length-replicate}
+use Rattle.simulation.specs.Limits.{most-states, most-transitions}
 use Rattle.ranking.proofs.Ends.{zeros-at}
 use Rattle.ranking.proofs.none_tried.Statement.{statement}
 use Rattle.ranking.proofs.none_tried.Tie as tie
 
 returns : tie.Need-returns
-returns c = (length-replicate {A = ℕ} 8192 0, zeros-at 8192)
+returns c = (length-replicate {A = ℕ} (most-transitions * most-states) 0, zeros-at (most-transitions * most-states))
 
 pub none-tried-spec : {M : Type 1} → statement M
 none-tried-spec = tie.close (tie.spec returns)

@@ -1,118 +1,78 @@
--- `ranking::rank` meets its contract.
--- Assumes nothing.
-use mathlib.Core.Path.{_≡_}
+-- `ranking::rank` meets its contract: there is a place for each transition and state. Assumes nothing.
+use mathlib.Core.Path.{_∙_, ap}
 use native.Mathlib.Omega.{arith}
 use borrow.Author.Needs.{needs}
-use lib.ListN.{length}
-use Rattle.form.specs.Form.{table-of}
+use Rattle.form.specs.Form.{start-of}
 use Rattle.form.proofs.FormLaws.{limits}
-use Rattle.ranking.proofs.Ends.{all-rows, no-rows, kept-few, filled}
+use Rattle.matching.proofs.Sets.{last-start}
 use Rattle.ranking.proofs.rank.Statement.{statement}
 use Rattle.ranking.proofs.rank.Tie as tie
 
-full-requires : tie.Need-full-requires
-full-requires c κs = search needs
+states-requires : tie.Need-states-requires
+states-requires c κs = search needs
 
-empty-requires : tie.Need-empty-requires
-empty-requires c κs = search needs
+first-requires : tie.Need-first-requires
+first-requires c κs = search needs
 
-no-sets-requires : tie.Need-no-sets-requires
-no-sets-requires c κs = search needs
+few-tried-requires : tie.Need-few-tried-requires
+few-tried-requires c κs = search needs
+
+slice-aggregate-rank-untried : tie.Need-slice-aggregate-rank-untried
+slice-aggregate-rank-untried c = search needs
+
+rank-untried-requires : tie.Need-rank-untried-requires
+rank-untried-requires c κs =
+    let d = c .before .before .before .before .before .before .before .before .before .before .before in
+    let f = d .args .first .now in
+    let tried = c .before .before .before .few-tried .ensures in
+    let n = ap (start-of f) (c .before .before .before .before .before .before .states .ensures) ∙ last-start f in
+    (d .pre .0, d .pre .1, d .pre .2, d .pre .3, omega (arith, c .before .before .before .before .if1 .taken, c .before .before .before .before .before .first .ensures, n, tried .0), tried .1)
+
+same-length : tie.Need-same-length
+same-length c = search needs
+
+same-length-2 : tie.Need-same-length-2
+same-length-2 c = search needs
+
+returns : tie.Need-returns
+returns c = search needs
 
 none-tried-requires : tie.Need-none-tried-requires
 none-tried-requires c κs = search needs
 
-slice-aggregate-fill-ranks : tie.Need-slice-aggregate-fill-ranks
-slice-aggregate-fill-ranks c = search needs
+slice-aggregate-rank-untried-2 : tie.Need-slice-aggregate-rank-untried-2
+slice-aggregate-rank-untried-2 c = search needs
 
-slice-aggregate-fill-ranks-2 : tie.Need-slice-aggregate-fill-ranks-2
-slice-aggregate-fill-ranks-2 c = search needs
+rank-untried-requires-2 : tie.Need-rank-untried-requires-2
+rank-untried-requires-2 c κs =
+    let d = c .before .before .before .before .before .before .before .before .before .before .before in
+    let tried = c .before .before .before .none-tried .ensures in
+    (d .pre .0, d .pre .1, d .pre .2, d .pre .3, omega (arith, limits (d .args .first .now) (d .pre .0) .transitions-few, tried .0), tried .1)
 
-slice-aggregate-fill-ranks-3 : tie.Need-slice-aggregate-fill-ranks-3
-slice-aggregate-fill-ranks-3 c = search needs
+same-length-3 : tie.Need-same-length-3
+same-length-3 c = search needs
 
-slice-aggregate-fill-ranks-4 : tie.Need-slice-aggregate-fill-ranks-4
-slice-aggregate-fill-ranks-4 c = search needs
+same-length-4 : tie.Need-same-length-4
+same-length-4 c = search needs
 
-slice-aggregate-fill-ranks-5 : tie.Need-slice-aggregate-fill-ranks-5
-slice-aggregate-fill-ranks-5 c = search needs
-
-slice-aggregate-fill-ranks-6 : tie.Need-slice-aggregate-fill-ranks-6
-slice-aggregate-fill-ranks-6 c = search needs
-
-slice-aggregate-fill-ranks-7 : tie.Need-slice-aggregate-fill-ranks-7
-slice-aggregate-fill-ranks-7 c = search needs
-
-fill-ranks-requires : tie.Need-fill-ranks-requires
-fill-ranks-requires c κs =
-    let d = c .before .before .before .before .before .before .before .before .before .before .before .before .before .before .before .before .before .before .before .before .before .before in
-    let f = c .before .before .before .before .before .before .before .before .before .before .before .before .before .before .before .before .before .full in
-    let e = c .before .before .before .before .before .before .before .before .before .before .before .before .before .before .before .before .empty in
-    let tried = c .before .before .before .before .before .before .before .before .before .none-tried .ensures in
-    let n : length (f .result .rows) ≡ 64 = search needs in
-    let z : length (e .result .rows) ≡ 64 = search needs in
-    let all = all-rows (f .result) (f .ensures) (omega (arith, n)) in
-    let none = no-rows (e .result) (e .ensures) in
-    record {
-      first = d .pre .0;
-      second = d .pre .1;
-      masks-room = omega (arith, c .before .before .before .before .before .before .before .before .before .before .no-sets .ensures);
-      ranks-room = d .pre .2;
-      rows-open = all;
-      doubt-open = all;
-      lost-room = omega (arith, z);
-      lost-empty = none;
-      before-room = omega (arith, z);
-      before-empty = none;
-      behind-room = omega (arith, z);
-      behind-empty = none;
-      tried-room = omega (arith, tried .0);
-      untried = tried .1;
-      x-room = d .pre .3;
-    }
-
-states-requires : tie.Need-states-requires
-states-requires c κs = c .before .before .before .before .before .before .before .before .before .before .before .before .before .before .before .before .before .before .before .before .before .before .before .before .before .before .before .before .before .before .before .before .before .before .pre .0
-
-kept-requires : tie.Need-kept-requires
-kept-requires c κs = let d = c .before .before .before .before .before .before .before .before .before .before .before .before .before .before .before .before .before .before .before .before .before .before .before .before .before .before .before .before .before .before .before .before .before .before .before in omega (arith, c .states .ensures, limits (d .args .first .now) (d .pre .0) .states-few)
-
-cast-t39 : tie.Need-cast-t39
-cast-t39 c =
-    let d = c .before .before .before .before .before .before .before .before .before .before .before .before .before .before .before .before .before .before .before .before .before .before .before .before .before .before .before .before .before .before .before .before .before .before .before .before in
-    omega (arith, kept-few _ (c .before .states .result) (omega (arith, c .before .states .ensures, limits (d .args .first .now) (d .pre .0) .states-few)) (c .kept .ensures))
-
-same-length : tie.Need-same-length
-same-length c = c .before .before .before .before .before .before .before .before .before .before .before .ranks .given
-
-same-length-2 : tie.Need-same-length-2
-same-length-2 c = c .before .before .before .x .given
-
-returns : tie.Need-returns
-returns c =
-    let d = c .before .before .before .before .before .before .before .before .before .before .before .before .before .before .before .before .before .before .before .before .before .before .before .before .before .before .before .before .before .before .before .before .before .before .before .before in
-    filled (table-of (d .args .first .now)) (table-of (d .args .second .now)) _ (limits (d .args .second .now) (d .pre .1) .states-few) (d .pre .2)
-    (same-length c) (c .before .states .ensures) (c .before .before .before .before .before .before .before .before .before .before .before .before .before .fill-ranks .ensures) (c .kept .ensures)
+returns-2 : tie.Need-returns-2
+returns-2 c = search needs
 
 pub rank-spec : {M : Type 1} → statement M
 rank-spec =
     tie.close
     (tie.spec
-    full-requires
-    empty-requires
-    no-sets-requires
-    none-tried-requires
-    slice-aggregate-fill-ranks
-    slice-aggregate-fill-ranks-2
-    slice-aggregate-fill-ranks-3
-    slice-aggregate-fill-ranks-4
-    slice-aggregate-fill-ranks-5
-    slice-aggregate-fill-ranks-6
-    slice-aggregate-fill-ranks-7
-    fill-ranks-requires
     states-requires
-    kept-requires
-    cast-t39
+    first-requires
+    few-tried-requires
+    slice-aggregate-rank-untried
+    rank-untried-requires
     same-length
     same-length-2
-    returns)
+    returns
+    none-tried-requires
+    slice-aggregate-rank-untried-2
+    rank-untried-requires-2
+    same-length-3
+    same-length-4
+    returns-2)

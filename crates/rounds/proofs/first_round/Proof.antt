@@ -1,6 +1,7 @@
 -- `rounds::first_round` meets its contract.
 -- Assumes nothing.
 use native.Mathlib.Omega.{arith}
+use Rattle.form.specs.Form.{table-of}
 use Rattle.form.proofs.FormLaws.{limits}
 use Rattle.rounds.proofs.Turning.{ready}
 use Rattle.rounds.proofs.first_round.Statement.{statement}
@@ -17,7 +18,7 @@ drop-rows-requires c κs =
     let d = c .before .before .before .before .before .before .before .before .before .before .before .before .before .before in (
       d .pre .0,
       d .pre .1,
-      ready (limits (d .args .first .now) (d .pre .0 .first) .states-few) (limits (d .args .second .now) (d .pre .0 .second) .states-few) (d .pre .4) (c .before .before .before .before .before .states .ensures) (c .before .before .before .before .below .ensures) (d .pre .5),
+      ready {M = table-of (d .args .first .now)} {N = table-of (d .args .second .now)} (omega (arith, limits (d .args .first .now) (d .pre .0 .first) .states-few)) (omega (arith, limits (d .args .second .now) (d .pre .0 .second) .states-few)) (d .pre .4) (c .before .before .before .before .before .states .ensures) (c .before .before .before .before .below .ensures) (d .pre .5),
       d .pre .4 .room,
       d .pre .2,
       d .pre .3,

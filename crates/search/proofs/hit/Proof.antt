@@ -1,71 +1,100 @@
 -- `search::hit` meets its contract: the rows passed have no free column. Assumes nothing.
-use native.Mathlib.Omega.{arith}
+use Prim.Native.Nat.{_≤_, _-_}
+use Rattle.relation.specs.Mask.{member}
+use Rattle.relation.specs.Words.{words, after, rest, mask}
+use Rattle.relation.proofs.Sets.{mask-lt, walk-begin, walk-into, walk-on, walk-done, both-of, not-none, not-some}
 use Rattle.search.proofs.SearchLaws.{Hitting, hitting-none, hitting-next, hitting-found, hitting-end}
+use native.Mathlib.Omega.{arith}
 use Rattle.search.proofs.hit.Statement.{statement}
 use Rattle.search.proofs.hit.Tie as tie
 
+abbrev Inv-loop2 : tie.InvT-loop2
+Inv-loop2 rel free rows w left₀ left = Hitting rel (mask free) (mask rows) (rest w left rows)
+
+abbrev μ-loop2 : tie.MeasureT-loop2
+μ-loop2 rel free rows w left₀ left = left
+
 abbrev Inv-loop : tie.InvT-loop
-Inv-loop rel free rows left₀ left = Hitting rel free rows left
+Inv-loop rel free rows w₀ w = (w ≤ words) × Hitting rel (mask free) (mask rows) (after w rows)
 
 abbrev μ-loop : tie.MeasureT-loop
-μ-loop rel free rows left₀ left = left
+μ-loop rel free rows w₀ w = words - w
 
-loop-holds : tie.Need-loop-holds Inv-loop μ-loop
-loop-holds c = hitting-none
+loop-holds : tie.Need-loop-holds Inv-loop2 μ-loop2 Inv-loop μ-loop
+loop-holds c = let a = c .before .args in (omega arith, walk-begin (a .t3) (Hitting (a .rel .now) (mask (a .free)) (mask (a .t3))) hitting-none)
 
-lowest-requires : tie.Need-lowest-requires Inv-loop μ-loop
-lowest-requires c κs = omega arith
+mul-left : tie.Need-mul-left Inv-loop2 μ-loop2 Inv-loop μ-loop
+mul-left c = omega arith
 
-mul-intersection : tie.Need-mul-intersection Inv-loop μ-loop
-mul-intersection c = omega (arith, c .lowest .ensures .0)
+element-copy-out-left : tie.Need-element-copy-out-left Inv-loop2 μ-loop2 Inv-loop μ-loop
+element-copy-out-left c = omega arith
 
-shared-slice-read-intersection : tie.Need-shared-slice-read-intersection Inv-loop μ-loop
-shared-slice-read-intersection c =
-    let at-lowest = c .before in
-    let at-loop = at-lowest .before .before in
-    let start = at-loop .before .before in
-    start .pre _ (at-loop .loop .inv .part _ (at-lowest .lowest .ensures .1 .here))
+loop2-holds : tie.Need-loop2-holds Inv-loop2 μ-loop2 Inv-loop μ-loop
+loop2-holds c = let a = c .before .before .before .before .args in walk-into (a .t3) (Hitting (a .rel .now) (mask (a .free)) (mask (a .t3))) (c .before .before .loop .w) (c .before .before .loop .inv .1)
 
-intersection-requires : tie.Need-intersection-requires Inv-loop μ-loop
+lowest-requires : tie.Need-lowest-requires Inv-loop2 μ-loop2 Inv-loop μ-loop
+lowest-requires c κs = (omega arith, omega arith)
+
+get-requires : tie.Need-get-requires Inv-loop2 μ-loop2 Inv-loop μ-loop
+get-requires c κs = c .before .before .before .before .before .before .before .pre _ (c .before .before .loop2 .inv .part _ (c .lowest .ensures .1 .here))
+
+intersection-requires : tie.Need-intersection-requires Inv-loop2 μ-loop2 Inv-loop μ-loop
 intersection-requires c κs = tt
 
-returns : tie.Need-returns Inv-loop μ-loop
+is-empty-requires : tie.Need-is-empty-requires Inv-loop2 μ-loop2 Inv-loop μ-loop
+is-empty-requires c κs = tt
+
+returns : tie.Need-returns Inv-loop2 μ-loop2 Inv-loop μ-loop
 returns c =
-    let at-intersection = c .before in
-    let at-lowest = at-intersection .before .before in
-    let at-loop = at-lowest .before .before in
-    hitting-found (at-intersection .intersection .result) (at-lowest .lowest .ensures .0) (at-intersection .intersection .ok) (at-loop .loop .inv) (at-lowest .lowest .ensures .1) (at-intersection .intersection .ensures) (c .if1 .taken)
+    let f = c .before .before .before .before .before .before .before .before .before .before .before .args .free in
+    hitting-found (mask (c .before .before .intersection .result)) (c .before .before .before .before .lowest .ensures .0) (mask-lt (c .before .before .intersection .result)) (c .before .before .before .before .before .before .loop2 .inv) (c .before .before .before .before .lowest .ensures .1)
+    (both-of (c .before .before .before .get .ensures) (member (mask f)) (c .before .before .intersection .ensures)) (not-some (c .before .is-empty .ensures) (c .if1 .taken))
 
-without-lowest-requires : tie.Need-without-lowest-requires Inv-loop μ-loop
-without-lowest-requires c κs = omega arith
+without-lowest-requires : tie.Need-without-lowest-requires Inv-loop2 μ-loop2 Inv-loop μ-loop
+without-lowest-requires c κs = (omega arith, omega arith)
 
-loop-less : tie.Need-loop-less Inv-loop μ-loop
-loop-less c = c .without-lowest .ensures .1
+loop2-less : tie.Need-loop2-less Inv-loop2 μ-loop2 Inv-loop μ-loop
+loop2-less c = c .without-lowest .ensures .1
 
-loop-again : tie.Need-loop-again Inv-loop μ-loop
-loop-again c =
-    let at-if1 = c .before in
-    let at-intersection = at-if1 .before in
-    let at-lowest = at-intersection .before .before in
-    let at-loop = at-lowest .before .before in
-    hitting-next (at-intersection .intersection .result) (at-loop .loop .inv) (at-lowest .lowest .ensures .1) (c .without-lowest .ensures .0 _ (at-lowest .lowest .ensures .1)) (at-intersection .intersection .ensures) (at-if1 .if1 .left)
+loop2-again : tie.Need-loop2-again Inv-loop2 μ-loop2 Inv-loop μ-loop
+loop2-again c =
+    let f = c .before .before .before .before .before .before .before .before .before .before .before .before .args .free in
+    hitting-next (mask (c .before .before .before .intersection .result)) (c .before .before .before .before .before .before .before .loop2 .inv) (c .before .before .before .before .before .lowest .ensures .1) (c .without-lowest .ensures .0 _ (c .before .before .before .before .before .lowest .ensures .1))
+    (both-of (c .before .before .before .before .get .ensures) (member (mask f)) (c .before .before .before .intersection .ensures)) (not-none (c .before .before .is-empty .ensures) (c .before .if1 .left))
 
-returns-2 : tie.Need-returns-2 Inv-loop μ-loop
-returns-2 c = hitting-end (c .loop-test .left) (c .before .loop .inv)
+add-w : tie.Need-add-w Inv-loop2 μ-loop2 Inv-loop μ-loop
+add-w c = omega arith
+
+loop-less : tie.Need-loop-less Inv-loop2 μ-loop2 Inv-loop μ-loop
+loop-less c = omega arith
+
+loop-again : tie.Need-loop-again Inv-loop2 μ-loop2 Inv-loop μ-loop
+loop-again c = let a = c .before .before .before .before .before .before .args in (omega arith, walk-on (a .t3) (Hitting (a .rel .now) (mask (a .free)) (mask (a .t3))) (c .before .before .before .before .loop .w) (c .before .loop2 .left) (c .loop2-test .left) (c .before .loop2 .inv))
+
+returns-2 : tie.Need-returns-2 Inv-loop2 μ-loop2 Inv-loop μ-loop
+returns-2 c = hitting-end (walk-done (c .before .before .before .args .t3) (c .before .loop .w) (omega arith)) (c .before .loop .inv .1)
 
 pub hit-spec : {M : Type 1} → statement M
 hit-spec =
     tie.close
     (tie.spec
+    Inv-loop2
+    μ-loop2
     Inv-loop
     μ-loop
     loop-holds
+    mul-left
+    element-copy-out-left
+    loop2-holds
     lowest-requires
-    mul-intersection
-    shared-slice-read-intersection
+    get-requires
     intersection-requires
+    is-empty-requires
     returns
     without-lowest-requires
+    loop2-less
+    loop2-again
+    add-w
     loop-less
     loop-again
     returns-2)

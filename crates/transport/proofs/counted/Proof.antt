@@ -1,13 +1,14 @@
--- `transport::counted` meets its contract. Assumes nothing.
+-- `counted` meets its contract. Assumes nothing.
 use mathlib.Core.Path.{refl, _∙_}
-use Prim.Native.Nat.{_<_, _^_}
-use native.Mathlib.Omega.{arith}
+use Rattle.relation.specs.Words.{mask}
+use Rattle.relation.proofs.Sets.{mask-lt}
 use Rattle.matrix.proofs.MatrixLaws.{outside-trans}
 use Rattle.matrix.proofs.FlowLaws.{preserves-trans}
 use Rattle.greedy.proofs.StartLaws.{begun, balanced, missing-fits}
 use Rattle.greedy.proofs.GreedyLaws.{greedy-is}
 use Rattle.transport.proofs.Certificate.{finished}
 use borrow.Author.Needs.{needs}
+use native.Mathlib.Omega.{arith}
 use Rattle.transport.proofs.counted.Statement.{statement}
 use Rattle.transport.proofs.counted.Tie as tie
 
@@ -46,12 +47,11 @@ slice-aggregate-fill-3 c = search needs
 
 fill-requires : tie.Need-fill-requires
 fill-requires c κs =
-    let at-begin = c .before .before .before .before .before .before .before .before in
-    let at-no-users = at-begin .before .before .before .before .before .before in
-    let at-no-amounts2 = at-no-users .before in
-    let at-no-amounts = at-no-amounts2 .before in
-    let start = at-no-amounts .before .before .before .before .before in
-    let h = start .pre in let k = at-begin .begin .kept in (begun (at-begin .begin .ensures) (at-no-users .no-users .result) h (k .1 .1 .0) (omega (arith, h .few-rows, k .1 .1 .1 .0, at-no-amounts .no-amounts .ensures)) (omega (arith, h .few-columns, k .1 .1 .1 .1 .0, at-no-amounts2 .no-amounts2 .ensures)) (omega (arith, at-no-users .no-users .ensures .0)) (at-no-users .no-users .ensures .1), at-begin .begin .ensures .cleared .zero)
+    let h = c .before .before .before .before .before .before .before .before .before .before .before .before .before .before .before .before .before .before .before .before .before .pre in
+    let k = c .before .before .before .before .before .before .before .before .begin .kept in
+    let n = c .before .before .before .before .before .before .before .before .begin .ensures in
+    let u = c .before .before .before .before .before .before .before .before .before .before .before .before .before .before .no-users in
+    (begun n (u .result) h (k .1 .1 .0) (omega (arith, h .few-rows, k .1 .1 .1 .0, c .before .before .before .before .before .before .before .before .before .before .before .before .before .before .before .before .no-amounts .ensures)) (omega (arith, h .few-columns, k .1 .1 .1 .1 .0, c .before .before .before .before .before .before .before .before .before .before .before .before .before .before .before .no-amounts2 .ensures)) (omega (arith, u .ensures .0)) (u .ensures .1), n .cleared .zero)
 
 slice-aggregate-improve : tie.Need-slice-aggregate-improve
 slice-aggregate-improve c = search needs
@@ -70,28 +70,20 @@ slice-aggregate-improve-5 c = search needs
 
 improve-requires : tie.Need-improve-requires
 improve-requires c κs =
-    let at-fill = c .before .before .before .before .before .before .before .before .before .before .before in
-    let at-begin = at-fill .before .before .before .before .before .before .before .before .before in
-    let at-no-links2 = at-fill .before .before .before .before .before .before .before .before .before .before .before .before .before in
-    let at-no-links = at-no-links2 .before in
-    let start = at-no-links .before .before .before .before .before .before .before .before in
-    let e = at-fill .fill .ensures in (e .0 .flow, e .1, omega (arith, at-no-links .no-links .ensures), omega (arith, at-no-links2 .no-links2 .ensures), missing-fits (start .pre) (balanced (at-begin .begin .ensures) (e .0 .preserves)))
+    let e = c .before .before .before .before .before .before .before .before .before .before .before .fill .ensures in
+    (e .0 .flow, e .1, omega (arith, c .before .before .before .before .before .before .before .before .before .before .before .before .before .before .before .before .before .before .before .before .before .before .before .before .before .no-links .ensures), omega (arith, c .before .before .before .before .before .before .before .before .before .before .before .before .before .before .before .before .before .before .before .before .before .before .before .before .no-links2 .ensures), missing-fits (c .before .before .before .before .before .before .before .before .before .before .before .before .before .before .before .before .before .before .before .before .before .before .before .before .before .before .before .before .before .before .before .before .before .pre) (balanced (c .before .before .before .before .before .before .before .before .before .before .before .before .before .before .before .before .before .before .before .before .begin .ensures) (e .0 .preserves)))
 
 same-length : tie.Need-same-length
-same-length c =
-    let at-improve = c .before .before .before .before .before .before .before in
-    let at-fill = at-improve .before .before .before .before .before .before .before .before .before .before .before .before in
-    let at-begin = at-fill .before .before .before .before .before .before .before .before .before in
-    omega (arith, at-improve .improve .ensures .0 .same-x, at-fill .fill .ensures .0 .same-x, at-begin .begin .kept .1 .1 .0)
+same-length c = omega (arith, c .before .before .before .before .before .before .before .improve .ensures .0 .same-x, c .before .before .before .before .before .before .before .before .before .before .before .before .before .before .before .before .before .before .before .fill .ensures .0 .same-x, c .before .before .before .before .before .before .before .before .before .before .before .before .before .before .before .before .before .before .before .before .before .before .before .before .before .before .before .before .begin .kept .1 .1 .0)
 
 returns : tie.Need-returns
 returns c =
-    let at-improve = c .before .before .before .before .before .before .before in
-    let at-fill = at-improve .before .before .before .before .before .before .before .before .before .before .before .before in
-    let at-begin = at-fill .before .before .before .before .before .before .before .before .before in
-    let fits : at-improve .improve .result .cut < 2 ^ 64 = search needs in
-    let f = at-fill .fill .ensures in let v = at-improve .improve .ensures in let d = v .1 in let n = at-begin .begin .ensures in (
-      finished (at-improve .improve .result .cut) (v .0 .flow) (d .rows) (d .columns) (d .stuck) (balanced n (preserves-trans (f .0 .preserves) (v .0 .preserves))) fits (outside-trans (n .cleared .outside) (outside-trans (f .0 .outside) (v .0 .outside))) (v .0 .same-x ∙ f .0 .same-x ∙ at-begin .begin .kept .1 .1 .0),
+    let r = c .before .before .before .before .before .before .before .improve .result .cut in
+    let f = c .before .before .before .before .before .before .before .before .before .before .before .before .before .before .before .before .before .before .before .fill .ensures in
+    let v = c .before .before .before .before .before .before .before .improve .ensures in
+    let d = v .1 in
+    let n = c .before .before .before .before .before .before .before .before .before .before .before .before .before .before .before .before .before .before .before .before .before .before .before .before .before .before .before .before .begin .ensures in (
+      finished (mask r) (v .0 .flow) (d .rows) (d .columns) (d .stuck) (balanced n (preserves-trans (f .0 .preserves) (v .0 .preserves))) (mask-lt r) (outside-trans (n .cleared .outside) (outside-trans (f .0 .outside) (v .0 .outside))) (v .0 .same-x ∙ f .0 .same-x ∙ c .before .before .before .before .before .before .before .before .before .before .before .before .before .before .before .before .before .before .before .before .before .before .before .before .before .before .before .before .begin .kept .1 .1 .0),
       record { x₁ = _; a₁ = _; b₁ = _; users₁ = _; a = _; b = _; users = _; greedy = greedy-is refl (n .supplies .supply) (n .demands .supply) (f .2); left = balanced n (f .0 .preserves); used = f .0 .flow .used; chain = v .2; bound = omega (arith, v .3) },
     )
 

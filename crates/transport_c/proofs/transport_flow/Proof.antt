@@ -10,14 +10,14 @@ accepts-requires c κs = search needs
 counted-requires : tie.Need-counted-requires
 counted-requires c κs = c .before .before .accepts .ensures .taken (c .before .if1 .taken) .given
 
-slice-write-cut : tie.Need-slice-write-cut
-slice-write-cut c =
-    let at-if1 = c .before .before .before .before in
+put-requires : tie.Need-put-requires
+put-requires c κs =
+    let at-if1 = c .before .before .before .before .before in
     at-if1 .before .accepts .ensures .taken (at-if1 .if1 .taken) .cut-place
 
 slice-write-paths : tie.Need-slice-write-paths
 slice-write-paths c =
-    let at-if1 = c .before .before .before .before in
+    let at-if1 = c .before .before .before .before .before .before .before .before in
     at-if1 .before .accepts .ensures .taken (at-if1 .if1 .taken) .paths-place
 
 same-length : tie.Need-same-length
@@ -31,10 +31,10 @@ same-length-3 c = search needs
 
 returns : tie.Need-returns
 returns c =
-    let at-counted = c .before .before in
+    let at-counted = c .before .before .before .before .before .before in
     let at-if1 = at-counted .before .before in
     let (answered, counts) = at-counted .counted .ensures in
-    record { answered = λ _. (refl, _, _, refl, refl, answered, counts); refused = λ not-taken. absurd (not-taken (at-if1 .before .accepts .ensures .taken (at-if1 .if1 .taken))) }
+    record { answered = λ _. (refl, _, _, c .before .before .put .ensures, refl, answered, counts); refused = λ not-taken. absurd (not-taken (at-if1 .before .accepts .ensures .taken (at-if1 .if1 .taken))) }
 
 same-length-4 : tie.Need-same-length-4
 same-length-4 c = search needs
@@ -54,7 +54,7 @@ transport-flow-spec =
     (tie.spec
     accepts-requires
     counted-requires
-    slice-write-cut
+    put-requires
     slice-write-paths
     same-length
     same-length-2

@@ -5,7 +5,7 @@ use Prim.Native.Nat.{_+_, _-_, _*_, _≤_}
 use native.Mathlib.Omega.{arith}
 use lib.ListN.{length}
 use borrow.Author.Needs.{needs}
-use Rattle.form.specs.Limits.{most-states}
+use Rattle.simulation.specs.Limits.{most-states}
 use Rattle.form.specs.Form.{start-of}
 use Rattle.form.proofs.FormLaws.{limits, starts-ascend}
 use Rattle.flows.specs.Flow.{most-flow}

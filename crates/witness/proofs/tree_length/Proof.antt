@@ -1,32 +1,30 @@
--- `witness::tree_length` meets its contract. Assumes nothing.
+-- `witness::tree_length` meets its contract: there is room for all pairs. Assumes nothing.
 use native.Mathlib.Omega.{arith}
 use borrow.Author.Needs.{needs}
 use Rattle.form.proofs.FormLaws.{few-pairs}
+use Rattle.witness.proofs.Showing.{count-is, count-small}
 use Rattle.witness.proofs.tree_length.Statement.{statement}
 use Rattle.witness.proofs.tree_length.Tie as tie
+
+states-requires : tie.Need-states-requires
+states-requires c κs = search needs
+
+states-requires-2 : tie.Need-states-requires-2
+states-requires-2 c κs = search needs
+
+mul-if1 : tie.Need-mul-if1
+mul-if1 c =
+    let p = c .before .before .before .before .before .before .before .before .before .pre in
+    omega (arith, count-small _ _ (p .0 .first-loaded) (p .0 .second-loaded) (c .before .states .ensures) (c .states2 .ensures))
 
 slice-aggregate-tree-length : tie.Need-slice-aggregate-tree-length
 slice-aggregate-tree-length c = search needs
 
-slice-aggregate-tree-length-2 : tie.Need-slice-aggregate-tree-length-2
-slice-aggregate-tree-length-2 c = search needs
-
 tree-length-requires : tie.Need-tree-length-requires
 tree-length-requires c κs =
-    let at-sets = c .before .before in
-    let at-order = at-sets .before .before .before in
-    let entry = at-order .before .before .before .before .before .before .before .before in
-    let p = entry .pre in (
-      record {
-        ranked = p .0;
-        room = omega (arith, p .4, few-pairs _ _ (p .0 .first-loaded) (p .0 .second-loaded));
-        words = omega (arith, slice-aggregate-tree-length-2 (at-sets));
-        lent = p .2;
-      },
-      omega (arith, slice-aggregate-tree-length (at-order), few-pairs _ _ (p .0 .first-loaded) (p .0 .second-loaded)),
-      omega (arith, p .3, few-pairs _ _ (p .0 .first-loaded) (p .0 .second-loaded)),
-      p .1,
-    )
+    let p = c .before .before .before .before .before .before .before .before .before .before .before .before .before .before .before .pre in
+    let n = count-is _ _ (p .0 .first-loaded) (p .0 .second-loaded) (c .before .before .before .before .before .before .before .states .ensures) (c .before .before .before .before .before .before .states2 .ensures) in
+    (p .0, p .1, p .2, omega (arith, n, c .before .before .before .before .before .if1 .taken, slice-aggregate-tree-length (c .before .before .before .before)), p .3, p .4)
 
 same-length : tie.Need-same-length
 same-length c = search needs
@@ -43,15 +41,47 @@ same-length-4 c = search needs
 returns : tie.Need-returns
 returns c = search needs
 
+slice-aggregate-tree-length-2 : tie.Need-slice-aggregate-tree-length-2
+slice-aggregate-tree-length-2 c = search needs
+
+tree-length-requires-2 : tie.Need-tree-length-requires-2
+tree-length-requires-2 c κs =
+    let p = c .before .before .before .before .before .before .before .before .before .before .before .before .before .before .before .pre in
+    (p .0, p .1, p .2, omega (arith, few-pairs _ _ (p .0 .first-loaded) (p .0 .second-loaded), slice-aggregate-tree-length-2 (c .before .before .before .before)), p .3, p .4)
+
+same-length-5 : tie.Need-same-length-5
+same-length-5 c = search needs
+
+same-length-6 : tie.Need-same-length-6
+same-length-6 c = search needs
+
+same-length-7 : tie.Need-same-length-7
+same-length-7 c = search needs
+
+same-length-8 : tie.Need-same-length-8
+same-length-8 c = search needs
+
+returns-2 : tie.Need-returns-2
+returns-2 c = search needs
+
 pub tree-length-spec : {M : Type 1} → statement M
 tree-length-spec =
     tie.close
     (tie.spec
+    states-requires
+    states-requires-2
+    mul-if1
     slice-aggregate-tree-length
-    slice-aggregate-tree-length-2
     tree-length-requires
     same-length
     same-length-2
     same-length-3
     same-length-4
-    returns)
+    returns
+    slice-aggregate-tree-length-2
+    tree-length-requires-2
+    same-length-5
+    same-length-6
+    same-length-7
+    same-length-8
+    returns-2)

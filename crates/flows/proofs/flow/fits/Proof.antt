@@ -47,18 +47,21 @@ transport-requires c κs =
     kernel-asked _ _ (g .ready .ranked) (g .first) (g .second) (at-weights2 .before .weights .ensures) (at-weights2 .weights2 .ensures) _ _
     (omega (arith, at-rows .rows .ensures .size, at-none .no-rows .ok)) (g .ready .cells)
 
+is-empty-requires : tie.Need-is-empty-requires
+is-empty-requires c κs = search needs
+
 same-length : tie.Need-same-length
 same-length c = search needs
 
 returns-2 : tie.Need-returns-2
 returns-2 c =
-    let at-transport = c .before .before in
+    let at-transport = c .before .before .before in
     let at-weights2 = at-transport .before .before .before in
     let at-rows = at-weights2 .before .before .before in
     let at-if1 = at-rows .before .before .before in
     let at-code2 = at-if1 .before in
     let entry = at-code2 .before .before .before .before .before .before in
-    kernel-answer (entry .pre) (at-rows .rows .ensures) (at-weights2 .before .weights .ensures) (at-weights2 .weights2 .ensures)
+    kernel-answer (entry .pre) (c .is-empty .ensures) (at-rows .rows .ensures) (at-weights2 .before .weights .ensures) (at-weights2 .weights2 .ensures)
     (sym (at-code2 .before .code .ensures) ∙ at-if1 .if1 .left ∙ at-code2 .code2 .ensures) (at-transport .transport .ensures)
 
 pub fits-spec : {M : Type 1} → statement M
@@ -75,5 +78,6 @@ fits-spec =
     weights-requires-2
     slice-aggregate-transport
     transport-requires
+    is-empty-requires
     same-length
     returns-2)

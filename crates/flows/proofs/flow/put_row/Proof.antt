@@ -48,6 +48,7 @@ use denote.Triple.Clauses.{ensured, lasts}
 use denote.Triple.Table.{entered, cited}
 use denote.Triple.Walked.{says, needs, Stays, stay-none, stay-none-slice, gave-slice, walkOf, goes-none, goes-none-slice, goes-gave-slice, Walks, ends-at, walked, walk-meets}
 use denote.Exit.{yes}
+use Rattle.simulation.specs.Limits.{most-states}
 use Rattle.buffer.specs.Buffer.{over, Filled}
 use Rattle.matrix.specs.Matrix.{cell}
 use Rattle.flows.specs.Flow.{flow-row}
@@ -74,10 +75,10 @@ abbrev R : RattleType
 R = T.the-row
 
 abbrev AR : RattleType
-AR = Array R 64
+AR = Array R most-states
 
 abbrev arrTy : Ty
-arrTy = tyArray T′.mir 64
+arrTy = tyArray T′.mir most-states
 
 abbrev word : Ty
 word = tyInt w64
@@ -121,27 +122,27 @@ Rows ys l = arr-parts (shares R) (length ys) .part fullShare ys l 0
 -- the array in its local: as some list of its elements, to be lent; after a loan, to be shared; and in the end as room
 module _ {M : Type 1} (𝓤 : URA M) (H : Heap 𝓤) (A : Atoms 𝓤) (W : Given 𝓤 H A) where
   lendable : (ys : List Record) (v : Val) (l : ℕ) → ent 𝓤 (sep 𝓤 (H .at fullShare arrTy l 0 v) (sem 𝓤 H A (AR .own ys (v ∷ []))))
-      (ex 𝓤 (λ (zs : List Record). guard 𝓤 (length zs ≡ 64) (sem 𝓤 H A (cells (lying R) zs l 0))))
+      (ex 𝓤 (λ (zs : List Record). guard 𝓤 (length zs ≡ most-states) (sem 𝓤 H A (cells (lying R) zs l 0))))
   unfolding partOf
   lendable ys v l =
       qed W (‵ (fat fullShare arrTy l 0 v) ∷ ‵ (AR .own ys (v ∷ [])) ∷ []) ∵ use1 W (‵ (cellAt fullShare (AR .mir) (v ∷ []) l 0)) (W .laws .at-raw fullShare arrTy l 0 v) $ fjoin ! $
       fpack ! (List Val) (λ us. fsep (cellAt fullShare (AR .mir) us l 0) (AR .own ys us)) (v ∷ []) $
-      use1 W (‵ (arr-parts (shares R) 64 .part fullShare ys l 0)) (array-apart 𝓤 H A W R fullShare tt 64 ys l 0) $ fsplit ! $ feqL ! (λ len.
+      use1 W (‵ (arr-parts (shares R) most-states .part fullShare ys l 0)) (array-apart 𝓤 H A W R fullShare tt most-states ys l 0) $ fsplit ! $ feqL ! (λ len.
       use1 W (‵ (cells (lying R) ys l 0)) (whole-in 𝓤 H A W R ys l 0) $
-      show ! (λ (zs : List Record). guard 𝓤 (length zs ≡ 64) (sem 𝓤 H A (cells (lying R) zs l 0))) ys $ check ! len $ done !)
+      show ! (λ (zs : List Record). guard 𝓤 (length zs ≡ most-states) (sem 𝓤 H A (cells (lying R) zs l 0))) ys $ check ! len $ done !)
 
   shareable : (n : ℕ) (zs : List Record) (l : ℕ) → ent 𝓤 (sem 𝓤 H A (Arr (lying R) n .lies zs l 0)) (sem 𝓤 H A (Rows zs l))
   shareable n zs l =
       qed W (‵ (Arr (lying R) n .lies zs l 0) ∷ []) ∵ fsplit ! $ drop ! $ use1 W (‵ (row R fullShare zs l 0)) (whole-out 𝓤 H A W R zs l 0) $ feqI ! ℕ (length zs) (length zs) refl $ fjoin ! $ done !
 
-  roomy : (zs : List Record) → length zs ≡ 64 → (l : ℕ) → ent 𝓤 (sem 𝓤 H A (Rows zs l)) (sem 𝓤 H A (froom arrTy l 0))
+  roomy : (zs : List Record) → length zs ≡ most-states → (l : ℕ) → ent 𝓤 (sem 𝓤 H A (Rows zs l)) (sem 𝓤 H A (froom arrTy l 0))
   unfolding partOf
   roomy zs len l =
       let v : Val = getD (array-vals (LL.vals T.the-type T′.the-laws) zs) 0 zero-val in
       qed W (‵ (Rows zs l) ∷ []) ∵ rewrite ! 0 (λ (m : ℕ). ‵ (arr-parts (shares R) m .part fullShare zs l 0)) len refl $
-      use1 W (‵ (partAt AR fullShare zs l 0)) (array-whole 𝓤 H A W R fullShare 64 zs l 0) $ fpick ! (λ vs. fsplit ! $ move ! (1 ∷ []) $
+      use1 W (‵ (partAt AR fullShare zs l 0)) (array-whole 𝓤 H A W R fullShare most-states zs l 0) $ fpick ! (λ vs. fsplit ! $ move ! (1 ∷ []) $
       peeks ! AR (Is AR) (shows 𝓤 H A AR) zs vs (λ p. drop ! $
-      rewrite ! 0 (λ (us : List Val). ‵ (cellAt fullShare (AR .mir) us l 0)) (array-tells R (LL.vals T.the-type T′.the-laws) (LL.tells T.the-type T′.the-laws) 64 zs vs p) refl $
+      rewrite ! 0 (λ (us : List Val). ‵ (cellAt fullShare (AR .mir) us l 0)) (array-tells R (LL.vals T.the-type T′.the-laws) (LL.tells T.the-type T′.the-laws) most-states zs vs p) refl $
       use1 W (‵ (fat fullShare arrTy l 0 v)) (W .laws .raw-at fullShare arrTy l 0 v) $ use1 W (‵ (froom arrTy l 0)) (W .laws .at-room arrTy l 0 v) $ done !))
 
 module _ {M : Type 1} (𝓤 : URA M) (H : Heap 𝓤) (A : Atoms 𝓤) (W : Given 𝓤 H A) (mem : Memory → SProp 𝓤) (run : Routine → Fun 𝓤) (κ₀ κ₁ κ₂ : Lft) (q₀ q₁ q₂ : Share)
@@ -218,7 +219,7 @@ module _ {M : Type 1} (𝓤 : URA M) (H : Heap 𝓤) (A : Atoms 𝓤) (W : Given
 
   module _ (s-fits : s < 2 ^ 8) (i-fits : i < 2 ^ 64) (nt-room : Room u16 (length (nt .now))) (x-room : Room u32 (length (x .now))) (buf-room : Room u8 (length bs))
       (pre : Row (nt .now) (x .now) i) (enough : length (nt .now) * 6 ≤ length bs) where
-    goes-ga : (ν l : ℕ) (γ : GName) (ys : List Record) → length ys ≡ 64
+    goes-ga : (ν l : ℕ) (γ : GName) (ys : List Record) → length ys ≡ most-states
         → ent 𝓤 (sep 𝓤 (sep 𝓤 (A .lft κ₀ q₀) (sep 𝓤 (A .lft κ₁ q₁) (sep 𝓤 (A .lft (ν ∷ []) fullShare) (sem 𝓤 H A ftrue)))) (sep 𝓤 (sem 𝓤 H A (fsep NT XS)) (sem 𝓤 H A (Mut ν l γ ys)))) (GA 𝓤 H A mem run .pre (to-ga ν l γ ys))
     goes-ga ν l γ ys len =
         qed W (ga-toks ν ∷ ‵ (fsep NT XS) ∷ ‵ (Mut ν l γ ys) ∷ []) ∵ says ! (pre, omega (arith, len, pre .few)) $ frame ! $ fsplit ! $
@@ -247,10 +248,10 @@ module _ {M : Type 1} (𝓤 : URA M) (H : Heap 𝓤) (A : Atoms 𝓤) (W : Given
           -- the array is made
           assigns ! (agg ! (and-then ! (lit ! tt) (and-then ! (lit ! tt) (and-then ! (lit ! tt) (no-more !))))) (from ! (stop !)) (init ! 14 refl (LL.lawful T.the-type T′.the-laws 𝓤 H A W .typed no-record (zero-val ∷ []) zero-is .0)) $
           owned ! R (Is R) (LL.makes T.the-type T′.the-plain 𝓤 H A) no-record (zero-val ∷ []) zero-is $
-          use1 W (‵ (AR .own (replicate 64 no-record) (arrayVal (replicate 64 zero-val) ∷ []))) (array-repeat 𝓤 H A W R ((LL.copy T.the-type T′.the-copy) 𝓤 H A W) 64 no-record zero-val) $
-          peeks ! AR (Is AR) (shows 𝓤 H A AR) (replicate 64 no-record) (arrayVal (replicate 64 zero-val) ∷ []) (λ made.
-          assigns ! (rep ! 64 (load ! (from ! (stop !)) (look ! 15 refl))) (from ! (stop !)) (init ! 19 refl (array-typed R (LL.lawful T.the-type T′.the-laws 𝓤 H A W .typed) 64 (replicate 64 no-record) _ made .0)) $
-          move ! (19 ∷ 0 ∷ []) $ use2 W (some (λ (ys : List Record). given (length ys ≡ 64) (‵ (cells (lying R) ys l₆ 0)))) (lendable 𝓤 H A W (replicate 64 no-record) (arrayVal (replicate 64 zero-val)) l₆) $ pick ! (λ ys. learn ! (λ len.
+          use1 W (‵ (AR .own (replicate most-states no-record) (arrayVal (replicate most-states zero-val) ∷ []))) (array-repeat 𝓤 H A W R ((LL.copy T.the-type T′.the-copy) 𝓤 H A W) most-states no-record zero-val) $
+          peeks ! AR (Is AR) (shows 𝓤 H A AR) (replicate most-states no-record) (arrayVal (replicate most-states zero-val) ∷ []) (λ made.
+          assigns ! (rep ! most-states (load ! (from ! (stop !)) (look ! 15 refl))) (from ! (stop !)) (init ! 19 refl (array-typed R (LL.lawful T.the-type T′.the-laws 𝓤 H A W .typed) most-states (replicate most-states no-record) _ made .0)) $
+          move ! (19 ∷ 0 ∷ []) $ use2 W (some (λ (ys : List Record). given (length ys ≡ most-states) (‵ (cells (lying R) ys l₆ 0)))) (lendable 𝓤 H A W (replicate most-states no-record) (arrayVal (replicate most-states zero-val)) l₆) $ pick ! (λ ys. learn ! (λ len.
           let room : Room R (length ys) = subst (Room R) (sym len) (lit< tt, lit< tt) in
           move ! (33 ∷ []) $ fsplit ! $ drop ! $ fsplit ! $ move ! (1 ∷ []) $ fsplit ! $ move ! (1 ∷ []) $ fsplit ! $ drop ! $ fsplit ! $
           move ! (36 ∷ []) $ split ! $ move ! (1 ∷ []) $ split ! $ move ! (1 ∷ []) $ split ! $
@@ -275,7 +276,7 @@ module _ {M : Type 1} (𝓤 : URA M) (H : Heap 𝓤) (A : Atoms 𝓤) (W : Given
           split ! $ move ! (1 ∷ []) $ heard ! (Gathered (row-records s (nt .now) a) n (ws .1 .1 .1 .1 .0)) (λ told.
           fsplit ! $ drop ! $ fsplit ! $ drop ! $ fsplit ! $ drop ! $ fsplit ! $ drop ! $ fsplit ! $ fsplit ! $ move ! (1 ∷ []) $ feqL ! (λ l.
           let zs : List Record = ws .1 .1 .1 .1 .0 in
-          let full : length zs ≡ 64 = l ∙ len in
+          let full : length zs ≡ most-states = l ∙ len in
           let few : n ≤ length (nt .now) = omega (arith, told .count, row-few s (nt .now) a) in
           move ! (2 ∷ []) $ split ! $ move ! (1 ∷ []) $ peeks ! usize (Is usize) (shows 𝓤 H A usize) n (w ∷ []) (λ is.
           land ! (from ! (stop !)) (init ! 9 refl (uint-lawful 𝓤 H A W w64 .typed n _ is .0)) $ drop ! $

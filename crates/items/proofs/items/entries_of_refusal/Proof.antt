@@ -9,7 +9,7 @@ use denote.Ref.{now}
 use borrow.Author.Needs.{needs}
 use borrow.Author.Tests.{leb-true}
 use Rattle.simulation.specs.Sum.{sum}
-use Rattle.form.specs.Limits.{most-total}
+use Rattle.simulation.specs.Limits.{most-total}
 use Rattle.layout.specs.Bytes.{_then_, refuse_unless_, target-right, weight-from, weight-right, entry-refusal}
 use Rattle.layout.proofs.Laws.{Passed, passed-none, passed-more, passed-here, passed-all, and-right}
 use Rattle.layout.proofs.SectionLaws.{then-parts, holds}

@@ -1,73 +1,62 @@
 -- `count::add_counts` meets its contract. Assumes nothing.
-use native.Mathlib.Omega.{arith}
 use Prim.Native.Nat.{_-_}
+use native.Mathlib.Omega.{arith}
 use Rattle.order.proofs.Counting.{CountsLoop, counts-start, child-within, counts-next, counts-end}
 use Rattle.order.proofs.count.add_counts.Statement.{statement}
 use Rattle.order.proofs.count.add_counts.Tie as tie
 
 abbrev Inv-loop : tie.InvT-loop
-Inv-loop targets sets width c counts₀ i₀ i-end counts i = CountsLoop targets sets width c counts₀ counts i
+Inv-loop targets sets width c counts₀ i₀ i-end counts i =
+    CountsLoop targets sets width c counts₀ counts i
 
 abbrev μ-loop : tie.MeasureT-loop
-μ-loop targets sets width c counts₀ i₀ i-end counts i = i-end - i
+μ-loop targets sets width c counts₀ i₀ i-end counts i =
+    i-end - i
 
 loop-holds : tie.Need-loop-holds Inv-loop μ-loop
-loop-holds c =
-    let entry = c .before .before .before in
-    let a = entry .args in counts-start (a .targets .now) (a .sets .now) (a .width) (a .c) (a .counts .now)
+loop-holds c = let a = c .before .before .before .args in counts-start (a .targets .now) (a .sets .now) (a .width) (a .c) (a .counts .now)
 
 mul-s : tie.Need-mul-s Inv-loop μ-loop
 mul-s c =
     let entry = c .before .before .before .before .before in
-    record { fits = omega (arith, entry .pre .few, c .loop-test .taken) }
+    omega (arith, entry .pre .few, c .loop-test .taken)
 
 shared-slice-read-s : tie.Need-shared-slice-read-s Inv-loop μ-loop
 shared-slice-read-s c = c .before .loop-test .taken
 
 cast-s : tie.Need-cast-s Inv-loop μ-loop
 cast-s c =
-    let at-loop-test = c .before in
-    let entry = at-loop-test .before .before .before .before .before in
-    record { fits = omega (arith, entry .pre .low _ (at-loop-test .loop-test .taken)) }
+    let entry = c .before .before .before .before .before .before in
+    omega (arith, entry .pre .low _ (c .before .loop-test .taken))
 
-mul-members : tie.Need-mul-members Inv-loop μ-loop
-mul-members c =
-    let at-loop-test = c .before in
-    let entry = at-loop-test .before .before .before .before .before in
-    record { fits = omega (arith, entry .pre .few, at-loop-test .loop-test .taken) }
-
-shared-slice-read-members : tie.Need-shared-slice-read-members Inv-loop μ-loop
-shared-slice-read-members c =
-    let at-loop-test = c .before .before in
-    let entry = at-loop-test .before .before .before .before .before in
-    omega (arith, entry .pre .words, at-loop-test .loop-test .taken)
+get-requires : tie.Need-get-requires Inv-loop μ-loop
+get-requires c κs =
+    let entry = c .before .before .before .before .before .before in
+    omega (arith, entry .pre .words, c .before .loop-test .taken)
 
 add-row-requires : tie.Need-add-row-requires Inv-loop μ-loop
 add-row-requires c κs =
     let at-loop-test = c .before .before .before in
     let at-loop = at-loop-test .before in
     let entry = at-loop .before .before .before .before in
-    child-within (entry .pre) (at-loop .loop .inv) (at-loop-test .loop-test .taken)
+    child-within (entry .pre) (at-loop .loop .inv) (at-loop-test .loop-test .taken) _ (c .before .get .ensures)
 
 add-i : tie.Need-add-i Inv-loop μ-loop
 add-i c =
     let at-loop-test = c .before .before .before .before .before .before in
     let entry = at-loop-test .before .before .before .before .before in
-    record { fits = omega (arith, entry .pre .few, at-loop-test .loop-test .taken) }
+    omega (arith, entry .pre .few, at-loop-test .loop-test .taken)
 
 loop-less : tie.Need-loop-less Inv-loop μ-loop
-loop-less c =
-    let at-loop-test = c .before .before .before .before .before .before in
-    omega (arith, at-loop-test .loop-test .taken)
+loop-less c = omega (arith, c .before .before .before .before .before .before .loop-test .taken)
 
 loop-again : tie.Need-loop-again Inv-loop μ-loop
 loop-again c =
-    let at-counts = c .before in
-    let at-add-row = at-counts .before in
-    let at-loop-test = at-add-row .before .before .before .before in
+    let at-get = c .before .before .before .before in
+    let at-loop-test = at-get .before .before in
     let at-loop = at-loop-test .before in
     let entry = at-loop .before .before .before .before in
-    counts-next (entry .pre) (at-loop .loop .inv) (at-loop-test .loop-test .taken) (at-counts .counts .given) (at-add-row .add-row .ensures)
+    counts-next (entry .pre) (at-loop .loop .inv) (at-loop-test .loop-test .taken) (at-get .get .ensures) (c .before .counts .given) (c .before .before .add-row .ensures)
 
 same-length : tie.Need-same-length Inv-loop μ-loop
 same-length c = c .before .loop .inv .same-counts
@@ -78,4 +67,17 @@ returns c = counts-end (c .before .loop .inv) (c .loop-test .left)
 pub add-counts-spec : {M : Type 1} → statement M
 add-counts-spec =
     tie.close
-    (tie.spec Inv-loop μ-loop loop-holds mul-s shared-slice-read-s cast-s mul-members shared-slice-read-members add-row-requires add-i loop-less loop-again same-length returns)
+    (tie.spec
+    Inv-loop
+    μ-loop
+    loop-holds
+    mul-s
+    shared-slice-read-s
+    cast-s
+    get-requires
+    add-row-requires
+    add-i
+    loop-less
+    loop-again
+    same-length
+    returns)

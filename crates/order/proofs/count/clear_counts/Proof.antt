@@ -1,18 +1,18 @@
 -- `count::clear_counts` meets its contract. Assumes nothing.
 use Prim.Native.Nat.{_-_}
 use native.Mathlib.Omega.{arith}
-use Rattle.choice.proofs.Choosing.{Clearing, clearing-start, clearing-next}
+use Rattle.order.proofs.Counting.{Emptied, emptied-start, emptied-next}
 use Rattle.order.proofs.count.clear_counts.Statement.{statement}
 use Rattle.order.proofs.count.clear_counts.Tie as tie
 
 abbrev Inv-loop : tie.InvT-loop
-Inv-loop counts₀ n i₀ counts i = Clearing n counts₀ counts i
+Inv-loop counts₀ n i₀ counts i = Emptied n counts₀ counts i
 
 abbrev μ-loop : tie.MeasureT-loop
 μ-loop counts₀ n i₀ counts i = n - i
 
 loop-holds : tie.Need-loop-holds Inv-loop μ-loop
-loop-holds c = clearing-start (c .args .n) (c .args .counts .now)
+loop-holds c = emptied-start (c .args .n) (c .args .counts .now)
 
 mul-counts : tie.Need-mul-counts Inv-loop μ-loop
 mul-counts c = record { fits = omega (arith, c .before .before .pre .0, c .loop-test .taken) }
@@ -27,7 +27,7 @@ loop-less : tie.Need-loop-less Inv-loop μ-loop
 loop-less c = omega (arith, c .loop-test .taken)
 
 loop-again : tie.Need-loop-again Inv-loop μ-loop
-loop-again c = clearing-next (c .before .loop .inv) (c .loop-test .taken) (c .before .before .pre .1)
+loop-again c = emptied-next (c .before .loop .inv) (c .loop-test .taken) (c .before .before .pre .1)
 
 same-length : tie.Need-same-length Inv-loop μ-loop
 same-length c = c .before .loop .inv .size

@@ -1,11 +1,15 @@
 -- `order::no_pairs` meets its contract. Assumes nothing.
-use mathlib.Core.Path.{refl}
-use Rattle.matrix.proofs.MaskedLaws.{zeros-get}
+use Prim.Native.Nat.{ℕ, _*_}
+use native.Mathlib.Omega.{arith}
+use lib.ListN.{length-replicate}
+use Rattle.simulation.specs.Limits.{most-states}
+use Rattle.relation.specs.Words.{words}
+use Rattle.relation.proofs.Relations.{row-none}
 use Rattle.order.proofs.list.no_pairs.Statement.{statement}
 use Rattle.order.proofs.list.no_pairs.Tie as tie
 
 returns : tie.Need-returns
-returns c = (refl, zeros-get 64)
+returns c = (omega (arith, length-replicate {A = ℕ} (most-states * words) 0), row-none)
 
 pub no-pairs-spec : {M : Type 1} → statement M
 no-pairs-spec = tie.close (tie.spec returns)

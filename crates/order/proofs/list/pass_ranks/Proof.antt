@@ -1,6 +1,7 @@
 -- `order::pass_ranks` meets its contract. Assumes nothing.
 use mathlib.Core.Path.{_∙_}
 use native.Mathlib.Omega.{arith}
+use Rattle.relation.specs.Words.{mask}
 use Rattle.order.specs.Order.{Noted}
 use Rattle.order.proofs.Counting.{Counted, counted-start, counted-next}
 use Rattle.order.proofs.Walks.{Held, held, held-next, still-given, RanksWalk, ranks-next, ranks-end}
@@ -9,7 +10,7 @@ use Rattle.order.proofs.list.pass_ranks.Tie as tie
 
 abbrev Inv-loop : tie.InvT-loop
 Inv-loop first second ranks top order₀ choices₀ counts₀ todo₀ sets₀ rel₀ x₀ q₀ r₀ order choices counts todo sets rel x q r =
-    RanksWalk first second order₀ (q₀ .count) todo₀ order (q .count) todo (q .rows) r × Held order₀ choices₀ todo₀ sets₀ rel₀ x₀ order choices todo sets rel x × Noted first second order (q .count) choices × Counted first second counts₀ (q₀ .bytes) counts (q .bytes)
+    RanksWalk first second order₀ (q₀ .count) todo₀ order (q .count) todo (mask (q .rows)) r × Held order₀ choices₀ todo₀ sets₀ rel₀ x₀ order choices todo sets rel x × Noted first second order (q .count) choices × Counted first second counts₀ (q₀ .bytes) counts (q .bytes)
 
 abbrev μ-loop : tie.MeasureT-loop
 μ-loop first second ranks top order₀ choices₀ counts₀ todo₀ sets₀ rel₀ x₀ q₀ r₀ order choices counts todo sets rel x q r = r

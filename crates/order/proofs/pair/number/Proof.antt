@@ -1,19 +1,20 @@
 -- `pair::number` meets its contract. Assumes nothing.
 use mathlib.Core.List.{List}
 use mathlib.Core.Path.{_≡_, ap}
-use Prim.Native.Nat.{ℕ, _+_, _*_, _≤_, _<_}
+use Prim.Native.Nat.{ℕ, _+_, _-_, _*_, _≤_, _<_}
 use native.Mathlib.Omega.{arith}
 use native.Mathlib.Nat.{mul-le-mul-left}
 use borrow.Author.Needs.{needs}
+use Rattle.simulation.specs.Limits.{most-states, most-pairs}
 use Rattle.simulation.specs.Table.{states-of}
 use Rattle.form.proofs.FormLaws.{limits}
 use Rattle.form.specs.Form.{Loaded, table-of}
 use Rattle.order.proofs.pair.number.Statement.{statement}
 use Rattle.order.proofs.pair.number.Tie as tie
 
-small : (f : List ℕ) (s n : ℕ) → Loaded f → s < 64 → n ≡ states-of (table-of f) → s * n ≤ 4032
+small : (f : List ℕ) (s n : ℕ) → Loaded f → s < most-states → n ≡ states-of (table-of f) → s * n ≤ most-pairs - most-states
 small f s n l a e =
-    omega (arith, mul-le-mul-left s (let h : n ≤ 64 = omega (arith, limits f l .states-few) in h))
+    omega (arith, mul-le-mul-left s (let h : n ≤ most-states = omega (arith, limits f l .states-few) in h))
 
 states-requires : tie.Need-states-requires
 states-requires c κs = search needs

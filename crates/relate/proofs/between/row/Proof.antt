@@ -1,68 +1,62 @@
--- `relate::between::row` meets its contract. The loop's invariant: the set holds the positions passed that s is related to. Assumes nothing.
-use mathlib.Core.Path.{_≡_, _∙_, ap}
-use Prim.Native.Nat.{_≤_, _-_}
-use native.Mathlib.Omega.{arith}
-use lib.ListN.{length}
-use Rattle.relation.specs.Mask.{member, part}
-use Rattle.simulation.proofs.Finite.Sums.{one-most}
-use Rattle.relation.proofs.Mask.{part-start, part-bit}
+-- `row` meets its contract: by one word, or by two. Assumes nothing.
+use mathlib.Core.Path.{_≡_, _∙_}
+use Prim.Native.Nat.{ℕ, _+_, _-_, _*_}
+use lib.ListN.{length, getD, take, drop, length-take, length-drop}
+use Rattle.relation.proofs.Sets.{low-part, high-part, part-take, part-drop}
+use Rattle.relation.specs.Ranks.{lasts}
 use Rattle.relate.specs.Rows.{row}
+use Rattle.relate.proofs.Laws.{indexed-take, indexed-drop}
+use borrow.Author.Needs.{needs}
+use native.Mathlib.Omega.{arith}
 use Rattle.relate.proofs.between.row.Statement.{statement}
 use Rattle.relate.proofs.between.row.Tie as tie
 
-abbrev Inv-loop : tie.InvT-loop
-Inv-loop ranks width r s nt set₀ j₀ j-end set j = (j ≤ length nt) × (member set ≡ part j (row ranks width r s nt))
+row-word-requires : tie.Need-row-word-requires
+row-word-requires c κs = (omega arith, c .before .before .before .pre .1)
 
-abbrev μ-loop : tie.MeasureT-loop
-μ-loop ranks width r s nt set₀ j₀ j-end set j = length nt - j
+returns : tie.Need-returns
+returns c = let a = c .before .before .before .before .args in low-part (row (a .ranks .now) (a .width) (a .r) (a .s) (a .nt .now)) (length (a .nt .now)) (c .row-word .result) (omega arith) (c .row-word .ensures)
 
-loop-holds : tie.Need-loop-holds Inv-loop μ-loop
-loop-holds c = (omega arith, part-start _)
+slice-aggregate-row-word : tie.Need-slice-aggregate-row-word
+slice-aggregate-row-word c = let e : 64 ≡ length (take 64 (c .before .before .before .before .args .nt .now)) = simp length-take (omega arith) in e
 
-mul-t : tie.Need-mul-t Inv-loop μ-loop
-mul-t c = omega arith
+row-word-requires-2 : tie.Need-row-word-requires-2
+row-word-requires-2 c κs = let a = c .before .before .before .before .args in (simp length-take (omega arith), indexed-take (a .ranks .now) (a .width) (a .s) (a .nt .now) 64 (c .before .before .before .before .pre .1))
 
-shared-slice-read-t : tie.Need-shared-slice-read-t Inv-loop μ-loop
-shared-slice-read-t c = omega arith
+sub-row-word : tie.Need-sub-row-word
+sub-row-word c = search needs
 
-cast-t : tie.Need-cast-t Inv-loop μ-loop
-cast-t c = omega (arith, c .shared-slice-known3 .given (c .before .before .loop .j))
+part-row-word-start : tie.Need-part-row-word-start
+part-row-word-start c = search needs
 
-mul-rank : tie.Need-mul-rank Inv-loop μ-loop
-mul-rank c = omega (arith, c .before .before .before .before .before .pre .1 (c .before .before .loop .j) (omega arith))
+part-row-word-end : tie.Need-part-row-word-end
+part-row-word-end c = search needs
 
-add-rank : tie.Need-add-rank Inv-loop μ-loop
-add-rank c = omega (arith, c .before .before .before .before .before .pre .1 (c .before .before .loop .j) (omega arith))
+row-word-requires-3 : tie.Need-row-word-requires-3
+row-word-requires-3 c κs =
+    let a = c .before .before .before .before .before .before .args in
+    let nt = a .nt .now in (
+      simp (length-take, length-drop) (omega arith),
+      indexed-take (a .ranks .now) (a .width) (a .s) (drop 64 nt) (length nt - 64) (indexed-drop (a .ranks .now) (a .width) (a .s) nt 64 (c .before .before .before .before .before .before .pre .1)),
+    )
 
-mul-rank-2 : tie.Need-mul-rank-2 Inv-loop μ-loop
-mul-rank-2 c = omega (arith, c .before .before .before .before .before .pre .1 (c .before .before .loop .j) (omega arith))
-
-shared-slice-read-rank : tie.Need-shared-slice-read-rank Inv-loop μ-loop
-shared-slice-read-rank c = omega (arith, c .before .before .before .before .before .before .pre .1 (c .before .before .before .loop .j) (omega arith))
-
-lasts-requires : tie.Need-lasts-requires Inv-loop μ-loop
-lasts-requires c κs = tt
-
-with-bit-requires : tie.Need-with-bit-requires Inv-loop μ-loop
-with-bit-requires c κs =
-    let l = c .before .before .before .before in
-    let a = l .before .before .before .args in
-    (omega arith, omega (arith, c .lasts .ensures, one-most (row (a .ranks .now) (a .width) (a .r) (a .s) (a .nt .now) (l .loop .j))))
-
-add-j : tie.Need-add-j Inv-loop μ-loop
-add-j c = omega arith
-
-loop-less : tie.Need-loop-less Inv-loop μ-loop
-loop-less c = omega arith
-
-loop-again : tie.Need-loop-again Inv-loop μ-loop
-loop-again c = let l = c .before .before .before .before .before in
-    let a = l .before .before .before .args in
-    (omega arith, part-bit (row (a .ranks .now) (a .width) (a .r) (a .s) (a .nt .now)) (l .loop .j) (l .loop .set) (c .with-bit .result) (c .before .lasts .result) (l .loop .inv .1) (c .before .lasts .ensures) (c .with-bit .ensures))
-
-returns : tie.Need-returns Inv-loop μ-loop
-returns c = let a = c .before .before .before .before .args in
-    c .before .loop .inv .1 ∙ ap (λ n. part n (row (a .ranks .now) (a .width) (a .r) (a .s) (a .nt .now))) (omega arith)
+returns-2 : tie.Need-returns-2
+returns-2 c =
+    let a = c .before .before .before .before .before .before .before .args in
+    let nt = a .nt .now in
+    high-part (row (a .ranks .now) (a .width) (a .r) (a .s) nt) (length nt) (c .before .before .row-word2 .result) (c .row-word3 .result) (omega arith) (c .before .before .before .before .before .before .before .pre .0)
+    (c .before .before .row-word2 .ensures ∙ part-take (λ (t : ℕ). lasts (a .r) (getD (a .ranks .now) (a .s * a .width + t) 0)) 64 nt (omega arith)) (c .row-word3 .ensures ∙ part-drop (λ (t : ℕ). lasts (a .r) (getD (a .ranks .now) (a .s * a .width + t) 0)) 64 nt (omega arith))
 
 pub row-spec : {M : Type 1} → statement M
-row-spec = tie.close (tie.spec Inv-loop μ-loop loop-holds mul-t shared-slice-read-t cast-t mul-rank add-rank mul-rank-2 shared-slice-read-rank lasts-requires with-bit-requires add-j loop-less loop-again returns)
+row-spec =
+    tie.close
+    (tie.spec
+    row-word-requires
+    returns
+    slice-aggregate-row-word
+    row-word-requires-2
+    sub-row-word
+    part-row-word-start
+    part-row-word-end
+    row-word-requires-3
+    returns-2)

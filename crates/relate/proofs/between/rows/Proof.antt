@@ -1,6 +1,6 @@
--- `relate::between::rows` meets its contract. The loop's invariant: the rows passed are written. Assumes nothing.
-use mathlib.Core.Path.{subst}
-use Prim.Native.Nat.{_≤_, _-_}
+-- `between::rows` meets its contract. The loop's invariant: the rows passed are written. Assumes nothing.
+use mathlib.Core.Path.{subst, sym}
+use Prim.Native.Nat.{_≤_, _-_, _+_}
 use native.Mathlib.Omega.{arith}
 use lib.ListN.{length}
 use Rattle.relate.proofs.Laws.{Done, done-start, done-next, done-rows}
@@ -27,15 +27,12 @@ cast-s : tie.Need-cast-s Inv-loop μ-loop
 cast-s c = omega (arith, c .shared-slice-known4 .given (c .before .before .loop .i))
 
 row-requires : tie.Need-row-requires Inv-loop μ-loop
-row-requires c κs = let l = c .before .before in
+row-requires c κs = let l = c .before .before .before in
     let p = l .before .before .before .before .before .pre in
     (p .0, p .2 (l .loop .i) (omega arith))
 
-mul-rel : tie.Need-mul-rel Inv-loop μ-loop
-mul-rel c = omega (arith, c .before .before .before .loop .inv .1 .size)
-
-slice-write-rel : tie.Need-slice-write-rel Inv-loop μ-loop
-slice-write-rel c = omega (arith, c .before .before .before .loop .inv .1 .size)
+put-requires : tie.Need-put-requires Inv-loop μ-loop
+put-requires c κs = omega (arith, c .before .before .before .before .loop .inv .1 .size)
 
 add-i : tie.Need-add-i Inv-loop μ-loop
 add-i c = omega arith
@@ -44,10 +41,13 @@ loop-less : tie.Need-loop-less Inv-loop μ-loop
 loop-less c = omega arith
 
 loop-again : tie.Need-loop-again Inv-loop μ-loop
-loop-again c = let l = c .before .before .before in
-    let s = l .before .before .before .before .before in
-    let a = s .args in
-    (omega arith, done-next (a .ranks .now) (a .width) (a .r) (a .mt .now) (a .nt .now) (a .rel .now) (l .loop .i) (c .row .result) (l .loop .rel) (omega arith) (l .loop .inv .1) (c .row .ensures))
+loop-again c = let u = c .before .before in
+    let l = u .before .before .before .before .before in
+    let a = l .before .before .before .before .before .args in (
+      omega arith,
+      subst (Done (a .ranks .now) (a .width) (a .r) (a .mt .now) (a .nt .now) (a .rel .now) (l .loop .i + 1)) (sym (u .put .ensures))
+          (done-next (a .ranks .now) (a .width) (a .r) (a .mt .now) (a .nt .now) (a .rel .now) (l .loop .i) (u .before .row .result) (l .loop .rel) (omega arith) (l .loop .inv .1) (u .before .row .ensures)),
+    )
 
 same-length : tie.Need-same-length Inv-loop μ-loop
 same-length c = c .before .loop .inv .1 .size
@@ -59,4 +59,4 @@ returns c = let l = c .before in
     (subst (λ n. Done (a .ranks .now) (a .width) (a .r) (a .mt .now) (a .nt .now) (a .rel .now) n (l .loop .rel)) (omega arith) (l .loop .inv .1))
 
 pub rows-spec : {M : Type 1} → statement M
-rows-spec = tie.close (tie.spec Inv-loop μ-loop loop-holds mul-s shared-slice-read-s cast-s row-requires mul-rel slice-write-rel add-i loop-less loop-again same-length returns)
+rows-spec = tie.close (tie.spec Inv-loop μ-loop loop-holds mul-s shared-slice-read-s cast-s row-requires put-requires add-i loop-less loop-again same-length returns)

@@ -1,24 +1,25 @@
 -- `relation::set::below` meets its contract. Assumes nothing.
-use mathlib.Core.Path.{_∙_, ap, fun-ext}
 use native.Mathlib.Omega.{arith}
+use Rattle.relation.proofs.Sets.{low-below, high-below}
 use borrow.Author.Needs.{needs}
-use lib.Pow.{pow-pos}
-use Rattle.relation.specs.Mask.{up-to}
-use Rattle.relation.proofs.Mask.{power-is, up-to-is, member-ones}
 use Rattle.relation.proofs.set.below.Statement.{statement}
 use Rattle.relation.proofs.set.below.Tie as tie
 
-shl-result : tie.Need-shl-result
-shl-result c = search needs
-
-sub-result : tie.Need-sub-result
-sub-result c = rw (power-is (c .before .args .n) (omega arith)) (pow-pos (c .before .args .n))
+below-requires : tie.Need-below-requires
+below-requires c κs = search needs
 
 returns : tie.Need-returns
-returns c = up-to-is (c .before .args .n) (omega arith)
+returns c = low-below (c .before .before .args .n) (c .below .result) (omega arith) (c .below .ensures)
+
+below-requires-2 : tie.Need-below-requires-2
+below-requires-2 c κs = search needs
+
+below-requires-3 : tie.Need-below-requires-3
+below-requires-3 c κs = search needs
 
 returns-2 : tie.Need-returns-2
-returns-2 c = fun-ext (member-ones 64) ∙ ap up-to (omega arith)
+returns-2 c = high-below (c .before .before .before .args .n) (c .before .below2 .result) (c .below3 .result) (omega arith) (omega arith) (c .before .below2 .ensures) (c .below3 .ensures)
 
 pub below-spec : {M : Type 1} → statement M
-below-spec = tie.close (tie.spec shl-result sub-result returns returns-2)
+below-spec =
+    tie.close (tie.spec below-requires returns below-requires-2 below-requires-3 returns-2)

@@ -1,16 +1,35 @@
 -- `relation::set::insert` meets its contract. Assumes nothing.
-use mathlib.Core.Path.{_∙_, ap}
+use mathlib.Core.Path.{_≡_, refl}
+use mathlib.Core.Bool.{_||_}
+use lib.ListN.{length}
+use native.Mathlib.Omega.{arith}
+use Rattle.relation.proofs.Sets.{changed}
 use borrow.Author.Needs.{needs}
-use Rattle.relation.specs.Mask.{member, either}
-use Rattle.relation.proofs.Mask.{either-is}
 use Rattle.relation.proofs.set.insert.Statement.{statement}
 use Rattle.relation.proofs.set.insert.Tie as tie
 
-single-requires : tie.Need-single-requires
-single-requires c κs = search needs
+mul-old : tie.Need-mul-old
+mul-old c = search needs
+
+element-copy-out-old : tie.Need-element-copy-out-old
+element-copy-out-old c = search needs
+
+insert-requires : tie.Need-insert-requires
+insert-requires c κs = search needs
+
+mul-set : tie.Need-mul-set
+mul-set c = search needs
+
+element-write-set : tie.Need-element-write-set
+element-write-set c = search needs
 
 returns : tie.Need-returns
-returns c = either-is (c .single .result) (c .before .args .set) ∙ ap (λ X. either X (member (c .before .args .set))) (c .single .ensures)
+returns c =
+    let a = c .before .before .args in
+    let n : length (a .t1 .words) ≡ 2 = search needs in
+    changed (λ e b. e || b) (λ b. refl) (a .t1 .words) (a .t) (c .insert .result) (omega arith) (omega arith) (c .insert .ensures)
 
 pub insert-spec : {M : Type 1} → statement M
-insert-spec = tie.close (tie.spec single-requires returns)
+insert-spec =
+    tie.close
+    (tie.spec mul-old element-copy-out-old insert-requires mul-set element-write-set returns)

@@ -1,15 +1,54 @@
 -- `relation::set::without_lowest` meets its contract. Assumes nothing.
-use mathlib.Core.Path.{fun-ext}
+use mathlib.Core.Path.{_∙_, ap}
+use mathlib.Core.List.{[], _∷_}
+use mir.Val.{Fits}
+use mir.Syntax.{w64}
+use native.Mathlib.Nat.{not-suc-le-zero}
+use native.Mathlib.Omega.{arith}
+use Rattle.relation.specs.Words.{word-of}
+use Rattle.relation.proofs.Mask.{lowest-of}
+use Rattle.relation.proofs.Sets.{of-words, high-word, lowest-dropped, first, second}
+use Rattle.relation.proofs.Words.{steps}
 use borrow.Author.Needs.{needs}
-use Rattle.relation.proofs.Mask.{drop-lowest, drop-lowest-lt}
 use Rattle.relation.proofs.set.without_lowest.Statement.{statement}
 use Rattle.relation.proofs.set.without_lowest.Tie as tie
 
-sub-result : tie.Need-sub-result
-sub-result c = search needs
+element-copy-out-low : tie.Need-element-copy-out-low
+element-copy-out-low c = search needs
+
+element-copy-out-high : tie.Need-element-copy-out-high
+element-copy-out-high c = search needs
+
+without-lowest-requires : tie.Need-without-lowest-requires
+without-lowest-requires c κs = search needs
 
 returns : tie.Need-returns
-returns c = ((λ t l. fun-ext (drop-lowest t (c .args .set) l)), drop-lowest-lt (c .args .set) (c .pre))
+returns c =
+    let s = c .before .before .before .before .args .t1 in
+    let h : Fits w64 (word-of s 0) = search needs in
+    let l = lowest-of 64 (word-of s 0) (h .fits) (omega arith) in
+    lowest-dropped s 0 _ (omega arith) (l .0) (λ j lt. absurd (not-suc-le-zero lt)) (l .1) (of-words (c .without-lowest .result ∷ word-of s 1 ∷ []))
+    (c .without-lowest .ensures .0 _ (l .1)) (second s (c .without-lowest .result))
+
+without-lowest-requires-2 : tie.Need-without-lowest-requires-2
+without-lowest-requires-2 c κs = high-word (c .before .before .before .args .t1) (c .before .before .before .pre) (c .if1 .left)
+
+returns-2 : tie.Need-returns-2
+returns-2 c =
+    let s = c .before .before .before .before .args .t1 in
+    let h : Fits w64 (word-of s 1) = search needs in
+    let z = c .before .if1 .left in
+    let l = lowest-of 64 (word-of s 1) (h .fits) (high-word s (c .before .before .before .before .pre) z) in
+    lowest-dropped s 1 _ (omega arith) (l .0) (λ j lt. ap (word-of s) (steps j 0 (omega arith)) ∙ z) (l .1) (of-words (0 ∷ c .without-lowest2 .result ∷ []))
+    (c .without-lowest2 .ensures .0 _ (l .1)) (first s (c .without-lowest2 .result) z)
 
 pub without-lowest-spec : {M : Type 1} → statement M
-without-lowest-spec = tie.close (tie.spec sub-result returns)
+without-lowest-spec =
+    tie.close
+    (tie.spec
+    element-copy-out-low
+    element-copy-out-high
+    without-lowest-requires
+    returns
+    without-lowest-requires-2
+    returns-2)

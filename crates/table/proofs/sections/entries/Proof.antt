@@ -12,7 +12,7 @@ use borrow.Author.Needs.{needs}
 use borrow.Author.Tests.{leb-true, eqb-true}
 use Rattle.simulation.specs.Sum.{sum}
 use Rattle.table.specs.declared.parts.Layout.{Layout}
-use Rattle.form.specs.Limits.{most-entries}
+use Rattle.simulation.specs.Limits.{most-entries}
 use Rattle.layout.specs.Bytes.{_then_, first, half, transitions-at, transitions, size, size-from, entries-at, entries, end, run-refusal, actions-refusal, states-refusal, transitions-refusal, entries-refusal}
 use Rattle.table.specs.Answers.{count-refusal, items-read}
 use Rattle.table.specs.Stages.{with-entries, transitions-read}

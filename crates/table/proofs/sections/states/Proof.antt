@@ -10,7 +10,7 @@ use lib.ListN.{length}
 use denote.Ref.{now}
 use borrow.Author.Needs.{needs}
 use borrow.Author.Tests.{le-ltb, lt-ltb, le-leb, lt-leb}
-use Rattle.form.specs.Limits.{most-states}
+use Rattle.simulation.specs.Limits.{most-states}
 use Rattle.layout.specs.Bytes.{refuse_unless_, _then_, states-at, states, transitions-at, actions-refusal, states-refusal}
 use Rattle.table.specs.Stages.{with-states, actions-read}
 use Rattle.layout.proofs.Laws.{refused, not-refused, both}

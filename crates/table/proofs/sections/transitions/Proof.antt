@@ -10,7 +10,7 @@ use borrow.Author.Needs.{needs}
 use borrow.Author.Tests.{leb-true}
 use Rattle.simulation.specs.Sum.{sum}
 use Rattle.table.specs.declared.parts.Layout.{Layout}
-use Rattle.form.specs.Limits.{most-transitions}
+use Rattle.simulation.specs.Limits.{most-transitions}
 use Rattle.layout.specs.Bytes.{_then_, first, half, states, count, transitions-at, transitions, entries-at, transition-refusal, actions-refusal, states-refusal, transitions-refusal}
 use Rattle.table.specs.Answers.{count-refusal, items-read}
 use Rattle.table.specs.Stages.{with-transitions, states-read}

@@ -1,17 +1,17 @@
 -- The cycle of calls {write_around, write_node, write_transition}. The levels fall from a transition to the nodes of its children.
 -- Each answer stands in the order of the code.
 -- Assumes nothing.
-use mathlib.Core.Path.{refl, ap, _∙_}
-use Prim.Native.Nat.{_+_, _-_, ℕ, _<_}
-use native.Mathlib.Nat.{le-refl, pos-of-ne-zero, lt-of-lt-of-le}
+use mathlib.Core.Path.{refl, sym, ap, _∙_}
+use Prim.Native.Nat.{_+_, _-_, ℕ, _≤_, _<_}
+use native.Mathlib.Nat.{le-refl, pos-of-ne-zero}
 use native.Mathlib.Omega.{arith}
 use lib.ListN.{length, length-set}
-use Rattle.simulation.proofs.Finite.Sums.{members-most}
 use Rattle.form.specs.Form.{transition-at}
 use Rattle.form.proofs.FormLaws.{targets-length}
-use Rattle.relation.specs.Mask.{member}
+use Rattle.relation.specs.Words.{words, mask, rest as left-of, after}
+use Rattle.relation.proofs.Sets.{after-all, after-rest, rest-after, walk-done}
 use Rattle.choice.proofs.Choices.{choice-number}
-use Rattle.tree.proofs.Nodes.{pair-lost, NodeLoop, node-room, node-begins, node-asked, turn-room, node-step, node-next, node-ends}
+use Rattle.tree.proofs.Nodes.{pair-lost, count-byte, NodeLoop, node-room, node-begins, node-same, node-asked, turn-room, node-step, node-next, node-ends}
 use Rattle.tree.proofs.Steps.{AroundLoop, begin-given, around-begins, around-levels, few-children, stack-room, number-known, place-known, entry-room, entry-piece, sum-given, child-fits, child-room, child-given, join-fits, around-next, around-ends, HoleLoop, hole-begins, hole-room, hole-step, hole-short, hole-less, hole-fits, hole-next, hole-ends}
 use borrow.Fn.Kinds.{In}
 use borrow.Fn.PlainCycle.{Measures, is, falls, and}
@@ -24,9 +24,10 @@ use Rattle.tree.proofs.write.+write_around+write_node+write_transition.
 use Rattle.tree.proofs.write.write_transition.Reads as write-transition
 use Rattle.tree.proofs.write.write_transition.Kinds as write-transition-kinds
 use Rattle.tree.proofs.write.+write_around+write_node+write_transition.Lts-write_transition as write-transition-lts
+use Rattle.relation.proofs.rows.get.Reads as get-reads
 use Rattle.relation.proofs.set.count.Reads as count-reads
-use Rattle.relation.proofs.set.lowest.Reads as lowest-reads
-use Rattle.relation.proofs.set.without_lowest.Reads as without-lowest-reads
+use Rattle.relation.proofs.walk.lowest.Reads as lowest-reads
+use Rattle.relation.proofs.walk.without_lowest.Reads as without-lowest-reads
 use Rattle.form.proofs.targets.Reads as targets-reads
 use Rattle.tree.proofs.write.begin_transition.Reads as begin-transition-reads
 use Rattle.tree.proofs.write.join.Reads as join-reads
@@ -89,13 +90,21 @@ abbrev write-around-μ-loop : write-around-lts.MeasureT-loop
 write-around-μ-loop first second ranks choices lengths levels limit s t rel₀ x₀ stack₀ buf₀ j n rest₀ at₀ i₀ rel x stack buf rest at i =
     n - i
 
+abbrev write-node-Inv-loop2 : write-node-lts.InvT-loop2
+write-node-Inv-loop2 first second ranks choices lengths levels half s rel₀ x₀ stack₀ buf₀ members rest₀ at₀ w left₀ rel x stack buf rest at left =
+    NodeLoop first second s ranks choices lengths levels half (mask members) rel₀ x₀ stack₀ buf₀ rel x stack buf (rest .s) (rest .t) (rest .at) (rest .len) at (left-of w left members)
+
+abbrev write-node-μ-loop2 : write-node-lts.MeasureT-loop2
+write-node-μ-loop2 first second ranks choices lengths levels half s rel₀ x₀ stack₀ buf₀ members rest₀ at₀ w left₀ rel x stack buf rest at left =
+    left
+
 abbrev write-node-Inv-loop : write-node-lts.InvT-loop
-write-node-Inv-loop first second ranks choices lengths levels half s members rel₀ x₀ stack₀ buf₀ rest₀ at₀ left₀ rel x stack buf rest at left =
-    NodeLoop first second s ranks choices lengths levels half members rel₀ x₀ stack₀ buf₀ rel x stack buf (rest .s) (rest .t) (rest .at) (rest .len) at left
+write-node-Inv-loop first second ranks choices lengths levels half s rel₀ x₀ stack₀ buf₀ members rest₀ at₀ w₀ rel x stack buf rest at w =
+    (w ≤ words) × NodeLoop first second s ranks choices lengths levels half (mask members) rel₀ x₀ stack₀ buf₀ rel x stack buf (rest .s) (rest .t) (rest .at) (rest .len) at (after w members)
 
 abbrev write-node-μ-loop : write-node-lts.MeasureT-loop
-write-node-μ-loop first second ranks choices lengths levels half s members rel₀ x₀ stack₀ buf₀ rest₀ at₀ left₀ rel x stack buf rest at left =
-    left
+write-node-μ-loop first second ranks choices lengths levels half s rel₀ x₀ stack₀ buf₀ members rest₀ at₀ w₀ rel x stack buf rest at w =
+    words - w
 
 abbrev write-transition-Inv-loop : write-transition-lts.InvT-loop
 write-transition-Inv-loop first second ranks choices lengths levels limit s t rel₀ x₀ stack₀ buf₀ at rest len hole₀ rel x stack buf hole =
@@ -107,7 +116,7 @@ write-transition-μ-loop first second ranks choices lengths levels limit s t rel
 
 pub +write-around+write-node+write-transition-spec : {M : Type 1} → statement M
 +write-around+write-node+write-transition-spec =
-    close μ-write-around μ-write-node μ-write-transition (λ t. write-around-lts.spec (begin-transition-reads.Asked, begin-transition-reads.Learnt, targets-reads.Asked, targets-reads.Learnt, put-entry-reads.Asked, put-entry-reads.Learnt, node-length-reads.Asked, node-length-reads.Learnt, write-node-below t, write-node.Post, join-reads.Asked, join-reads.Learnt)
+    close μ-write-around μ-write-node μ-write-transition (λ t. write-around-lts.spec (begin-transition-reads.Asked, begin-transition-reads.Learnt, targets-reads.Asked, targets-reads.Learnt, put-entry-reads.Asked, put-entry-reads.Learnt, get-reads.Asked, get-reads.Learnt, node-length-reads.Asked, node-length-reads.Learnt, write-node-below t, write-node.Post, join-reads.Asked, join-reads.Learnt)
     (write-around-at t)
     write-around.Post
     write-around-Inv-loop
@@ -143,37 +152,37 @@ pub +write-around+write-node+write-transition-spec : {M : Type 1} → statement 
     (λ c κs. let at-loop-test = c .before in
     let at-loop = at-loop-test .before in
     let l = at-loop .loop .inv in let lt = at-loop-test .loop-test .taken in (l .step .given .ranked .first-loaded, number-known l, place-known l lt, omega (arith, entry-piece l lt)))
-    -- write-around-mul-members
-    (λ c. let at-loop-test = c .before .before .before .before in
+    -- write-around-get-requires
+    (λ c κs. let at-loop-test = c .before .before .before .before .before in
     let at-loop = at-loop-test .before in
-    let l = at-loop .loop .inv in let lt = at-loop-test .loop-test .taken in record { fits = omega (arith, few-children l, lt) })
-    -- write-around-slice-read-members
-    (λ c. let at-loop-test = c .before .before .before .before .before in
-    let at-loop = at-loop-test .before in
-    let l = at-loop .loop .inv in let lt = at-loop-test .loop-test .taken in lt-of-lt-of-le lt (stack-room l))
+    let l = at-loop .loop .inv in let lt = at-loop-test .loop-test .taken in omega (arith, stack-room l, lt))
     -- write-around-node-length-requires
-    (λ c κs. let at-buf2 = c .before .before in
+    (λ c κs. let at-buf2 = c .before .before .before in
     let at-put-entry = at-buf2 .before in
     let at-loop-test = at-put-entry .before .before in
     let at-loop = at-loop-test .before in
-    let l = at-loop .loop .inv in let lt = at-loop-test .loop-test .taken in let e = at-put-entry .put-entry .ensures in let same = at-buf2 .buf2 .given .0 in sum-given l lt (e .0) (e .1) same)
+    let l = at-loop .loop .inv in let lt = at-loop-test .loop-test .taken in let e = at-put-entry .put-entry .ensures in let same = at-buf2 .buf2 .given .0 in sum-given l lt (e .0) (e .1) same (c .get .ensures))
     -- write-around-add-end
-    (λ c. let at-buf2 = c .before .before .before in
+    (λ c. let at-get = c .before in
+    let at-buf2 = at-get .before .before .before in
     let at-put-entry = at-buf2 .before in
     let at-loop-test = at-put-entry .before .before in
     let at-loop = at-loop-test .before in
-    let l = at-loop .loop .inv in let lt = at-loop-test .loop-test .taken in let e = at-put-entry .put-entry .ensures in let same = at-buf2 .buf2 .given .0 in record { fits = child-fits l lt (e .0) (e .1) same _ (c .node-length .ensures) })
+    let l = at-loop .loop .inv in let lt = at-loop-test .loop-test .taken in let e = at-put-entry .put-entry .ensures in let same = at-buf2 .buf2 .given .0 in record { fits = child-fits l lt (e .0) (e .1) same (at-get .get .ensures) _ (c .node-length .ensures) })
     -- write-around-sub-write-node
-    (λ c. let at-loop = c .before .before .before .before .before .before .before in
+    (λ c. let at-loop = c .before .before .before .before .before .before .before .before in
     let l = at-loop .loop .inv in around-levels l)
     -- write-around-mul-write-node
-    (λ c. let at-loop = c .before .before .before .before .before .before .before .before .before in
+    (λ c. let at-loop = c .before .before .before .before .before .before .before .before .before .before in
+    let l = at-loop .loop .inv in record { fits = omega (arith, few-children l) })
+    -- write-around-mul-write-node-2
+    (λ c. let at-loop = c .before .before .before .before .before .before .before .before .before .before in
     let l = at-loop .loop .inv in record { fits = omega (arith, few-children l) })
     -- write-around-sub-write-node-2
-    (λ c. let at-loop = c .before .before .before .before .before .before .before .before .before in
+    (λ c. let at-loop = c .before .before .before .before .before .before .before .before .before .before in
     let l = at-loop .loop .inv in stack-room l)
     -- write-around-part-write-node-start
-    (λ c. let at-loop = c .before .before .before .before .before .before .before .before .before in
+    (λ c. let at-loop = c .before .before .before .before .before .before .before .before .before .before in
     let l = at-loop .loop .inv in stack-room l)
     -- write-around-part-write-node-end
     (λ c. le-refl _)
@@ -183,34 +192,37 @@ pub +write-around+write-node+write-transition-spec : {M : Type 1} → statement 
     (λ c. omega arith)
     -- write-around-part-write-node-end-2
     (λ c. let at-node-length = c .before .before .before in
-    let at-buf2 = at-node-length .before .before .before in
+    let at-get = at-node-length .before in
+    let at-buf2 = at-get .before .before .before in
     let at-put-entry = at-buf2 .before in
     let at-loop-test = at-put-entry .before .before in
     let at-loop = at-loop-test .before in
-    let l = at-loop .loop .inv in let lt = at-loop-test .loop-test .taken in let e = at-put-entry .put-entry .ensures in let same = at-buf2 .buf2 .given .0 in child-room l lt (e .0) (e .1) same _ (at-node-length .node-length .ensures))
+    let l = at-loop .loop .inv in let lt = at-loop-test .loop-test .taken in let e = at-put-entry .put-entry .ensures in let same = at-buf2 .buf2 .given .0 in child-room l lt (e .0) (e .1) same (at-get .get .ensures) _ (at-node-length .node-length .ensures))
     -- write-around-write-node-requires
     (λ c κs. let at-node-length = c .before .before .before .before in
-    let at-buf2 = at-node-length .before .before .before in
+    let at-get = at-node-length .before in
+    let at-buf2 = at-get .before .before .before in
     let at-put-entry = at-buf2 .before in
     let at-loop-test = at-put-entry .before .before in
     let at-loop = at-loop-test .before in
     let entry = at-loop .before .before .before .before .before .before .before .before .before .before .before .before .before .before .before .before .before .before .before .before .before .before .before .before in
-    let l = at-loop .loop .inv in let lt = at-loop-test .loop-test .taken in let e = at-put-entry .put-entry .ensures in let same = at-buf2 .buf2 .given .0 in (omega (arith, entry .pre .0, around-levels l), child-given l lt (e .0) (e .1) same _ (at-node-length .node-length .ensures)))
+    let l = at-loop .loop .inv in let lt = at-loop-test .loop-test .taken in let e = at-put-entry .put-entry .ensures in let same = at-buf2 .buf2 .given .0 in (omega (arith, entry .pre .0, around-levels l), child-given l lt (e .0) (e .1) same (at-get .get .ensures) _ (at-node-length .node-length .ensures)))
     -- write-around-join-requires
     (λ c κs. let at-buf3 = c .before in
     let at-write-node = at-buf3 .before .before .before .before .before .before .before in
     let at-node-length = at-write-node .before .before .before .before .before in
-    let at-buf2 = at-node-length .before .before .before in
+    let at-get = at-node-length .before in
+    let at-buf2 = at-get .before .before .before in
     let at-put-entry = at-buf2 .before in
     let at-loop-test = at-put-entry .before .before in
     let at-loop = at-loop-test .before in
-    let l = at-loop .loop .inv in let lt = at-loop-test .loop-test .taken in let e = at-put-entry .put-entry .ensures in let same = at-buf2 .buf2 .given .0 in let w = at-write-node .write-node .ensures in let same′ = at-buf3 .buf3 .given .0 in join-fits l lt (e .0) (e .1) same _ (at-node-length .node-length .ensures) w same′)
+    let l = at-loop .loop .inv in let lt = at-loop-test .loop-test .taken in let e = at-put-entry .put-entry .ensures in let same = at-buf2 .buf2 .given .0 in let w = at-write-node .write-node .ensures in let same′ = at-buf3 .buf3 .given .0 in join-fits l lt (e .0) (e .1) same (at-get .get .ensures) _ (at-node-length .node-length .ensures) w same′)
     -- write-around-add-i
-    (λ c. let at-loop-test = c .before .before .before .before .before .before .before .before .before .before .before .before .before .before .before .before .before .before .before .before in
+    (λ c. let at-loop-test = c .before .before .before .before .before .before .before .before .before .before .before .before .before .before .before .before .before .before .before .before .before in
     let at-loop = at-loop-test .before in
     let l = at-loop .loop .inv in let lt = at-loop-test .loop-test .taken in record { fits = omega (arith, few-children l, lt) })
     -- write-around-loop-less
-    (λ c. let at-loop-test = c .before .before .before .before .before .before .before .before .before .before .before .before .before .before .before .before .before .before .before .before in
+    (λ c. let at-loop-test = c .before .before .before .before .before .before .before .before .before .before .before .before .before .before .before .before .before .before .before .before .before in
     let at-loop = at-loop-test .before in
     let l = at-loop .loop .inv in let lt = at-loop-test .loop-test .taken in omega (arith, lt))
     -- write-around-loop-again
@@ -220,12 +232,13 @@ pub +write-around+write-node+write-transition-spec : {M : Type 1} → statement 
     let at-rel2 = at-x2 .before .before in
     let at-write-node = at-rel2 .before in
     let at-node-length = at-write-node .before .before .before .before .before in
-    let at-buf2 = at-node-length .before .before .before in
+    let at-get = at-node-length .before in
+    let at-buf2 = at-get .before .before .before in
     let at-put-entry = at-buf2 .before in
     let at-loop-test = at-put-entry .before .before in
     let at-loop = at-loop-test .before in
     let l = at-loop .loop .inv in let lt = at-loop-test .loop-test .taken in let e = at-put-entry .put-entry .ensures in let same = at-buf2 .buf2 .given .0 in let w = at-write-node .write-node .ensures in let same′ = at-buf3 .buf3 .given .0 in let b = c .join .ensures in
-    around-next l lt (e .0) (e .1) same _ (at-node-length .node-length .ensures) w same′ (b .0) (b .1) (at-write-node .write-node .last .1 .1 .1 .1 .1 .1 .1 .1 .1 .1 .1 .0) (at-rel2 .rel2 .given) (at-x2 .x2 .given) (at-stack2 .stack2 .given .1))
+    around-next l lt (e .0) (e .1) same (at-get .get .ensures) _ (at-node-length .node-length .ensures) w same′ (b .0) (b .1) (at-write-node .write-node .last .1 .1 .1 .1 .1 .1 .1 .1 .1 .1 .1 .0) (at-rel2 .rel2 .given) (at-x2 .x2 .given) (at-stack2 .stack2 .given .1))
     -- write-around-same-length
     (λ c. let at-loop = c .before in
     let at-rel = at-loop .before .before .before .before .before .before .before .before .before in
@@ -248,28 +261,37 @@ pub +write-around+write-node+write-transition-spec : {M : Type 1} → statement 
     (λ t. write-node-lts.spec (count-reads.Asked, count-reads.Learnt, lowest-reads.Asked, lowest-reads.Learnt, pair-length-reads.Asked, pair-length-reads.Learnt, write-transition-below t, write-transition.Post, without-lowest-reads.Asked, without-lowest-reads.Learnt)
     (write-node-at t)
     write-node.Post
+    write-node-Inv-loop2
+    write-node-μ-loop2
     write-node-Inv-loop
     write-node-μ-loop
     -- write-node-count-requires
     (λ c κs. tt)
     -- write-node-cast-buf
-    (λ c. let entry = c .before .before .before .before .before .before .before .before .before .before in
-    record { fits = omega (arith, c .count .ensures, members-most 64 (member (entry .args .members))) })
+    (λ c. record { fits = count-byte _ (c .count .ensures) })
     -- write-node-slice-write-buf
     (λ c. let entry = c .before .before .before .before .before .before .before .before .before .before in
     node-room (entry .pre .1))
     -- write-node-loop-holds
     (λ c. let entry = c .before .before .before .before .before .before .before .before .before .before in
-    node-begins (entry .pre .1) _ (c .count .ensures) (entry .good .1 .1 .1 .1 .1 .1 .1 .1 .1 .1 .1 .1 .0 .0))
+    (omega arith, node-same (node-begins (entry .pre .1) _ (c .count .ensures) (entry .good .1 .1 .1 .1 .1 .1 .1 .1 .1 .1 .1 .1 .0 .0)) _ (sym (after-all (entry .args .t9))) refl refl refl refl))
+    -- write-node-mul-left
+    (λ c. omega arith)
+    -- write-node-element-copy-out-left
+    (λ c. omega arith)
+    -- write-node-loop2-holds
+    (λ c. let at-loop = c .before .before in
+    let entry = at-loop .before .before .before .before .before .before .before .before .before .before .before in
+    node-same (at-loop .loop .inv .1) _ (after-rest (entry .args .t9) (at-loop .loop .w)) refl refl refl refl)
     -- write-node-lowest-requires
-    (λ c κs. pos-of-ne-zero (c .loop-test .taken))
+    (λ c κs. (omega arith, omega arith))
     -- write-node-pair-length-requires
-    (λ c κs. let at-loop = c .before .before in
-    let l = at-loop .loop .inv in let low = c .lowest .ensures .1 in node-asked l _ low)
+    (λ c κs. let at-loop2 = c .before .before in
+    let l = at-loop2 .loop2 .inv in let low = c .lowest .ensures .1 in node-asked l _ low)
     -- write-node-add-end
     (λ c. let at-lowest = c .before in
-    let at-loop = at-lowest .before .before in
-    let l = at-loop .loop .inv in let low = at-lowest .lowest .ensures .1 in record { fits = omega (arith, turn-room l _ low _ (c .pair-length .ensures), l .small) })
+    let at-loop2 = at-lowest .before .before in
+    let l = at-loop2 .loop2 .inv in let low = at-lowest .lowest .ensures .1 in record { fits = omega (arith, turn-room l _ low _ (c .pair-length .ensures), l .small) })
     -- write-node-sub-write-transition
     (λ c. omega arith)
     -- write-node-part-write-transition-start
@@ -277,20 +299,21 @@ pub +write-around+write-node+write-transition-spec : {M : Type 1} → statement 
     -- write-node-part-write-transition-end
     (λ c. let at-pair-length = c .before .before .before in
     let at-lowest = at-pair-length .before in
-    let at-loop = at-lowest .before .before in
-    let l = at-loop .loop .inv in let low = at-lowest .lowest .ensures .1 in turn-room l _ low _ (at-pair-length .pair-length .ensures))
+    let at-loop2 = at-lowest .before .before in
+    let l = at-loop2 .loop2 .inv in let low = at-lowest .lowest .ensures .1 in turn-room l _ low _ (at-pair-length .pair-length .ensures))
     -- write-node-write-transition-requires
     (λ c κs. let at-pair-length = c .before .before .before .before in
     let at-lowest = at-pair-length .before in
-    let at-loop = at-lowest .before .before in
-    let entry = at-loop .before .before .before .before .before .before .before .before .before .before .before in
-    let l = at-loop .loop .inv in let low = at-lowest .lowest .ensures .1 in (omega (arith, entry .pre .0), node-step l _ low _ (at-pair-length .pair-length .ensures)))
+    let at-loop2 = at-lowest .before .before in
+    let entry = at-loop2 .before .before .before .before .before .before .before .before .before .before .before .before .before .before in
+    let l = at-loop2 .loop2 .inv in let low = at-lowest .lowest .ensures .1 in (omega (arith, entry .pre .0), node-step l _ low _ (at-pair-length .pair-length .ensures)))
     -- write-node-without-lowest-requires
-    (λ c κs. let at-loop-test = c .before .before .before .before .before .before .before .before .before .before .before .before .before .before .before in
-    pos-of-ne-zero (at-loop-test .loop-test .taken))
-    -- write-node-loop-less
+    (λ c κs. let at-loop2-test = c .before .before .before .before .before .before .before .before .before .before .before .before .before .before .before in
+    let at-loop-test = at-loop2-test .before .before .before in
+    (at-loop-test .loop-test .taken, pos-of-ne-zero (at-loop2-test .loop2-test .taken)))
+    -- write-node-loop2-less
     (λ c. c .without-lowest .ensures .1)
-    -- write-node-loop-again
+    -- write-node-loop2-again
     (λ c. let at-buf = c .before .before in
     let at-stack = at-buf .before .before in
     let at-x = at-stack .before .before in
@@ -298,24 +321,36 @@ pub +write-around+write-node+write-transition-spec : {M : Type 1} → statement 
     let at-write-transition = at-rel .before in
     let at-pair-length = at-write-transition .before .before .before .before .before in
     let at-lowest = at-pair-length .before in
-    let at-loop = at-lowest .before .before in
-    let l = at-loop .loop .inv in let low = at-lowest .lowest .ensures .1 in node-next l _ low _ (at-pair-length .pair-length .ensures) (at-write-transition .write-transition .ensures) (at-buf .buf .given .0) _ (c .without-lowest .ensures .0 _ low) (at-rel .rel .given) (at-x .x .given) (at-stack .stack .given))
+    let at-loop2 = at-lowest .before .before in
+    let l = at-loop2 .loop2 .inv in let low = at-lowest .lowest .ensures .1 in node-next l _ low _ (at-pair-length .pair-length .ensures) (at-write-transition .write-transition .ensures) (at-buf .buf .given .0) _ (c .without-lowest .ensures .0 _ low) (at-rel .rel .given) (at-x .x .given) (at-stack .stack .given))
+    -- write-node-add-w
+    (λ c. omega arith)
+    -- write-node-loop-less
+    (λ c. omega arith)
+    -- write-node-loop-again
+    (λ c. let at-loop2 = c .before in
+    let at-loop = at-loop2 .before .before .before in
+    let entry = at-loop .before .before .before .before .before .before .before .before .before .before .before in
+    let o = at-loop .loop .inv .1 in let l = at-loop2 .loop2 .inv in
+    let none = ap (λ (n : ℕ). left-of (at-loop .loop .w) n (entry .args .t9)) (c .loop2-test .left) ∙ rest-after (entry .args .t9) (at-loop .loop .w) in
+    (omega arith, node-same l _ none (l .same-rel ∙ o .same-rel) (l .same-x ∙ o .same-x) (l .same-stack ∙ o .same-stack) (l .same-buf ∙ o .same-buf)))
     -- write-node-same-length
     (λ c. let at-loop = c .before in
-    at-loop .loop .inv .same-rel)
+    at-loop .loop .inv .1 .same-rel)
     -- write-node-same-length-2
     (λ c. let at-loop = c .before in
-    at-loop .loop .inv .same-x)
+    at-loop .loop .inv .1 .same-x)
     -- write-node-same-length-3
     (λ c. let at-loop = c .before in
-    at-loop .loop .inv .same-stack)
+    at-loop .loop .inv .1 .same-stack)
     -- write-node-same-length-4
     (λ c. let at-loop = c .before in
     let entry = at-loop .before .before .before .before .before .before .before .before .before .before .before in
-    at-loop .loop .inv .same-buf ∙ length-set (entry .args .buf .now) 0 _)
+    at-loop .loop .inv .1 .same-buf ∙ length-set (entry .args .buf .now) 0 _)
     -- write-node-returns
     (λ c. let at-loop = c .before in
-    node-ends (at-loop .loop .inv) (c .loop-test .left)))
+    let entry = at-loop .before .before .before .before .before .before .before .before .before .before .before in
+    node-ends (at-loop .loop .inv .1) (walk-done (entry .args .t9) (at-loop .loop .w) (omega arith))))
     λ t. write-transition-lts.spec
     (write-around-below t, write-around.Post)
     (write-transition-at t)

@@ -10,7 +10,7 @@ use Rattle.simulation.specs.Table.{Transition}
 use Rattle.form.proofs.FormLaws.{limits}
 use Rattle.buffer.specs.Buffer.{over}
 use Rattle.tree.specs.Begin.{head-bytes}
-use Rattle.choice.proofs.Choices.{choice-number, pair-place}
+use Rattle.choice.proofs.Choices.{choice-number, choice-width, pair-place}
 use Rattle.tree.proofs.write.begin_transition.Statement.{statement}
 use Rattle.tree.proofs.write.begin_transition.Tie as tie
 
@@ -54,13 +54,15 @@ find-sets-requires c κs =
     let entry = at-number .before .before .before .before .before .before .before .before .before in
     let p = entry .pre in
     let a = entry .args in
-    let e = at-number .number .ensures .0 in (
+    let e = at-number .number .ensures .0 in
+    let w = chosen-at (a .choices .now) e (p .choice) in (
       p .ranked,
       p .lost,
       ap (λ (n : ℕ). getD (a .ranks .now) n 0) e ∙ p .ranked .ranked (a .s) (a .t) (p .lost .left) (p .lost .right),
-      chosen-at (a .choices .now) e (p .choice),
+      w .low,
+      w .high,
       p .lent,
-      p .words,
+      omega (arith, choice-width (a .first .now) (a .second .now) (p .ranked .first-loaded) (a .s) (a .t) _ (p .lost .left) w, p .words),
     )
 
 put-head-requires : tie.Need-put-head-requires
@@ -91,7 +93,7 @@ returns c =
     let w = chosen-at (entry .args .choices .now) (at-number .number .ensures .0) (entry .pre .choice) in
     record {
       choice = w;
-      sets = at-find-sets .find-sets .ensures;
+      sets = at-find-sets .find-sets .ensures .found w;
       head = c .before .before .put-head .ensures ∙ ap (λ (m : Transition). over (head-bytes m) (entry .args .buf .now)) (w .is);
     }
 

@@ -1,0 +1,356 @@
+-- Sets of states, rows and walks: the laws of numbers made of words, at the words of a set.
+-- Assumes nothing.
+use mathlib.Core.Path.{_≡_, refl, sym, ap, ap₂, _∙_, subst, fun-ext}
+use mathlib.Core.Bool.{Bool, true, false, cond, not, _&&_, _||_, true≢false}
+use mathlib.Core.List.{List, [], _∷_}
+use mathlib.Core.Logic.{_⊎_, inl, inr, ⊎-elim, _≢_}
+use native.Mathlib.Decide.{ℕ-discrete}
+use borrow.Author.Tests.{lt-ltb, le-ltb, eq-eqb, ne-eqb, eqb-true, eqb-false}
+use Prim.Native.Nat.{ℕ, zero, suc, _+_, _-_, _*_, _/_, _%_, _^_, _≤_, _<_}
+use native.Mathlib.Nat.{not-suc-le-zero, le-of-suc-le-suc, lt-irrefl}
+use native.Mathlib.Omega.{arith}
+use lib.Dec.{eqb, ltb}
+use lib.Bits.{bitOr}
+use lib.ListN.{length, getD, set, take, drop, length-set, length-take, length-drop}
+use lib.Seq.{getD-set-same, getD-set-other, getD-take, getD-drop}
+use Rattle.simulation.specs.Sum.{sum}
+use Rattle.relation.specs.Mask.{Test, member, up-to, without-member, both, except, part, size, Lowest}
+use Rattle.simulation.specs.Limits.{most-states}
+use Rattle.relation.specs.Words.{words, word-of, mask, row-of, height, put-row, rest, after}
+use Rattle.relation.specs.declared.set.Set.{Set}
+use Rattle.relation.proofs.Mask.{member-none, member-or, below-or-not, no-member}
+use Rattle.relation.proofs.Words.{steps, bit-at, number-lt, words-are, number-ext, number-none, word-wise, word-put, number-lowest, number-drop, number-less, words-size}
+
+abbrev pub of-words : List ℕ → Set
+of-words l = record { words = l }
+
+-- what holds of both words
+two : (P : ℕ → Type 0) → P 0 → P 1 → (i : ℕ) → i < words → P i
+two P a b zero lt = a
+two P a b (suc zero) lt = b
+two P a b (suc (suc i)) lt = absurd (not-suc-le-zero (le-of-suc-le-suc (le-of-suc-le-suc lt)))
+
+first-word : (i : ℕ) → i < 1 → i ≡ 0
+first-word i lt = omega arith
+
+pub mask-lt : (s : Set) → mask s < 2 ^ most-states
+unfolding mask
+mask-lt s = number-lt words (word-of s)
+
+-- the bit of t, as the code finds it
+pub place-of : (t : ℕ) → t / 64 * 64 + t % 64 ≡ t
+place-of t = omega arith
+
+pub mask-bit : (s : Set) (t : ℕ) → t < most-states → member (word-of s (t / 64)) (t % 64) ≡ member (mask s) t
+unfolding mask
+mask-bit s t lt = sym (bit-at words (word-of s) (t / 64) (t % 64) (omega arith) (omega arith)) ∙ ap (member (mask s)) (place-of t)
+
+pub mask-none : mask (of-words (0 ∷ 0 ∷ [])) ≡ 0
+unfolding mask
+mask-none = number-none words (word-of (of-words (0 ∷ 0 ∷ []))) (two (λ i. getD (0 ∷ 0 ∷ []) i 0 ≡ 0) refl refl)
+
+-- a set is empty where all its words are 0
+zero-words : (s : Set) → word-of s 0 ≡ 0 → word-of s 1 ≡ 0 → mask s ≡ 0
+unfolding mask
+zero-words s a b = number-none words (word-of s) (two (λ i. word-of s i ≡ 0) a b)
+
+word-zero : (s : Set) (i : ℕ) → i < words → word-of s i < 2 ^ 64 → mask s ≡ 0 → word-of s i ≡ 0
+unfolding mask
+word-zero s i li h e =
+    no-member 64 (word-of s i) h (λ u lu. sym (bit-at words (word-of s) i u li lu) ∙ ap (λ (n : ℕ). member n (i * 64 + u)) e ∙ member-none (i * 64 + u))
+
+neither : (a b : Bool) → (a || b) ≡ false → (a ≡ false) × (b ≡ false)
+neither true b e = absurd (true≢false e)
+neither false b e = (refl, e)
+
+or-zero : (a b : ℕ) → a < 2 ^ 64 → b < 2 ^ 64 → bitOr a b ≡ 0 → (a ≡ 0) × (b ≡ 0)
+or-zero a b ha hb e =
+    let at : (u : ℕ) → (member a u ≡ false) × (member b u ≡ false) = λ u. neither (member a u) (member b u) (sym (member-or a b u) ∙ ap (λ (n : ℕ). member n u) e ∙ member-none u) in
+    (no-member 64 a ha (λ u _. at u .0), no-member 64 b hb (λ u _. at u .1))
+
+pub empty-is : (s : Set) → word-of s 0 < 2 ^ 64 → word-of s 1 < 2 ^ 64 → eqb (bitOr (word-of s 0) (word-of s 1)) 0 ≡ eqb (mask s) 0
+empty-is s ha hb = at (ℕ-discrete (mask s) 0)
+  where
+    at : Dec (mask s ≡ 0) → eqb (bitOr (word-of s 0) (word-of s 1)) 0 ≡ eqb (mask s) 0
+    at (yes e) = ap (λ (n : ℕ). eqb n 0) (ap₂ bitOr (word-zero s 0 (omega arith) ha e) (word-zero s 1 (omega arith) hb e)) ∙ sym (eq-eqb (mask s) 0 e)
+    at (no q) =
+        ne-eqb (bitOr (word-of s 0) (word-of s 1)) 0 (λ e. let z = or-zero (word-of s 0) (word-of s 1) ha hb e in q (zero-words s (z .0) (z .1)))
+        ∙ sym (ne-eqb (mask s) 0 q)
+
+-- the second word of a set that has a member, where the first has none
+pub high-word : (s : Set) → 0 < mask s → word-of s 0 ≡ 0 → 0 < word-of s 1
+high-word s pos e = at (ℕ-discrete (word-of s 1) 0)
+  where
+    at : Dec (word-of s 1 ≡ 0) → 0 < word-of s 1
+    at (yes z) = absurd (lt-irrefl 0 (subst (λ (n : ℕ). 0 < n) (zero-words s e z) pos))
+    at (no q) = omega (arith, q)
+
+-- one bit changed in its word
+module _ (g : Bool → Bool → Bool) (keep : (b : Bool) → g false b ≡ b) where
+  pub changed : (l : List ℕ) (t x : ℕ) → t < most-states → t / 64 < length l → member x ≡ (λ u. g (eqb u (t % 64)) (member (getD l (t / 64) 0) u))
+      → member (mask (of-words (set l (t / 64) x))) ≡ (λ k. g (eqb k t) (member (mask (of-words l)) k))
+  unfolding mask
+  changed l t x lt room e =
+      word-put g keep words (word-of (of-words l)) (word-of (of-words (set l (t / 64) x))) (t / 64) (t % 64) (omega arith) (omega arith)
+      (λ v. ap (λ (n : ℕ). member n v) (getD-set-same l (t / 64) x 0 room) ∙ ap (λ X. X v) e)
+      (λ j _ ne. getD-set-other l (t / 64) j x 0 ne)
+      ∙ ap {B = Test} (λ (m : ℕ). λ (k : ℕ). g (eqb k m) (member (mask (of-words l)) k)) (place-of t)
+
+-- word by word
+module _ (g : Bool → Bool → Bool) (none : g false false ≡ false) where
+  pub joined : (a b : Set) (x y : ℕ) → member x ≡ (λ u. g (member (word-of a 0) u) (member (word-of b 0) u))
+      → member y ≡ (λ u. g (member (word-of a 1) u) (member (word-of b 1) u)) → member (mask (of-words (x ∷ y ∷ []))) ≡ (λ t. g (member (mask a) t) (member (mask b) t))
+  unfolding mask
+  joined a b x y e f =
+      word-wise g none words (word-of a) (word-of b) (word-of (of-words (x ∷ y ∷ [])))
+      (λ i u li lu. ap (λ X. X u) (two (λ j. member (word-of (of-words (x ∷ y ∷ [])) j) ≡ (λ v. g (member (word-of a j) v) (member (word-of b j) v))) e f i li))
+
+-- every number below n
+pub low-below : (n x : ℕ) → n < 64 → member x ≡ up-to n → member (mask (of-words (x ∷ 0 ∷ []))) ≡ up-to n
+unfolding mask
+low-below n x lt e =
+    words-are words (word-of (of-words (x ∷ 0 ∷ []))) (up-to n)
+    (λ i u li lu. two (λ j. member (word-of (of-words (x ∷ 0 ∷ [])) j) u ≡ up-to n (j * 64 + u))
+    (ap (λ X. X u) e ∙ ap (λ (k : ℕ). ltb k n) (steps u (0 * 64 + u) (omega arith)))
+    (member-none u ∙ sym (le-ltb (1 * 64 + u) n (omega arith))) i li)
+    (λ t le. le-ltb t n (omega arith))
+
+pub high-below : (n x y : ℕ) → 64 ≤ n → n ≤ most-states → member x ≡ up-to 64 → member y ≡ up-to (n - 64) → member (mask (of-words (x ∷ y ∷ []))) ≡ up-to n
+unfolding mask
+high-below n x y ge le e f =
+    words-are words (word-of (of-words (x ∷ y ∷ []))) (up-to n)
+    (λ i u li lu. two (λ j. member (word-of (of-words (x ∷ y ∷ [])) j) u ≡ up-to n (j * 64 + u))
+    (ap (λ X. X u) e ∙ lt-ltb u 64 lu ∙ sym (lt-ltb (0 * 64 + u) n (omega arith)))
+    (ap (λ X. X u) f ∙ ⊎-elim
+    (λ lt. lt-ltb u (n - 64) lt ∙ sym (lt-ltb (1 * 64 + u) n (omega arith)))
+    (λ ge′. le-ltb u (n - 64) ge′ ∙ sym (le-ltb (1 * 64 + u) n (omega arith)))
+    (below-or-not u (n - 64))) i li)
+    (λ t out. le-ltb t n (omega arith))
+
+-- the members of both words
+sum-two : (f : ℕ → ℕ) → sum 2 f ≡ f 0 + f 1
+unfolding sum
+sum-two f = omega arith
+
+pub count-is : (s : Set) → size 64 (member (word-of s 0)) + size 64 (member (word-of s 1)) ≡ size most-states (member (mask s))
+unfolding mask
+count-is s = sym (words-size words words (word-of s) (omega arith) ∙ sum-two (λ i. size 64 (member (word-of s i))))
+
+-- the lowest member, and the set without it, where word i is the first that has a member
+module _ (s : Set) (i u : ℕ) (li : i < words) (lu : u < 64) (none : (j : ℕ) → j < i → word-of s j ≡ 0) (l : Lowest (member (word-of s i)) u) where
+  no-lower : (j v : ℕ) → j < i → member (word-of s j) v ≡ false
+  no-lower j v lt = ap (λ (n : ℕ). member n v) (none j lt) ∙ member-none v
+
+  pub lowest-is : Lowest (member (mask s)) (i * 64 + u)
+  unfolding mask
+  lowest-is = number-lowest words (word-of s) i u li lu no-lower l
+
+  module _ (r : Set) (here : member (word-of r i) ≡ without-member u (member (word-of s i))) (other : (j : ℕ) → j < words → j ≢ i → word-of r j ≡ word-of s j) where
+    pub lowest-dropped : ((t : ℕ) → Lowest (member (mask s)) t → member (mask r) ≡ without-member t (member (mask s))) × (mask r < mask s)
+    unfolding mask
+    lowest-dropped =
+        (number-drop words (word-of s) (word-of r) i u li lu no-lower l here other, number-less words (word-of s) (word-of r) i u li lu no-lower l here other)
+
+-- the words that stay where one is written anew
+pub second : (s : Set) (x j : ℕ) → j < words → j ≢ 0 → word-of (of-words (x ∷ word-of s 1 ∷ [])) j ≡ word-of s j
+second s x = two (λ j. j ≢ 0 → word-of (of-words (x ∷ word-of s 1 ∷ [])) j ≡ word-of s j) (λ ne. absurd (ne refl)) (λ ne. refl)
+
+pub first : (s : Set) (x : ℕ) → word-of s 0 ≡ 0 → (j : ℕ) → j < words → j ≢ 1 → word-of (of-words (0 ∷ x ∷ [])) j ≡ word-of s j
+first s x z = two (λ j. j ≢ 1 → word-of (of-words (0 ∷ x ∷ [])) j ≡ word-of s j) (λ ne. sym z) (λ ne. absurd (ne refl))
+
+-- a walk: what is left in word w is `left`, nothing before it, and the set after it
+module _ (s : Set) where
+  left-in : ℕ → ℕ → ℕ → ℕ
+  left-in w left i = cond (ltb i w) 0 (cond (eqb i w) left (word-of s i))
+
+  left-here : (w left : ℕ) → left-in w left w ≡ left
+  unfolding left-in
+  left-here w left = rw (le-ltb w w (omega arith), eq-eqb w w refl)
+
+  left-before : (w left j : ℕ) → j < w → left-in w left j ≡ 0
+  unfolding left-in
+  left-before w left j lt = rw (lt-ltb j w lt)
+
+  left-other : (w x y j : ℕ) → j ≢ w → left-in w x j ≡ left-in w y j
+  unfolding left-in
+  left-other w x y j ne = rw (ne-eqb j w ne)
+
+  module _ (w left u : ℕ) (lw : w < words) (lu : u < 64) (l : Lowest (member left) u) where
+    no-left : (j v : ℕ) → j < w → member (left-in w left j) v ≡ false
+    no-left j v lt = ap (λ (n : ℕ). member n v) (left-before w left j lt) ∙ member-none v
+
+    in-word : Lowest (member (left-in w left w)) u
+    in-word = subst (λ (n : ℕ). Lowest (member n) u) (sym (left-here w left)) l
+
+    pub walk-lowest : Lowest (member (rest w left s)) (w * 64 + u)
+    unfolding rest left-in
+    walk-lowest = number-lowest words (left-in w left) w u lw lu no-left in-word
+
+    pub walk-drop : (y : ℕ) → member y ≡ without-member u (member left) → (t : ℕ) → Lowest (member (rest w left s)) t
+        → member (rest w y s) ≡ without-member t (member (rest w left s))
+    unfolding rest left-in
+    walk-drop y e =
+        number-drop words (left-in w left) (left-in w y) w u lw lu no-left in-word
+        (ap member (left-here w y) ∙ e ∙ ap (λ (n : ℕ). without-member u (member n)) (sym (left-here w left)))
+        (λ j _ ne. left-other w y left j ne)
+
+  -- it starts with the set, goes from a word to the next, and ends with nothing
+  pub after-all : after 0 s ≡ mask s
+  unfolding after mask
+  after-all = number-ext words (λ i. cond (ltb i 0) 0 (word-of s i)) (word-of s) (λ i lt. ap (λ b. cond b 0 (word-of s i)) (le-ltb i 0 (omega arith)))
+
+  pub after-rest : (w : ℕ) → after w s ≡ rest w (word-of s w) s
+  unfolding after rest
+  after-rest w = number-ext words (λ i. cond (ltb i w) 0 (word-of s i)) (λ i. cond (ltb i w) 0 (cond (eqb i w) (word-of s w) (word-of s i))) (λ i lt. ap (cond (ltb i w) 0) (at i (ℕ-discrete i w)))
+    where
+      at : (i : ℕ) → Dec (i ≡ w) → word-of s i ≡ cond (eqb i w) (word-of s w) (word-of s i)
+      at i (yes e) = ap (word-of s) e ∙ ap (λ b. cond b (word-of s w) (word-of s i)) (sym (eq-eqb i w e))
+      at i (no q) = ap (λ b. cond b (word-of s w) (word-of s i)) (sym (ne-eqb i w q))
+
+  pub rest-after : (w : ℕ) → rest w 0 s ≡ after (w + 1) s
+  unfolding after rest
+  rest-after w = number-ext words (λ i. cond (ltb i w) 0 (cond (eqb i w) 0 (word-of s i))) (λ i. cond (ltb i (w + 1)) 0 (word-of s i)) (λ i lt. at i (below-or-not i w) (ℕ-discrete i w))
+    where
+      at : (i : ℕ) → (i < w) ⊎ (w ≤ i) → Dec (i ≡ w) → cond (ltb i w) 0 (cond (eqb i w) 0 (word-of s i)) ≡ cond (ltb i (w + 1)) 0 (word-of s i)
+      at i (inl lt) d = rw (lt-ltb i w lt, lt-ltb i (w + 1) (omega arith))
+      at i (inr ge) (yes e) = rw (le-ltb i w ge, eq-eqb i w e, lt-ltb i (w + 1) (omega arith))
+      at i (inr ge) (no q) = rw (le-ltb i w ge, ne-eqb i w q, le-ltb i (w + 1) (omega (arith, q)))
+
+  pub after-none : after words s ≡ 0
+  unfolding after
+  after-none = number-none words (λ i. cond (ltb i words) 0 (word-of s i)) (λ i lt. ap (λ b. cond b 0 (word-of s i)) (lt-ltb i words lt))
+
+  -- the same for whatever is known of what is left
+  module _ (P : ℕ → Type 0) where
+    pub walk-begin : P (mask s) → P (after 0 s)
+    walk-begin = subst P (sym after-all)
+
+    pub walk-into : (w : ℕ) → P (after w s) → P (rest w (word-of s w) s)
+    walk-into w = subst P (after-rest w)
+
+    pub walk-on : (w left : ℕ) → left ≡ 0 → P (rest w left s) → P (after (w + 1) s)
+    walk-on w left e h = subst P (rest-after w) (subst (λ (n : ℕ). P (rest w n s)) e h)
+
+  pub walk-done : (w : ℕ) → w ≡ words → after w s ≡ 0
+  walk-done w e = ap (λ (n : ℕ). after n s) e ∙ after-none
+
+-- rows
+pub row-lt : (rows : List ℕ) (s : ℕ) → row-of rows s < 2 ^ most-states
+unfolding row-of
+row-lt rows s = number-lt words (λ i. getD rows (s * words + i) 0)
+
+pub row-bit : (rows : List ℕ) (s t : ℕ) → t < most-states → member (getD rows (s * words + t / 64) 0) (t % 64) ≡ member (row-of rows s) t
+unfolding row-of
+row-bit rows s t lt =
+    sym (bit-at words (λ i. getD rows (s * words + i) 0) (t / 64) (t % 64) (omega arith) (omega arith)) ∙ ap (member (row-of rows s)) (place-of t)
+
+pub row-get : (rows : List ℕ) (s : ℕ) → mask (of-words (getD rows (s * words) 0 ∷ getD rows (s * words + 1) 0 ∷ [])) ≡ row-of rows s
+unfolding mask row-of
+row-get rows s =
+    number-ext words (word-of (of-words (getD rows (s * words) 0 ∷ getD rows (s * words + 1) 0 ∷ []))) (λ i. getD rows (s * words + i) 0)
+    (two (λ i. getD (getD rows (s * words) 0 ∷ getD rows (s * words + 1) 0 ∷ []) i 0 ≡ getD rows (s * words + i) 0)
+    (ap (λ (k : ℕ). getD rows k 0) (steps (s * words) (s * words + 0) (omega arith))) refl)
+
+pub length-put : (rows : List ℕ) (s : ℕ) (x : Set) → length (put-row rows s x) ≡ length rows
+unfolding put-row
+length-put rows s x = length-set (set rows (s * words) (word-of x 0)) (s * words + 1) (word-of x 1) ∙ length-set rows (s * words) (word-of x 0)
+
+pub row-put : (rows : List ℕ) (s : ℕ) (x : Set) → s < height rows → row-of (put-row rows s x) s ≡ mask x
+unfolding mask row-of put-row
+row-put rows s x lt =
+    number-ext words (λ i. getD (put-row rows s x) (s * words + i) 0) (word-of x)
+    (two (λ i. getD (put-row rows s x) (s * words + i) 0 ≡ word-of x i)
+    (ap (λ (k : ℕ). getD (put-row rows s x) k 0) (steps (s * words + 0) (s * words) (omega arith))
+    ∙ getD-set-other (set rows (s * words) (word-of x 0)) (s * words + 1) (s * words) (word-of x 1) 0 (λ e. omega arith)
+    ∙ getD-set-same rows (s * words) (word-of x 0) 0 (omega arith))
+    (getD-set-same (set rows (s * words) (word-of x 0)) (s * words + 1) (word-of x 1) 0 (omega (arith, length-set rows (s * words) (word-of x 0)))))
+
+pub row-put-other : (rows : List ℕ) (s k : ℕ) (x : Set) → k ≢ s → row-of (put-row rows s x) k ≡ row-of rows k
+unfolding row-of put-row
+row-put-other rows s k x ne =
+    number-ext words (λ i. getD (put-row rows s x) (k * words + i) 0) (λ i. getD rows (k * words + i) 0)
+    (λ i lt. getD-set-other (set rows (s * words) (word-of x 0)) (s * words + 1) (k * words + i) (word-of x 1) 0 (λ e. ne (omega arith))
+    ∙ getD-set-other rows (s * words) (k * words + i) (word-of x 0) 0 (λ e. ne (omega arith)))
+
+-- a test of the numbers of a list, by the first k of them and by the others
+part-ext : (n : ℕ) (X Y : Test) → ((j : ℕ) → j < n → X j ≡ Y j) → part n X ≡ part n Y
+part-ext n X Y e = fun-ext (λ k. ⊎-elim
+    (λ lt. ap (λ b. ltb k n && b) (e k lt))
+    (λ le. ap (λ b. b && X k) (le-ltb k n le) ∙ sym (ap (λ b. b && Y k) (le-ltb k n le)))
+    (below-or-not k n))
+
+module _ (F : Test) (k : ℕ) (ts : List ℕ) (h : k ≤ length ts) where
+  pub part-take : part (length (take k ts)) (λ j. F (getD (take k ts) j 0)) ≡ part k (λ j. F (getD ts j 0))
+  part-take =
+      let m : length (take k ts) ≡ k = simp length-take (omega arith) in
+      ap (λ (n : ℕ). part n (λ j. F (getD (take k ts) j 0))) m
+      ∙ part-ext k (λ j. F (getD (take k ts) j 0)) (λ j. F (getD ts j 0)) (λ j l. ap F (getD-take k ts j 0 l))
+
+  pub part-drop : part (length (take (length ts - k) (drop k ts))) (λ j. F (getD (take (length ts - k) (drop k ts)) j 0)) ≡ part (length ts - k) (λ j. F (getD ts (k + j) 0))
+  part-drop =
+      let m : length (take (length ts - k) (drop k ts)) ≡ length ts - k = simp (length-take, length-drop) (omega arith) in
+      ap (λ (n : ℕ). part n (λ j. F (getD (take (length ts - k) (drop k ts)) j 0))) m
+      ∙ part-ext (length ts - k) (λ j. F (getD (take (length ts - k) (drop k ts)) j 0)) (λ j. F (getD ts (k + j) 0))
+      (λ j l. ap F (getD-take (length ts - k) (drop k ts) j 0 l ∙ getD-drop k ts j 0))
+
+-- of the first n numbers, those that pass: in the first word, and in both
+pub low-part : (X : Test) (n x : ℕ) → n ≤ 64 → member x ≡ part n X → member (mask (of-words (x ∷ 0 ∷ []))) ≡ part n X
+unfolding mask
+low-part X n x le e =
+    words-are words (word-of (of-words (x ∷ 0 ∷ []))) (part n X)
+    (λ i u li lu. two (λ j. member (word-of (of-words (x ∷ 0 ∷ [])) j) u ≡ part n X (j * 64 + u))
+    (ap (λ Y. Y u) e ∙ ap (part n X) (steps u (0 * 64 + u) (omega arith)))
+    (member-none u ∙ sym (ap (λ b. b && X (1 * 64 + u)) (le-ltb (1 * 64 + u) n (omega arith)))) i li)
+    (λ t out. ap (λ b. b && X t) (le-ltb t n (omega arith)))
+
+pub high-part : (X : Test) (n x y : ℕ) → 64 ≤ n → n ≤ most-states → member x ≡ part 64 X → member y ≡ part (n - 64) (λ j. X (64 + j))
+    → member (mask (of-words (x ∷ y ∷ []))) ≡ part n X
+unfolding mask
+high-part X n x y ge le e f =
+    words-are words (word-of (of-words (x ∷ y ∷ []))) (part n X)
+    (λ i u li lu. two (λ j. member (word-of (of-words (x ∷ y ∷ [])) j) u ≡ part n X (j * 64 + u))
+    (ap (λ Y. Y u) e ∙ ap (λ b. b && X u) (lt-ltb u 64 lu ∙ sym (lt-ltb u n (omega arith))) ∙ ap (part n X) (steps u (0 * 64 + u) (omega arith)))
+    (ap (λ Y. Y u) f ∙ ap (λ b. b && X (64 + u)) (same n u ge) ∙ ap (part n X) (steps (64 + u) (1 * 64 + u) (omega arith))) i li)
+    (λ t out. ap (λ b. b && X t) (le-ltb t n (omega arith)))
+  where
+    same : (n u : ℕ) → 64 ≤ n → ltb u (n - 64) ≡ ltb (64 + u) n
+    same n u ge = ⊎-elim
+        (λ lt. lt-ltb u (n - 64) lt ∙ sym (lt-ltb (64 + u) n (omega arith)))
+        (λ out. le-ltb u (n - 64) out ∙ sym (le-ltb (64 + u) n (omega arith)))
+        (below-or-not u (n - 64))
+
+-- a set that was read from a row
+module _ {Z : Test} {g x : ℕ} (e : g ≡ x) where
+  pub both-of : (Y : Test) → Z ≡ both (member g) Y → Z ≡ both (member x) Y
+  both-of Y h = h ∙ ap (λ (n : ℕ). both (member n) Y) e
+
+  pub both-by : (X : Test) → Z ≡ both X (member g) → Z ≡ both X (member x)
+  both-by X h = h ∙ ap (λ (n : ℕ). both X (member n)) e
+
+  pub except-of : (Y : Test) → Z ≡ except (member g) Y → Z ≡ except (member x) Y
+  except-of Y h = h ∙ ap (λ (n : ℕ). except (member n) Y) e
+
+  pub except-by : (X : Test) → Z ≡ except X (member g) → Z ≡ except X (member x)
+  except-by X h = h ∙ ap (λ (n : ℕ). except X (member n)) e
+
+-- the test for an empty set, as the code makes it
+pub is-none : {m : ℕ} {b : Bool} → b ≡ eqb m 0 → b ≡ true → m ≡ 0
+is-none {m} e t = eqb-true m 0 (sym e ∙ t)
+
+pub is-some : {m : ℕ} {b : Bool} → b ≡ eqb m 0 → b ≡ false → m ≢ 0
+is-some {m} e f = eqb-false m 0 (sym e ∙ f)
+
+-- and where it is turned round
+un-not : (b : Bool) → not b ≡ false → b ≡ true
+un-not true e = refl
+un-not false e = absurd (true≢false e)
+
+un-not-not : (b : Bool) → not b ≡ true → b ≡ false
+un-not-not true e = absurd (true≢false (sym e))
+un-not-not false e = refl
+
+pub not-none : {m : ℕ} {b : Bool} → b ≡ eqb m 0 → not b ≡ false → m ≡ 0
+not-none {m} {b} e f = is-none {m = m} {b = b} e (un-not b f)
+
+pub not-some : {m : ℕ} {b : Bool} → b ≡ eqb m 0 → not b ≡ true → m ≢ 0
+not-some {m} {b} e t = is-some {m = m} {b = b} e (un-not-not b t)

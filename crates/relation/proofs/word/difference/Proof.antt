@@ -1,0 +1,10 @@
+-- `relation::word::difference` meets its contract. Assumes nothing.
+use Rattle.relation.proofs.Mask.{except-is}
+use Rattle.relation.proofs.word.difference.Statement.{statement}
+use Rattle.relation.proofs.word.difference.Tie as tie
+
+returns : tie.Need-returns
+returns c = except-is (c .args .a) (c .args .b) (c .fits .a .fits) (c .fits .b .fits)
+
+pub difference-spec : {M : Type 1} → statement M
+difference-spec = tie.close (tie.spec returns)

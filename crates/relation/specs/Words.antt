@@ -1,0 +1,49 @@
+-- Words of 64 bits as one number, for any number of words, and with it the sets of states and the rows of a relation.
+-- Assumes nothing.
+use mathlib.Core.Bool.{cond}
+use mathlib.Core.List.{List}
+use Prim.Native.Nat.{ℕ, zero, suc, _+_, _*_, _/_, _%_, _^_}
+use lib.Dec.{eqb, ltb}
+use lib.ListN.{length, getD, set}
+use Rattle.simulation.specs.Limits.{most-states}
+use Rattle.relation.specs.declared.set.Set.{Set}
+
+-- so many words have a bit for each state of a table
+abbrev pub words : ℕ
+words = most-states / 64
+
+-- n words, lowest first: digit t of the number is bit t % 64 of word t / 64
+unfoldable pub number : ℕ → (ℕ → ℕ) → ℕ
+number zero word = 0
+number (suc n) word = number n (λ i. word (suc i)) * 2 ^ 64 + word 0 % 2 ^ 64
+
+abbrev pub word-of : Set → ℕ → ℕ
+word-of s i = getD (s .words) i 0
+
+-- a set of states: the digits that are one are its members
+unfoldable pub mask : Set → ℕ
+unfolding number
+mask s = number words (word-of s)
+
+-- row s of a relation whose rows lie one after the other
+unfoldable pub row-of : List ℕ → ℕ → ℕ
+unfolding number
+row-of rows s = number words (λ i. getD rows (s * words + i) 0)
+
+-- how many rows
+abbrev pub height : List ℕ → ℕ
+height rows = length rows / words
+
+-- the rows with a set in the place of row s
+unfoldable pub put-row : List ℕ → ℕ → Set → List ℕ
+put-row rows s x = set (set rows (s * words) (word-of x 0)) (s * words + 1) (word-of x 1)
+
+-- what a walk over the members has left: `left` in word w, and the words after it
+unfoldable pub rest : ℕ → ℕ → Set → ℕ
+unfolding number
+rest w left s = number words (λ i. cond (ltb i w) 0 (cond (eqb i w) left (word-of s i)))
+
+-- what it has left before word w
+unfoldable pub after : ℕ → Set → ℕ
+unfolding number
+after w s = number words (λ i. cond (ltb i w) 0 (word-of s i))
