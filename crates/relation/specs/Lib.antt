@@ -4,3 +4,4 @@ pub mod Mask
 pub mod Words
 pub mod Related
 pub mod Ranks
+pub mod Examples

@@ -1,0 +1,30 @@
+-- Sets and rows of words, computed: members in either word, a row that is read and one that is written, and what a walk has left.
+-- Assumes nothing.
+use mathlib.Core.Path.{_≡_, refl}
+use mathlib.Core.Bool.{Bool, true, false}
+use mathlib.Core.List.{List, [], _∷_, map}
+use Prim.Native.Nat.{ℕ, _+_, _^_}
+use Rattle.relation.specs.declared.set.Set.{Set}
+use Rattle.relation.specs.Mask.{member}
+use Rattle.relation.specs.Words.{words, mask, row-of, height, put-row, rest, after}
+
+-- the states 0, 2 and 64
+abbrev some : Set
+some = record { words = 5 ∷ 1 ∷ [] }
+
+-- state 0 is related to state 0, state 1 to state 127
+abbrev rows : List ℕ
+rows = 1 ∷ 0 ∷ 0 ∷ 2 ^ 63 ∷ []
+
+pub set-example : (words ≡ 2) × (mask some ≡ 2 ^ 64 + 5) × (map (member (mask some)) (0 ∷ 1 ∷ 2 ∷ 63 ∷ 64 ∷ 65 ∷ []) ≡ true ∷ false ∷ true ∷ false ∷ true ∷ false ∷ [])
+unfolding mask member
+set-example = (refl, refl, refl)
+
+pub rows-example : (height rows ≡ 2) × (row-of rows 0 ≡ 1) × (row-of rows 1 ≡ 2 ^ 127) × (put-row rows 1 some ≡ 1 ∷ 0 ∷ 5 ∷ 1 ∷ [])
+unfolding row-of put-row
+rows-example = (refl, refl, refl, refl)
+
+-- before the second word, within the first after state 0, and at the end
+pub walk-example : (after 1 some ≡ 2 ^ 64) × (rest 0 4 some ≡ 2 ^ 64 + 4) × (after words some ≡ 0)
+unfolding rest after
+walk-example = (refl, refl, refl)
