@@ -32,7 +32,7 @@ use Rattle.relate.specs.Rows.{Rows}
 use Rattle.matrix.specs.Problem.{relates}
 use Rattle.cut.specs.Quick.{CutOf}
 use Rattle.matrix.proofs.MaskedLaws.{true-or-false, neither, except-at, either-at, either-left, either-right, drop-at, drop-out, no-members}
-use Rattle.choice.specs.Choice.{Compared, Cut, Names, Added, Joined, Parted, Lost, Choice}
+use Rattle.choice.specs.Choice.{Compared, Cut, Names, Added, Joined, Parted, Lost, Choice, fits-some, Tested}
 use Rattle.simulation.proofs.Fit.Agree.{fits-agree, cut-agree}
 use Rattle.relate.proofs.Relating.{related-round}
 
@@ -184,7 +184,7 @@ module _ (R : Relation) (m n : Transition) where
   unfolding fits-step
   fits-other d = sym (ap (λ b. b && fits? (between R m n) (weights m) (weights n)) (differ-eqb (m .code) (n .code) d))
 
-  fits-same : {rel : List ℕ} {mask : ℕ} → m .code ≡ n .code → Cut R m n rel mask → eqb mask 0 ≡ fits-step R m n
+  pub fits-same : {rel : List ℕ} {mask : ℕ} → m .code ≡ n .code → Cut R m n rel mask → eqb mask 0 ≡ fits-step R m n
   unfolding fits-step
   fits-same e c = sym (ap (λ b. b && fits? (between R m n) (weights m) (weights n)) (is-true (eqb (m .code) (n .code)) (same-eqb e)) ∙ c .fit)
 
@@ -275,15 +275,15 @@ module _ (f : List ℕ) (l : Loaded f) (t : ℕ) (b : t < states-of (table-of f)
         at i a c (yes p) = ap (λ (i : ℕ). test (transition-at f i)) p ∙ e
         at i a c (no p) = s .none i a (omega (arith, p))
 
-    pub scan-found : {k : ℕ} → Scan f t test k → k < start-of f (t + 1) → test (transition-at f k) ≡ true → true ≡ any-of test (steps N t)
-    scan-found {k} s h e =
-        sym (is-true (any-of test (steps N t)) (any-of-by test no-transition (steps N t) (k - start-of f t) (place-of k (s .low) h)
-        (subst T (sym e ∙ ap test (transition-numbered f l t k b (s .low) h)) tt)))
+    pub one-passes : {k : ℕ} → start-of f t ≤ k → k < start-of f (t + 1) → test (transition-at f k) ≡ true → any-of test (steps N t) ≡ true
+    one-passes {k} a h e =
+        is-true (any-of test (steps N t)) (any-of-by test no-transition (steps N t) (k - start-of f t) (place-of k a h)
+        (subst T (sym e ∙ ap test (transition-numbered f l t k b a h)) tt))
 
-    pub scan-end : {k : ℕ} → Scan f t test k → start-of f (t + 1) ≤ k → false ≡ any-of test (steps N t)
-    scan-end {k} s h = sym (is-false (any-of test (steps N t)) (λ x.
+    pub none-passes : {k : ℕ} → Scan f t test k → start-of f (t + 1) ≤ k → any-of test (steps N t) ≡ false
+    none-passes {k} s h = is-false (any-of test (steps N t)) (λ x.
         let w = any-of-at test no-transition (steps N t) x in
-        subst T (ap test (sym (transition-of f l t (w .0) b (w .1))) ∙ s .none (start-of f t + w .0) (omega arith) (omega (arith, counts f l t b, w .1))) (w .2)))
+        subst T (ap test (sym (transition-of f l t (w .0) b (w .1))) ∙ s .none (start-of f t + w .0) (omega arith) (omega (arith, counts f l t b, w .1))) (w .2))
 
 -- ---- the first transition that fits none
 
@@ -303,12 +303,17 @@ module _ (first second : List ℕ) (s t : ℕ) where
     some-fails = chosen-law (table-of first) (table-of second) s t (p .left) (p .right) (p .fell)
 
     -- the chosen one fits none
-    pub chosen-unfit : {j r : ℕ} → r ≡ rank (table-of first) (table-of second) s t → Choice first second s t j
-        → true ≡ any-of (fits-step (round (table-of first) (table-of second) (pred r)) (transition-at first j)) (steps (table-of second) t) → ⊥
+    chosen-unfit : {j r : ℕ} → r ≡ rank (table-of first) (table-of second) s t → Choice first second s t j
+        → fits-some first second t r j ≡ true → ⊥
     chosen-unfit {j} {r} e c h =
-        let q = any-of-at (fits-step (round (table-of first) (table-of second) (pred r)) (transition-at first j)) no-transition (steps (table-of second) t) (subst T h tt) in
+        let q = any-of-at (fits-step (round (table-of first) (table-of second) (pred r)) (transition-at first j)) no-transition (steps (table-of second) t) (subst T (sym h) tt) in
         some-fails .unfit (q .0) (q .1)
         (subst₂ (λ (r : ℕ) (m : Transition). T (fits-step (round (table-of first) (table-of second) (pred r)) m (transition (table-of second) t (q .0)))) e (c .is) (q .2))
+
+    -- l is one that j fits, so j is not the chosen one
+    pub tested-one : {r j l : ℕ} {sets : List ℕ} → r ≡ rank (table-of first) (table-of second) s t → start-of second t ≤ l → l < start-of second (t + 1)
+        → fits-some first second t r j ≡ true → Tested first second s t r j l sets
+    tested-one e a h f = record { low = a; high = omega arith; one = λ _. f; none = λ q. absurd (omega (arith, q)); found = λ w. absurd (chosen-unfit e w f) }
 
     -- not all of them do
     not-all : (j : ℕ) → ((l : ℕ) → start-of first s ≤ l → l < j → T (matches (transition-at first l))) → j < start-of first (s + 1)

@@ -1,7 +1,7 @@
 -- The transition chosen for a pair that is not kept, and the sets of its targets, as the code finds them.
 -- Assumes nothing.
 use mathlib.Core.Path.{_≡_}
-use mathlib.Core.Bool.{Bool, true, false, not, _&&_, _||_}
+use mathlib.Core.Bool.{Bool, true, false, _&&_, _||_}
 use mathlib.Core.List.{List}
 use Prim.Native.Nat.{ℕ, _+_, _≤_, _<_, pred}
 use lib.Dec.{eqb}
@@ -65,7 +65,15 @@ pub record Sets (first second : List ℕ) (s t : ℕ) (sets : List ℕ) : Type 0
   pub set : (i : ℕ) → i < length (chosen (table-of first) (table-of second) s t .entries)
       → member (row-of sets i) ≡ set-of (table-of first) (table-of second) s t i
 
--- b tells whether the transition j of s fits none of t in the round before round r; the sets are those of the chosen transition if it is j
-pub record Tested (first second : List ℕ) (s t r j : ℕ) (b : Bool) (sets : List ℕ) : Type 0 where
-  pub unfit : b ≡ not (any-of (fits-step (round (table-of first) (table-of second) (pred r)) (transition-at first j)) (steps (table-of second) t))
+-- the transition j of the first table fits some transition of t in the round before round r
+abbrev pub fits-some : (first second : List ℕ) (t r j : ℕ) → Bool
+fits-some first second t r j = any-of (fits-step (round (table-of first) (table-of second) (pred r)) (transition-at first j)) (steps (table-of second) t)
+
+-- l is a transition of t if the transition j of s fits one in the round before round r, else their end; the sets are those of the chosen
+-- transition if it is j
+pub record Tested (first second : List ℕ) (s t r j l : ℕ) (sets : List ℕ) : Type 0 where
+  pub low : start-of second t ≤ l
+  pub high : l ≤ start-of second (t + 1)
+  pub one : l < start-of second (t + 1) → fits-some first second t r j ≡ true
+  pub none : start-of second (t + 1) ≤ l → fits-some first second t r j ≡ false
   pub found : Choice first second s t j → Sets first second s t sets

@@ -4,7 +4,7 @@ use relation::set;
 use relation::set::Set;
 use relation::walk;
 ghost use mathlib.Core.Path.{_≡_};
-ghost use mathlib.Core.Bool.{not, _&&_};
+ghost use mathlib.Core.Bool.{true, not, _&&_};
 ghost use Prim.Native.Nat.{ℕ, pred, _+_, _*_, _≤_, _<_};
 ghost use lib.Dec.{eqb};
 ghost use lib.ListN.{length, getD};
@@ -18,7 +18,7 @@ ghost use Rattle.relation.specs.Mask.{member};
 ghost use Rattle.relation.specs.Words.{mask, row-of, height};
 ghost use Rattle.matrix.specs.Problem.{relates};
 ghost use Rattle.relate.specs.Ranked.{Ranked, Lent};
-ghost use Rattle.choice.specs.Choice.{Compared, Cut, Names, Joined, Parted, Lost, Choice, Sets, Tested};
+ghost use Rattle.choice.specs.Choice.{Compared, Cut, Names, Joined, Parted, Lost, Choice, Sets, fits-some, Tested};
 
 // The rank of the pair (s, t).
 pub fn rank_at(second: &[u16], ranks: &[u16], s: usize, t: usize) -> u16
@@ -162,7 +162,8 @@ fn clear(sets: &mut [u64], n: usize)
     }
 }
 
-// Whether the transition j of s fits none of t with its code, in the round before the pair's rank r. If j is the one chosen, the sets are those of its targets.
+// The first transition of t that the transition j of s fits in the round before the pair's rank r, or the end of t's transitions if there is
+// none. If j is the one chosen, the sets are those of its targets.
 pub fn find_sets(
     first: &[u16],
     second: &[u16],
@@ -174,22 +175,50 @@ pub fn find_sets(
     sets: &mut [u64],
     rel: &mut [u64],
     x: &mut [u32],
-) -> bool
+) -> usize
     requires { ⌜ Ranked (now first) (now second) (now ranks) × Lost (now first) (now second) s t
         × (r ≡ rank (table-of (now first)) (table-of (now second)) s t) × (start-of (now first) s ≤ j) × (j < start-of (now first) (s + 1))
         × Lent (now rel) (now x) × (length (transition-at (now first) j .entries) ≤ height (now sets)) ⌝ }
-    ensures { λ b. ⌜ Tested (now (first .entry)) (now (second .entry)) s t r j b (now (sets .exit)) ⌝ }
+    ensures { λ l. ⌜ Tested (now (first .entry)) (now (second .entry)) s t r j l (now (sets .exit)) ⌝ }
 {
     clear(sets, form::targets(first, j).len());
     let last = form::first(second, t + 1);
     let mut l = form::first(second, t);
     while l < last {
         if add_sets(first, second, ranks, r, j, l, sets, rel, x) {
-            return false;
+            return l;
         }
         l += 1;
     }
-    true
+    l
+}
+
+// Where a state has more transitions than this, a guess comes first: the one that the last was found to fit.
+const PARTNERS: usize = 16;
+
+// Whether t has many transitions and j fits l, one of them, in the round before round r. Where there are few, trying them in turn costs less.
+fn guessed(
+    first: &[u16],
+    second: &[u16],
+    ranks: &[u16],
+    t: usize,
+    r: u16,
+    j: usize,
+    l: usize,
+    rel: &mut [u64],
+    x: &mut [u32],
+) -> bool
+    requires { ⌜ Compared (now first) (now second) (now ranks) r j l (now rel) (now x) × (t < states-of (table-of (now second)))
+        × (start-of (now second) t ≤ l) × (l < start-of (now second) (t + 1)) ⌝ }
+    ensures { λ b. ⌜ (b ≡ true → fits-some (now (first .entry)) (now (second .entry)) t r j ≡ true) ⌝ }
+{
+    if form::first(second, t + 1) - form::first(second, t) <= PARTNERS {
+        return false;
+    }
+    if form::code(first, j) != form::code(second, l) {
+        return false;
+    }
+    set::is_empty(cut(first, second, ranks, r, j, l, rel, x))
 }
 
 // The number of the first transition of s that fits none of t with its code, in the round before the pair's rank r, with the sets of its targets.
@@ -208,9 +237,14 @@ pub fn choose(
         × (r ≡ rank (table-of (now first)) (table-of (now second)) s t) × (most-states ≤ height (now sets)) × Lent (now rel) (now x) ⌝ }
     ensures { λ j. ⌜ Choice (now (first .entry)) (now (second .entry)) s t j × Sets (now (first .entry)) (now (second .entry)) s t (now (sets .exit)) ⌝ }
 {
+    let last = form::first(second, t + 1);
     let mut j = form::first(first, s);
-    while !find_sets(first, second, ranks, s, t, r, j, sets, rel, x) {
+    let mut l = find_sets(first, second, ranks, s, t, r, j, sets, rel, x);
+    while l < last {
         j += 1;
+        if !guessed(first, second, ranks, t, r, j, l, rel, x) {
+            l = find_sets(first, second, ranks, s, t, r, j, sets, rel, x);
+        }
     }
     j
 }

@@ -25,8 +25,8 @@ use Rattle.ranking.specs.Rows.{Filled as RanksFilled}
 use Rattle.relate.specs.Ranked.{Ranked}
 use Rattle.flows.proofs.FlowPlace.{right-amounts}
 use Rattle.buffer.specs.Buffer.{over}
-use Rattle.order.specs.Count.{longest}
-use Rattle.order.proofs.Pairs.{place-below}
+use Rattle.counting.specs.Count.{longest}
+use Rattle.counting.proofs.Pairs.{place-below}
 use Rattle.compare.specs.Outcome.{Buffers, Result, success, lent, left}
 use Rattle.witness.specs.Shown.{tree-bytes, FlowShown, TreeShown}
 use Rattle.answer.specs.Numbers.{refusal, with-written}

@@ -14,7 +14,7 @@ use Rattle.simulation.specs.Round.{pairs, rank}
 use Rattle.simulation.specs.Demands.{Kept}
 use Rattle.simulation.proofs.Finite.Tests.{is-true, is-false, or-cases, or-left, or-right, same-eqb}
 use Rattle.flows.specs.Flow.{flow-room, flow-bytes}
-use Rattle.order.specs.Count.{longest}
+use Rattle.counting.specs.Count.{longest}
 use Rattle.compare.specs.Outcome.{Buffers, Result, success, with-flow, with-tree, kept-outcome, fallen-outcome, outcome, ranked}
 use Rattle.witness.specs.Shown.{tree-bytes}
 use Rattle.answer.specs.Numbers.{refusal}

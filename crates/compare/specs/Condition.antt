@@ -6,7 +6,7 @@ use Rattle.simulation.specs.Fit.{Amounts}
 use Rattle.simulation.specs.Table.{Table, states-of}
 use Rattle.simulation.specs.Round.{pairs}
 use Rattle.simulation.specs.Demands.{Kept}
-use Rattle.order.specs.Count.{longest}
+use Rattle.counting.specs.Count.{longest}
 use Rattle.flows.specs.Flow.{flow-bytes, flow-room}
 use Rattle.answer.specs.Numbers.{refusal}
 use Rattle.compare.specs.Outcome.{Buffers, Result, success, ranked, with-flow, with-tree}

@@ -9,7 +9,7 @@ use lib.ListN.{length}
 use Rattle.simulation.specs.Fit.{Amounts}
 use Rattle.simulation.specs.Table.{Table, states-of}
 use Rattle.simulation.specs.Round.{pairs, rank, rank-list, maximum, zeros}
-use Rattle.order.specs.Count.{longest}
+use Rattle.counting.specs.Count.{longest}
 use Rattle.buffer.specs.Buffer.{over}
 use Rattle.flows.specs.Flow.{flow-bytes, flow-room}
 use Rattle.witness.specs.Shown.{tree-bytes}

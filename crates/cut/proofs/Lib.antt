@@ -1,3 +1,5 @@
 -- Laws of the cut.
 -- Assumes nothing.
+pub mod Alike
+pub mod Weighing
 pub mod QuickLaws

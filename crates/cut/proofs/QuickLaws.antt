@@ -1,24 +1,26 @@
 -- The rows that lack a column, gathered row by row, and the cut that they settle.
 -- Assumes nothing.
 use mathlib.Core.Path.{_≡_, refl, sym, ap, ap₂, _∙_, subst}
-use mathlib.Core.Bool.{Bool, true, false, not, _&&_, _||_}
+use mathlib.Core.Bool.{Bool, true, false, not, cond, _&&_, _||_}
 use mathlib.Core.List.{List}
-use mathlib.Core.Logic.{_≢_, ⊎-elim}
-use Prim.Native.Nat.{ℕ, _+_, _^_, _≤_, _<_}
+use mathlib.Core.Logic.{_≢_, inl, inr, ⊎-elim}
+use Prim.Native.Nat.{ℕ, _+_, _*_, _^_, _≤_, _<_, zero-le}
+use native.Mathlib.Nat.{mul-comm, lt-of-le-of-lt}
 use native.Mathlib.Decide.{ℕ-discrete}
 use native.Mathlib.Omega.{arith}
-use borrow.Author.Tests.{lt-ltb, ltb-true, eq-eqb, ne-eqb}
-use lib.Dec.{eqb}
+use borrow.Author.Tests.{lt-ltb, ltb-true, ltb-false, eq-eqb, ne-eqb}
+use lib.Dec.{eqb, ltb}
 use lib.ListN.{length}
 use Rattle.simulation.specs.Limits.{most-states}
-use Rattle.simulation.specs.Fit.{Positive, fits?, cut}
+use Rattle.simulation.specs.Fit.{Positive, total, weight-of, fits?, cut}
 use Rattle.simulation.proofs.Fit.Quick.{weight-short, cut-products, cut-none, cut-some}
 use Rattle.relation.specs.Mask.{Test, member, up-to, with-member, both, either, except}
 use Rattle.relation.specs.Words.{row-of}
 use Rattle.relation.proofs.Mask.{member-none, below-or-not, no-member}
 use Rattle.matrix.specs.Problem.{relates}
-use Rattle.cut.specs.Quick.{CutOf, Lacking, Settled}
-use Rattle.matrix.proofs.MaskedLaws.{true-or-false, neither, both-in, both-out, except-at, except-out, either-left, either-right, some-member, no-members}
+use Rattle.cut.specs.Quick.{CutOf, Lacking, Settled, heavier}
+use Rattle.cut.proofs.Alike.{alike-fits, alike-cut}
+use Rattle.matrix.proofs.MaskedLaws.{true-or-false, neither, both-at, both-in, both-out, except-at, except-out, either-at, either-left, either-right, some-member, no-members}
 
 -- ---- the rows that lack a column
 
@@ -28,6 +30,7 @@ lacking-none rel q =
       inside = λ i t. absurd (neither t (member-none i));
       gap = λ i t. absurd (neither t (member-none i));
       others = λ i j l. absurd (omega arith);
+      columns = λ j t. absurd (neither t (member-none j));
       had = λ i j t. absurd (neither t (member-none i));
       lacked = λ i j t. absurd (neither t (member-none i));
     }
@@ -58,6 +61,7 @@ module _ {rel : List ℕ} {n q rows has lacks : ℕ} (all gap : ℕ) (s : Lackin
           | yes e ↦ subst (λ (k : ℕ). relates rel k j ≡ true) (sym e) (here j b)
           | no o ↦ s .others i j (omega arith) f b
         ];
+        columns = s .columns;
         had = s .had;
         lacked = s .lacked;
       }
@@ -93,6 +97,10 @@ module _ {rel : List ℕ} {n q rows has lacks : ℕ} (all gap : ℕ) (s : Lackin
           others = λ i j l f b. elim (ℕ-discrete i n) [
             | yes c ↦ absurd (neither (ap (member rows′) c ∙ row-here) f)
             | no o ↦ s .others i j (omega arith) (sym (row-there i o) ∙ f) b
+          ];
+          columns = λ j t. elim (either-at (member row) (member has) j eh t) [
+            | inl h ↦ ltb-true j q (sym (ap (λ (X : Test). X j) ea) ∙ both-at (member all) (member (row-of rel n)) j er h .0)
+            | inr h ↦ s .columns j h
           ];
           had = λ i j t b r. elim (ℕ-discrete i n) [
             | yes c ↦ either-left (member row) (member has) j eh (both-in (member all) (member (row-of rel n)) j er (in-all j b) (subst (λ (k : ℕ). relates rel k j ≡ true) c r))
@@ -142,6 +150,10 @@ module _ (ws vs rel : List ℕ) (r : ℕ) (fits : r < 2 ^ most-states)
   cut-of : CutOf ws vs rel r
   cut-of = record { fit = empty-fits; smallest = smallest; no-others = no-others }
 
+-- only rows are noted
+inside-only : {rel : List ℕ} {n q rows has lacks : ℕ} → Lacking rel n q rows has lacks → (i : ℕ) → n ≤ i → member rows i ≡ false
+inside-only {rows = rows} s i l = ⊎-elim (λ t. absurd (let b = s .inside i t in omega arith)) (λ f. f) (true-or-false (member rows i))
+
 -- the rows that lack a column are the cut
 pub cut-settled :
     {ws vs rel : List ℕ} {rows has lacks : ℕ} → Positive ws → Positive vs → rows < 2 ^ most-states
@@ -155,4 +167,40 @@ cut-settled {ws} {vs} {rel} {rows} pw pv fits s e =
     let h = s .had i j t m r in
     let t′ = e .alone j h i′ l′ in
     (⊎-elim (λ y. y) (λ f. absurd (neither (s .lacked i′ j t′ m f) (e .alike j h))) (true-or-false (relates rel i′ j)), t′)))
-    (λ i l. ⊎-elim (λ t. absurd (let b = s .inside i t in omega arith)) (λ f. f) (true-or-false (member rows i)))
+    (inside-only s)
+
+-- where these have the same columns, they are the cut if they are the heavier side, and else m fits n
+module _ (ws vs : List ℕ) {rel : List ℕ} {rows has lacks : ℕ} (both-of : ℕ) (pw : Positive ws) (small : rows < 2 ^ most-states)
+    (s : Lacking rel (length ws) (length vs) rows has lacks) (e : member both-of ≡ both (member has) (member lacks)) (z : both-of ≡ 0) where
+  full : (i j : ℕ) → i < length ws → j < length vs → member rows i ≡ false → relates rel i j ≡ true
+  full i j l m f = s .others i j l f m
+
+  alike : (i j : ℕ) → i < length ws → j < length vs → member rows i ≡ true → relates rel i j ≡ member has j
+  alike i j l m t =
+      ⊎-elim (λ r. r ∙ sym (s .had i j t m r))
+      (λ f.
+      f ∙ ⊎-elim (λ h. absurd (neither (s .lacked i j t m f) (both-out (member has) (member lacks) j e (no-members z j) h))) sym (true-or-false (member has j)))
+      (true-or-false (relates rel i j))
+
+  rows-cut : weight-of vs (member has) * total ws < weight-of ws (member rows) * total vs → CutOf ws vs rel rows
+  rows-cut h =
+      cut-of ws vs rel rows small
+      (alike-cut (relates rel) ws vs (member rows) (member has) full alike pw
+      (omega (arith, mul-comm (weight-of vs (member has)) (total ws), mul-comm (weight-of ws (member rows)) (total vs))))
+      (inside-only s)
+
+  none-cut : weight-of ws (member rows) * total vs ≤ weight-of vs (member has) * total ws → CutOf ws vs rel 0
+  none-cut h =
+      let fit = alike-fits (relates rel) ws vs (member rows) (member has) full alike
+      (omega (arith, mul-comm (weight-of vs (member has)) (total ws), mul-comm (weight-of ws (member rows)) (total vs))) in
+      cut-of ws vs rel 0 (lt-of-le-of-lt zero-le small) (λ i l. cut-none (relates rel) ws vs fit i l ∙ sym (member-none i)) (λ i _. member-none i)
+
+  pub cut-heavier : {r : ℕ} → r ≡ heavier ws vs rows has → CutOf ws vs rel r
+  unfolding heavier
+  cut-heavier {r} q =
+      let a = weight-of vs (member has) * total ws in
+      let b = weight-of ws (member rows) * total vs in
+      ⊎-elim
+      (λ t. subst (CutOf ws vs rel) (sym (q ∙ ap (λ (c : Bool). cond c rows 0) t)) (rows-cut (ltb-true a b t)))
+      (λ f. subst (CutOf ws vs rel) (sym (q ∙ ap (λ (c : Bool). cond c rows 0) f)) (none-cut (ltb-false a b f)))
+      (true-or-false (ltb a b))

@@ -1,17 +1,21 @@
-// The cut of two distributions, mostly without a flow: where each row has all columns or none, or all rows have the same ones.
+// The cut of two distributions, mostly without a flow: where the rows that lack a column have the same columns.
+use greedy::total_weight;
+use matrix::wide;
 use relation::rows;
 use relation::set;
 use relation::set::Set;
+use relation::walk;
 use transport::transport;
 ghost use mathlib.Core.Path.{_≡_};
 ghost use mathlib.Core.Bool.{true};
-ghost use Prim.Native.Nat.{_+_, _≤_, _<_};
+ghost use Prim.Native.Nat.{ℕ, _+_, _≤_, _<_};
+ghost use lib.ListN.{length};
 ghost use Rattle.simulation.specs.Limits.{most-states};
-ghost use Rattle.simulation.specs.Fit.{Positive};
+ghost use Rattle.simulation.specs.Fit.{Positive, total, weight-of};
 ghost use Rattle.relation.specs.Mask.{member, «up-to»};
 ghost use Rattle.relation.specs.Words.{mask, height};
 ghost use Rattle.matrix.specs.Problem.{Given};
-ghost use Rattle.cut.specs.Quick.{CutOf, Lacking, Settled};
+ghost use Rattle.cut.specs.Quick.{CutOf, Lacking, Settled, heavier};
 
 // The rows that lack a column, the columns that one of them has, and the columns that one of them lacks.
 struct Short {
@@ -68,6 +72,35 @@ fn settled(s: Short, p: usize) -> bool
     set::is_empty(set::difference(set::below(p), s.rows))
 }
 
+// What the members of a set of places weigh together.
+fn weight_of(w: &[u16], named: Set) -> u32
+    requires { ⌜ (length (now w) ≤ most-states) × ((i : ℕ) → member (mask named) i ≡ true → i < length (now w)) ⌝ }
+    ensures { λ r. ⌜ r ≡ weight-of (now (w .entry)) (member (mask named)) ⌝ }
+{
+    let mut sum = 0u32;
+    for k in 0..Set::WORDS {
+        let mut left = named.words[k];
+        while left != 0 {
+            let i = walk::lowest(named, k, left);
+            sum = sum + wide(w[i]);
+            left = walk::without_lowest(named, k, left);
+        }
+    }
+    sum
+}
+
+// The rows that lack a column have the same columns: they are the cut if they have more to send than those can take, and else m fits n.
+fn by_weight(m: &[u16], n: &[u16], s: Short) -> Set
+    requires { ⌜ (length (now m) ≤ most-states) × (length (now n) ≤ most-states) × (total (now m) < 65536) × (total (now n) < 65536) × ((i : ℕ) → member (mask (s .rows)) i ≡ true → i < length (now m)) × ((j : ℕ) → member (mask (s .has)) j ≡ true → j < length (now n)) ⌝ }
+    ensures { λ r. ⌜ mask r ≡ heavier (now (m .entry)) (now (n .entry)) (mask (s .rows)) (mask (s .has)) ⌝ }
+{
+    if weight_of(n, s.has) * total_weight(m) < weight_of(m, s.rows) * total_weight(n) {
+        let rows = s.rows;
+        return rows;
+    }
+    set::empty()
+}
+
 // 01's smallest of the sets with the largest excess: empty exactly if m fits n. x is what a flow works in.
 pub fn cut(m: &[u16], n: &[u16], rel: &[u64], x: &mut [u32]) -> Set
     requires { ⌜ Given (now m) (now n) (now rel) (now x) × Positive (now m) × Positive (now n) ⌝ }
@@ -78,6 +111,9 @@ pub fn cut(m: &[u16], n: &[u16], rel: &[u64], x: &mut [u32]) -> Set
     if settled(s, p) {
         let rows = s.rows;
         return rows;
+    }
+    if set::is_empty(set::intersection(s.has, s.lacks)) {
+        return by_weight(m, n, s);
     }
     transport(m, n, rel, x)
 }

@@ -3,21 +3,20 @@
 use mathlib.Core.Path.{_≡_, refl, sym, ap, _∙_}
 use mathlib.Core.Bool.{Bool, true, false, not, _&&_, _||_, true≢false}
 use mathlib.Core.List.{List}
-use mathlib.Core.Logic.{inr, ⊎-elim, _≢_}
+use mathlib.Core.Logic.{⊎-elim, _≢_}
 use Prim.Native.Nat.{ℕ, _+_, _^_, _≤_, _<_}
 use native.Mathlib.Omega.{arith}
-use borrow.Author.Tests.{not-true, not-false}
+use borrow.Author.Tests.{ltb-false, not-true, not-false}
 use lib.Count.{trailingZeros}
 use lib.ListN.{length, getD}
 use Rattle.simulation.specs.Limits.{most-states}
 use Rattle.simulation.proofs.Finite.Tests.{last-or-below}
-use Rattle.relation.specs.Mask.{Test, member, either, both, except}
+use Rattle.relation.specs.Mask.{Test, member, up-to, either, both, except}
 use Rattle.relation.specs.Words.{row-of}
-use Rattle.relation.proofs.Mask.{member-none, lowest-of}
+use Rattle.relation.proofs.Mask.{member-none, member-high, lowest-of}
+use Rattle.relation.proofs.Sets.{row-lt}
 use Rattle.relation.specs.Related.{holds}
-use Rattle.matching.specs.Quick.{RowMissing, Scanned, Covers}
-use Rattle.matching.specs.declared.Settled.{Settled}
-use Rattle.matching.specs.declared.Settled.the-variants.{Fits, Misfits, Open}
+use Rattle.matching.specs.Quick.{RowMissing, Bounding}
 
 both-hold : (a b : Bool) → (a && b) ≡ true → (a ≡ true) × (b ≡ true)
 both-hold true true e = (refl, refl)
@@ -46,42 +45,44 @@ covered to every d z e u t =
     let n : (member to u && not (member every u)) ≡ false = sym (ap (λ (X : Test). X u) e) ∙ ap (λ (x : ℕ). member x u) z ∙ member-none u in
     not-false (member every u) (sym (ap (λ (b : Bool). b && not (member every u)) t) ∙ n)
 
--- of the first n targets one is related to each of some, and all are to each of every
-pub record Passed (rows ms : List ℕ) (to n some every : ℕ) : Type 0 where
-  pub others : (i u : ℕ) → i < n → member to u ≡ true → member some u ≡ false → holds rows (getD ms i 0) u ≡ false
+-- each of the first n targets is related to all of every, and to none outside some
+pub record Passed (rows ms : List ℕ) (n some every : ℕ) : Type 0 where
+  pub others : (i u : ℕ) → i < n → member some u ≡ false → holds rows (getD ms i 0) u ≡ false
   pub within : (i u : ℕ) → i < n → member every u ≡ true → holds rows (getD ms i 0) u ≡ true
 
-module _ (rows ms : List ℕ) (to : ℕ) where
-  pub passed-start : Passed rows ms to 0 0 to
-  passed-start = record { others = λ i u a _ _. absurd (omega arith); within = λ i u a _. absurd (omega arith) }
+module _ (rows ms : List ℕ) where
+  -- any sets will do for no targets
+  pub passed-start : (some every : ℕ) → Passed rows ms 0 some every
+  passed-start some every = record { others = λ i u a _. absurd (omega arith); within = λ i u a _. absurd (omega arith) }
 
-  module _ (n near : ℕ) (e : member near ≡ both (member (row-of rows (getD ms n 0))) (member to)) where
-    near-at : (u : ℕ) (b : Bool) → member near u ≡ b → (holds rows (getD ms n 0) u && member to u) ≡ b
-    near-at u b h = sym (ap (λ (X : Test). X u) e) ∙ h
+  module _ (n near : ℕ) (e : near ≡ row-of rows (getD ms n 0)) where
+    near-at : (i u : ℕ) (b : Bool) → i ≡ n → member near u ≡ b → holds rows (getD ms i 0) u ≡ b
+    near-at i u b q h = ap (λ (k : ℕ). holds rows (getD ms k 0) u) q ∙ sym (ap (λ (x : ℕ). member x u) e) ∙ h
 
     pub passed-next : (some every some′ every′ : ℕ) → member some′ ≡ either (member some) (member near) → member every′ ≡ both (member every) (member near)
-        → Passed rows ms to n some every → Passed rows ms to (n + 1) some′ every′
+        → Passed rows ms n some every → Passed rows ms (n + 1) some′ every′
     passed-next some every some′ every′ x y h =
         record {
-          others = λ i u a t s.
+          others = λ i u a s.
               let z = neither-holds (member some u) (member near u) (sym (ap (λ (X : Test). X u) x) ∙ s) in
-              ⊎-elim
-              (λ q. ap (λ (k : ℕ). holds rows (getD ms k 0) u) q ∙ first-fails (holds rows (getD ms n 0) u) (member to u) (near-at u false (z .1)) t)
-              (λ l. h .others i u l t (z .0))
-              (last-or-below i n (omega arith));
+              ⊎-elim (λ q. near-at i u false q (z .1)) (λ l. h .others i u l (z .0)) (last-or-below i n (omega arith));
           within = λ i u a s.
               let z = both-hold (member every u) (member near u) (sym (ap (λ (X : Test). X u) y) ∙ s) in
-              ⊎-elim
-              (λ q. ap (λ (k : ℕ). holds rows (getD ms k 0) u) q ∙ both-hold (holds rows (getD ms n 0) u) (member to u) (near-at u true (z .1)) .0)
-              (λ l. h .within i u l (z .0))
-              (last-or-below i n (omega arith));
+              ⊎-elim (λ q. near-at i u true q (z .1)) (λ l. h .within i u l (z .0)) (last-or-below i n (omega arith));
         }
 
-    -- a target with nothing near
-    pub row-missing : n < length ms → near ≡ 0 → RowMissing rows ms to
-    row-missing a z = (n, a, λ u t. first-fails (holds rows (getD ms n 0) u) (member to u) (near-at u false (ap (λ (x : ℕ). member x u) z ∙ member-none u)) t)
+  pub passed-all : (n some every : ℕ) → length ms ≤ n → Passed rows ms n some every → Bounding rows ms some every
+  passed-all n some every a h = record { others = λ i u b s. h .others i u (omega arith) s; within = λ i u b s. h .within i u (omega arith) s }
 
-  pub passed-all : (n some every : ℕ) (r : Settled) → length ms ≤ n → Passed rows ms to n some every → Covers some every to r → Scanned rows ms to r
-  passed-all n some every Fits a h c = λ i u b t. h .within i u (omega arith) (c u t)
-  passed-all n some every Misfits a h c = inr (c .0, c .1, λ i b. h .others i (c .0) (omega arith) (c .1) (c .2))
-  passed-all n some every Open a h c = tt
+  -- all states, and none, bound what any targets are related to
+  pub bounds-of-all : (some every : ℕ) → member some ≡ up-to most-states → every ≡ 0 → Bounding rows ms some every
+  bounds-of-all some every e z =
+      record {
+        others = λ i u _ s. member-high most-states (row-of rows (getD ms i 0)) u (row-lt rows (getD ms i 0)) (ltb-false u most-states (sym (ap (λ (X : Test). X u) e) ∙ s));
+        within = λ i u _ s. absurd (true≢false (sym s ∙ ap (λ (x : ℕ). member x u) z ∙ member-none u));
+      }
+
+  -- a target with nothing near
+  pub row-missing : (to n near : ℕ) → member near ≡ both (member (row-of rows (getD ms n 0))) (member to) → n < length ms → near ≡ 0 → RowMissing rows ms to
+  row-missing to n near e a z =
+      (n, a, λ u t. first-fails (holds rows (getD ms n 0) u) (member to u) (sym (ap (λ (X : Test). X u) e) ∙ ap (λ (x : ℕ). member x u) z ∙ member-none u) t)

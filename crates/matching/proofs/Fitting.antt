@@ -3,7 +3,7 @@
 use mathlib.Core.Path.{_≡_, sym, ap, _∙_, subst, subst₂}
 use mathlib.Core.Bool.{Bool, true, false, _&&_}
 use mathlib.Core.List.{List}
-use mathlib.Core.Logic.{_≢_, _⊎_, ⊎-elim}
+use mathlib.Core.Logic.{_≢_}
 use Prim.Native.Nat.{ℕ, _≤_, _<_}
 use native.Mathlib.Omega.{arith}
 use borrow.Author.Tests.{eq-eqb, ne-eqb}
@@ -18,13 +18,15 @@ use Rattle.simulation.proofs.Fit.Gain.{total-positive}
 use Rattle.simulation.proofs.Fit.Agree.{Agree, fits-agree}
 use Rattle.simulation.proofs.Fit.Quick.{fits-full, misfit-row, misfit-column}
 use Rattle.relation.specs.Mask.{member}
+use Rattle.relation.specs.Words.{height}
+use Rattle.matrix.specs.Problem.{Sides, joins}
 use Rattle.form.specs.Form.{Loaded, transitions-of, transition-at, table-of}
 use Rattle.form.proofs.FormLaws.{limits, limited-at, distribution-at, weights-length, targets-length}
 use Rattle.transport.specs.Answer.{Answered}
 use Rattle.relation.specs.Related.{holds}
 use Rattle.matching.specs.Held.{Ascending, Places, Gathered, relation-of, fitting}
 use Rattle.matching.specs.Known.{SetOf}
-use Rattle.matching.specs.Quick.{AllRelated, RowMissing, ColumnMissing, Scanned}
+use Rattle.matching.specs.Quick.{RowMissing, Covers, Bounding}
 use Rattle.matching.specs.declared.Settled.{Settled}
 use Rattle.matching.specs.declared.Settled.the-variants.{Fits, Misfits, Open}
 
@@ -93,34 +95,61 @@ module _ (f g rows : List ℕ) (first : Loaded f) (second : Loaded g) (j l : ℕ
       sym (subst₂ (λ (ws vs : List ℕ). fits? (holds rel) ws vs ≡ eqb r 0) c d (flow .fit))
       ∙ fits-agree (holds rel) (between R m n) (weights m) (weights n) (agree (subst₂ (λ (ms ns : List ℕ). Gathered rows ms ns (length ms) rel) a b h))
 
+  -- the weights and targets of the two, under the names that a function has for them
+  module _ {ms ws ns vs : List ℕ} (a : ms ≡ targets m) (b : ws ≡ weights m) (c : ns ≡ targets n) (d : vs ≡ weights n) where
+    pub sides-of : most-states ≤ height rows → Sides ms ws ns vs rows
+    sides-of room =
+        let x = limited-at f first j bj in
+        let y = limited-at g second l bl in
+        let p = places-of (height rows) f first j bj room in
+        let q = places-of most-states g second l bl (omega arith) in
+        rw (a, b, c, d) (record {
+          rows-paired = x .paired;
+          columns-paired = y .paired;
+          few-rows = x .few;
+          few-columns = y .few;
+          some-rows = x .some;
+          some-columns = y .some;
+          row-states = p .below;
+          column-states = q .below;
+          positive-ws = positive-at f first j bj;
+          positive-vs = positive-at g second l bl;
+          total-ws = omega (arith, x .total-small);
+          total-vs = omega (arith, y .total-small);
+        })
+
+    -- a fit over the rows themselves decides
+    pub by-sides : {r : Bool} → r ≡ fits? (joins rows ms ns) ws vs → r ≡ fitting R m n
+    by-sides {r} e =
+        let h : r ≡ fits? (joins rows (targets m) (targets n)) (weights m) (weights n) = rw (a, b, c, d) at e in
+        h ∙ fits-agree (joins rows (targets m) (targets n)) (between R m n) (weights m) (weights n) (λ i k u v. sym (related-at i k u v))
+
   -- sets of targets decide
-  module _ {ms : List ℕ} {to : ℕ} (e : ms ≡ targets m) (set : SetOf (targets n) (length (targets n)) to) where
+  module _ {to : ℕ} (set : SetOf (targets n) (length (targets n)) to) where
     target-in : (k : ℕ) → k < length (weights n) → member to (target-at n k) ≡ true
     target-in k b = set .has k (omega (arith, limited-at g second l bl .paired))
 
-    all-fit : AllRelated rows ms to → true ≡ fitting R m n
-    all-fit h =
-        let full : AllRelated rows (targets m) to = subst (λ (ms : List ℕ). AllRelated rows ms to) e h in
-        sym (fits-full (between R m n) (weights m) (weights n)
-        (λ i k a b. related-at i k a b ∙ full i (target-at n k) (omega (arith, limited-at f first j bj .paired)) (target-in k b)))
-
-    row-misfit : RowMissing rows (targets m) to → fitting R m n ≡ false
-    row-misfit (i, a, h) =
+    pub row-misfits : {ms : List ℕ} → ms ≡ targets m → RowMissing rows ms to → false ≡ fitting R m n
+    row-misfits e missing =
+        let (i, a, h) = subst (λ (ms : List ℕ). RowMissing rows ms to) e missing in
         let c : i < length (weights m) = omega (arith, limited-at f first j bj .paired) in
-        misfit-row (between R m n) (weights m) (weights n) i c (positive-at f first j bj i c) (total-at g second l bl)
-        (λ k b. related-at i k c b ∙ h (target-at n k) (target-in k b))
+        sym (misfit-row (between R m n) (weights m) (weights n) i c (positive-at f first j bj i c) (total-at g second l bl)
+        (λ k b. related-at i k c b ∙ h (target-at n k) (target-in k b)))
 
-    column-misfit : ColumnMissing rows (targets m) to → fitting R m n ≡ false
-    column-misfit (u, t, h) =
-        let w = set .only u t in
-        let c : w .0 < length (weights n) = omega (arith, w .1, limited-at g second l bl .paired) in
-        misfit-column (between R m n) (weights m) (weights n) (w .0) c (positive-at g second l bl (w .0) c) (total-at f first j bj)
-        (λ i a. related-at i (w .0) a c ∙ ap (holds rows (target-at m i)) (w .2) ∙ h i (omega (arith, limited-at f first j bj .paired)))
+    module _ {some every : ℕ} (h : Bounding rows (targets m) some every) where
+      all-fit : Covers some every to Fits → true ≡ fitting R m n
+      all-fit s =
+          sym (fits-full (between R m n) (weights m) (weights n)
+          (λ i k a b. related-at i k a b ∙ h .within i (target-at n k) (omega (arith, limited-at f first j bj .paired)) (s (target-at n k) (target-in k b))))
 
-    one-misfits : RowMissing rows ms to ⊎ ColumnMissing rows ms to → false ≡ fitting R m n
-    one-misfits h = sym (⊎-elim row-misfit column-misfit (subst (λ (ms : List ℕ). RowMissing rows ms to ⊎ ColumnMissing rows ms to) e h))
+      column-misfits : Covers some every to Misfits → false ≡ fitting R m n
+      column-misfits (u, t, o) =
+          let w = set .only u t in
+          let c : w .0 < length (weights n) = omega (arith, w .1, limited-at g second l bl .paired) in
+          sym (misfit-column (between R m n) (weights m) (weights n) (w .0) c (positive-at g second l bl (w .0) c) (total-at f first j bj)
+          (λ i a. related-at i (w .0) a c ∙ ap (holds rows (target-at m i)) (w .2) ∙ h .others i u (omega (arith, limited-at f first j bj .paired)) o))
 
-    pub by-sets : (r : Settled) → m .code ≡ n .code → Scanned rows ms to r → Tells (fits-step R m n) r
-    by-sets Fits c h = same-code R m n c (all-fit h)
-    by-sets Misfits c h = same-code R m n c (one-misfits h)
-    by-sets Open c h = tt
+      pub by-sets : (r : Settled) → m .code ≡ n .code → Covers some every to r → Tells (fits-step R m n) r
+      by-sets Fits c s = same-code R m n c (all-fit s)
+      by-sets Misfits c s = same-code R m n c (column-misfits s)
+      by-sets Open c s = tt

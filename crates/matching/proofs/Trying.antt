@@ -41,12 +41,23 @@ tried-less {f} {g} R R′ less h =
     }
 
 -- zeros count nothing
-pub none-tried : {f g tried : List ℕ} (R : Relation) → transitions-of f * most-states ≤ length tried → ((i : ℕ) → getD tried i 0 ≡ 0) → Tried f g R tried
-none-tried R room zero-at = record { room = room; passed = λ j t l a b c d. absurd (omega (arith, zero-at (j * most-states + t))) }
+pub none-tried : {f g tried : List ℕ} (R : Relation) → (transitions-of f + 1) * most-states ≤ length tried → ((i : ℕ) → getD tried i 0 ≡ 0) → Tried f g R tried
+none-tried R room zero-at = record { room = room; passed = λ j t l a b c d. absurd (omega (arith, zero-at ((j + 1) * most-states + t))) }
 
 -- each pair of a transition and a state has its place
-pub place-room : {f g tried : List ℕ} {R : Relation} → Loaded f → Loaded g → Tried f g R tried → (j t : ℕ) → j < transitions-of f → t < states-of (table-of g) → j * most-states + t < length tried
+pub place-room : {f g tried : List ℕ} {R : Relation} → Loaded f → Loaded g → Tried f g R tried → (j t : ℕ) → j < transitions-of f → t < states-of (table-of g) → (j + 1) * most-states + t < length tried
 place-room {f} {g} first second h j t a b = omega (arith, h .room, limits f first .transitions-few, limits g second .states-few)
+
+-- a guess has its place, and counts for nothing
+pub guess-room : {f g tried : List ℕ} {R : Relation} → Loaded g → Tried f g R tried → (t : ℕ) → t < states-of (table-of g) → t < length tried
+guess-room {f} {g} second h t b = omega (arith, h .room, limits g second .states-few)
+
+pub tried-guess : {f g tried : List ℕ} {R : Relation} → Tried f g R tried → (t n : ℕ) → t < most-states → Tried f g R (set tried t n)
+tried-guess {tried = tried} h t n few =
+    record {
+      room = omega (arith, h .room, length-set tried t n);
+      passed = λ k u l a b c d. h .passed k u l a b (omega (arith, getD-set-other tried t ((k + 1) * most-states + u) n 0 (λ e. omega arith))) d;
+    }
 
 -- the start of a state's transitions
 pub start-few : (g : List ℕ) → Loaded g → (t : ℕ) → t ≤ states-of (table-of g) → start-of g t ≤ most-transitions
@@ -58,7 +69,7 @@ Passing f g R j t l = (k : ℕ) → start-of g t ≤ k → k < l → k < start-o
 
 module _ (f g : List ℕ) (R : Relation) (j t : ℕ) where
   -- a search begins behind those tried
-  pub passing-start : {tried : List ℕ} {l : ℕ} → Tried f g R tried → j < transitions-of f → t < states-of (table-of g) → l ≡ start-of g t + getD tried (j * most-states + t) 0 → Passing f g R j t l
+  pub passing-start : {tried : List ℕ} {l : ℕ} → Tried f g R tried → j < transitions-of f → t < states-of (table-of g) → l ≡ start-of g t + getD tried ((j + 1) * most-states + t) 0 → Passing f g R j t l
   passing-start h a b e k from to end =
       let x : start-of g t + (k - start-of g t) ≡ k = omega arith in
       rw x at (h .passed j t (k - start-of g t) a b (omega arith) (omega arith))
@@ -68,21 +79,21 @@ module _ (f g : List ℕ) (R : Relation) (j t : ℕ) where
       ⊎-elim (λ q. ap (λ (k : ℕ). fits-step R (transition-at f j) (transition-at g k)) q ∙ sym e ∙ w) (λ v. h k from v end) (last-or-below k l (omega arith))
 
   -- where it ends, those passed are counted
-  module _ (tried : List ℕ) (n : ℕ) (few : states-of (table-of g) ≤ most-states) (within : t < states-of (table-of g)) (room : j * most-states + t < length tried) (h : Tried f g R tried)
+  module _ (tried : List ℕ) (n : ℕ) (few : states-of (table-of g) ≤ most-states) (within : t < states-of (table-of g)) (room : (j + 1) * most-states + t < length tried) (h : Tried f g R tried)
       (none : Passing f g R j t (start-of g t + n)) where
-    counted : (k u l : ℕ) → k < transitions-of f → u < states-of (table-of g) → l < getD (set tried (j * most-states + t) n) (k * most-states + u) 0 → start-of g u + l < start-of g (u + 1)
-        → Dec (k * most-states + u ≡ j * most-states + t) → fits-step R (transition-at f k) (transition-at g (start-of g u + l)) ≡ false
+    counted : (k u l : ℕ) → k < transitions-of f → u < states-of (table-of g) → l < getD (set tried ((j + 1) * most-states + t) n) ((k + 1) * most-states + u) 0 → start-of g u + l < start-of g (u + 1)
+        → Dec ((k + 1) * most-states + u ≡ (j + 1) * most-states + t) → fits-step R (transition-at f k) (transition-at g (start-of g u + l)) ≡ false
     counted k u l a b c d (yes e) =
         let x : k ≡ j = omega arith in
         let y : u ≡ t = omega arith in
-        let s : l < n = omega (arith, getD-set-same tried (j * most-states + t) n 0 room, ap (λ (i : ℕ). getD (set tried (j * most-states + t) n) i 0) e) in
+        let s : l < n = omega (arith, getD-set-same tried ((j + 1) * most-states + t) n 0 room, ap (λ (i : ℕ). getD (set tried ((j + 1) * most-states + t) n) i 0) e) in
         subst₂ (λ (k u : ℕ). start-of g u + l < start-of g (u + 1) → fits-step R (transition-at f k) (transition-at g (start-of g u + l)) ≡ false) (sym x) (sym y)
         (λ v. none (start-of g t + l) (omega arith) (omega arith) v) d
-    counted k u l a b c d (no e) = h .passed k u l a b (omega (arith, getD-set-other tried (j * most-states + t) (k * most-states + u) n 0 e)) d
+    counted k u l a b c d (no e) = h .passed k u l a b (omega (arith, getD-set-other tried ((j + 1) * most-states + t) ((k + 1) * most-states + u) n 0 e)) d
 
-    pub tried-next : Tried f g R (set tried (j * most-states + t) n)
+    pub tried-next : Tried f g R (set tried ((j + 1) * most-states + t) n)
     tried-next =
         record {
-          room = omega (arith, h .room, length-set tried (j * most-states + t) n);
-          passed = λ k u l a b c d. counted k u l a b c d (ℕ-discrete (k * most-states + u) (j * most-states + t));
+          room = omega (arith, h .room, length-set tried ((j + 1) * most-states + t) n);
+          passed = λ k u l a b c d. counted k u l a b c d (ℕ-discrete ((k + 1) * most-states + u) ((j + 1) * most-states + t));
         }

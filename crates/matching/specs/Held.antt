@@ -4,6 +4,7 @@ use mathlib.Core.Path.{_≡_}
 use mathlib.Core.Bool.{Bool}
 use mathlib.Core.List.{List}
 use Prim.Native.Nat.{ℕ, _+_, _≤_, _<_}
+use lib.Dec.{eqb}
 use lib.ListN.{length, getD}
 use Rattle.simulation.specs.Limits.{most-states}
 use Rattle.relation.specs.Related.{holds}
@@ -33,6 +34,10 @@ matched M N R s t = all-of (λ m. any-of (fits-step R m) (steps N t)) (steps M s
 -- transition j of the first form fits some transition of the state t, in R
 abbrev pub answered : Relation → List ℕ → ℕ → List ℕ → ℕ → Bool
 answered R f j g t = any-of (fits-step R (transition-at f j)) (steps (table-of g) t)
+
+-- one of the transitions has the code
+abbrev pub coded : ℕ → List Transition → Bool
+coded c ns = any-of (λ (n : Transition). eqb c (n .code)) ns
 
 -- places of targets: few, and each a state below n
 pub record Places (n : ℕ) (ts : List ℕ) : Type 0 where

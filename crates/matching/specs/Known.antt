@@ -31,10 +31,11 @@ pub record Lent (f g sets rows x : List ℕ) : Type 0 where
   pub rows-room : most-states ≤ height rows
   pub x-room : most-pairs ≤ length x
 
--- the byte at j * most-states + t counts the first transitions of the state t that the transition j is known not to fit in R
+-- the byte at (j + 1) * most-states + t counts the first transitions of the state t that the transition j is known not to fit in R;
+-- the bytes before, one for each state, are guesses, of which nothing is known
 pub record Tried (f g : List ℕ) (R : Relation) (tried : List ℕ) : Type 0 where
-  pub room : transitions-of f * most-states ≤ length tried
-  pub passed : (j t l : ℕ) → j < transitions-of f → t < states-of (table-of g) → l < getD tried (j * most-states + t) 0 → start-of g t + l < start-of g (t + 1)
+  pub room : (transitions-of f + 1) * most-states ≤ length tried
+  pub passed : (j t l : ℕ) → j < transitions-of f → t < states-of (table-of g) → l < getD tried ((j + 1) * most-states + t) 0 → start-of g t + l < start-of g (t + 1)
       → fits-step R (transition-at f j) (transition-at g (start-of g t + l)) ≡ false
 
 -- r is the answer b, and what has been tried by then is known

@@ -4,9 +4,10 @@
 use mathlib.Core.Bool.{Bool}
 use mathlib.Core.List.{List}
 use Prim.Native.Nat.{ℕ, _≤_, _<_}
-use lib.ListN.{length}
+use mathlib.Core.Path.{_≡_}
+use lib.ListN.{length, getD}
 use Rattle.simulation.specs.Limits.{most-pairs, most-states}
-use Rattle.simulation.specs.Fit.{total}
+use Rattle.simulation.specs.Fit.{total, Positive}
 use Rattle.relation.specs.Mask.{member}
 use Rattle.relation.specs.Words.{row-of, height}
 
@@ -22,3 +23,22 @@ pub record Given (ws vs rel x : List ℕ) : Type 0 where
   pub cells : most-pairs ≤ length x
   pub total-ws : total ws < 65536
   pub total-vs : total vs < 65536
+
+-- the same over the states of two tables: weights ws at the targets ms and vs at the targets ts, and rows that relate states
+pub record Sides (ms ws ts vs rows : List ℕ) : Type 0 where
+  pub rows-paired : length ms ≡ length ws
+  pub columns-paired : length ts ≡ length vs
+  pub few-rows : length ws ≤ most-states
+  pub few-columns : length vs ≤ most-states
+  pub some-rows : 0 < length ws
+  pub some-columns : 0 < length vs
+  pub row-states : (i : ℕ) → i < length ms → getD ms i 0 < height rows
+  pub column-states : (j : ℕ) → j < length ts → getD ts j 0 < most-states
+  pub positive-ws : Positive ws
+  pub positive-vs : Positive vs
+  pub total-ws : total ws < 65536
+  pub total-vs : total vs < 65536
+
+-- the target at place i of the one is related to that at place j of the other
+abbrev pub joins : (rows ms ts : List ℕ) → ℕ → ℕ → Bool
+joins rows ms ts i j = member (row-of rows (getD ms i 0)) (getD ts j 0)

@@ -69,14 +69,12 @@ fn positive_places(a: &[u32]) -> Set
     requires { ⌜ length (now a) ≤ most-states ⌝ }
     ensures { λ r. ⌜ member (mask r) ≡ part (length (now (a .entry))) (λ i. nonzero (getD (now (a .entry)) i 0)) ⌝ }
 {
-    if a.len() <= 64 {
-        return Set {
-            words: [positive_word(a), 0],
-        };
+    let n = a.len();
+    let mut r = set::empty();
+    for w in 0..Set::WORDS {
+        r.words[w] = positive_word(&a[set::start(w, n)..set::start(w + 1, n)]);
     }
-    Set {
-        words: [positive_word(&a[..64]), positive_word(&a[64..])],
-    }
+    r
 }
 
 // The places below n where a isn't 0.

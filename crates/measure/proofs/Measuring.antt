@@ -27,11 +27,13 @@ use Rattle.relation.specs.Words.{row-of}
 use Rattle.relate.specs.Ranked.{Ranked}
 use Rattle.choice.specs.Choice.{Lost, Choice, Sets}
 use Rattle.choice.proofs.Choices.{below-lost}
-use Rattle.order.proofs.Pairs.{from-number, lost-place, lost-low, number-place}
-use Rattle.order.proofs.Targets.{ChoiceGiven, targets-are, count-is, few-targets, state-low, state-row, set-at, child-lost, length-parts}
+use Rattle.counting.proofs.Pairs.{from-number, lost-place, lost-low, number-place}
+use Rattle.counting.proofs.Targets.{ChoiceGiven, targets-are, count-is, few-targets, state-low, state-row, set-at, child-lost, length-parts}
 use Rattle.measure.specs.Lengths.{set-length, SumGiven, Measured, most, children-length, most-children, ChildrenGiven, Holds, MeasureGiven, PairGiven, AllHold, TreeMeasured}
-use Rattle.order.specs.Count.{longest}
-use Rattle.order.specs.Order.{Found, Later, Noted, number, row, column, Ordered}
+use Rattle.counting.specs.Count.{longest}
+use Rattle.counting.specs.Pair.{number, row, column}
+use Rattle.passing.specs.Passing.{Found, Later, Noted}
+use Rattle.order.specs.Order.{Ordered}
 
 -- ---- the loop over the children
 
@@ -179,7 +181,7 @@ measure-still g e es er ex =
 pub record MeasureLoop (first second ranks order : List ℕ) (n : ℕ) (lengths₀ sets₀ rel₀ x₀ lengths sets rel x : List ℕ) (i : ℕ) : Type 0 where
   pub given : MeasureGiven first second ranks lengths sets rel x
   pub inside : i ≤ n
-  pub done : (k : ℕ) → i ≤ k → k < n → Holds first second lengths (row first second (getD order k 0)) (column first second (getD order k 0))
+  pub done : (k : ℕ) → i ≤ k → k < n → Holds first second lengths (row second (getD order k 0)) (column second (getD order k 0))
   pub same-lengths : length lengths ≡ length lengths₀
   pub same-sets : length sets ≡ length sets₀
   pub same-rel : length rel ≡ length rel₀
@@ -208,7 +210,7 @@ module _ {first second ranks order : List ℕ} {n : ℕ} {lengths₀ sets₀ rel
     pub place-known : (i - 1 < length order) × (i - 1 < most-pairs)
     place-known = (omega (arith, place, o .fits), omega (arith, place, o .few))
 
-    is-number : number first second (row first second p) (column first second p) ≡ p
+    is-number : number second (row second p) (column second p) ≡ p
     is-number = div-add-mod' p (states-of (table-of second))
 
     low : p < pairs (table-of first) (table-of second)
@@ -220,7 +222,7 @@ module _ {first second ranks order : List ℕ} {n : ℕ} {lengths₀ sets₀ rel
     pub pair-in : (p < length lengths) × (p < most-pairs)
     pair-in = (omega (arith, low, l .given .room), omega (arith, low, few-pairs first second (l .given .ranked .first-loaded) (l .given .ranked .second-loaded)))
 
-    here-given : PairGiven first second ranks lengths sets rel x (row first second p) (column first second p)
+    here-given : PairGiven first second ranks lengths sets rel x (row second p) (column second p)
     here-given =
         let a = o .at (i - 1) place in
         record {
@@ -228,7 +230,7 @@ module _ {first second ranks order : List ℕ} {n : ℕ} {lengths₀ sets₀ rel
           lost = a .lost;
           below = λ j v b h.
               let q = a .below j v b h in
-              let c = below-lost first second (l .given .ranked .first-loaded) (l .given .ranked .second-loaded) (row first second p) (column first second p) (a .lost) j v b h .0 .right in
+              let c = below-lost first second (l .given .ranked .first-loaded) (l .given .ranked .second-loaded) (row second p) (column second p) (a .lost) j v b h .0 .right in
               from-number first second (Holds first second lengths) _ v (getD order (q .0) 0) c (q .3) (l .done (q .0) (omega (arith, q .1)) (q .2));
         }
 
@@ -253,19 +255,19 @@ module _ {first second ranks order : List ℕ} {n : ℕ} {lengths₀ sets₀ rel
           same-x = ex ∙ l .same-x;
         }
       where
-        here : Holds first second (set lengths p r) (row first second p) (column first second p)
+        here : Holds first second (set lengths p r) (row second p) (column second p)
         here =
             ap (λ (k : ℕ). getD (set lengths p r) k 0) is-number
             ∙ getD-set-same lengths p r 0 (pair-in .0)
             ∙ er
             ∙ ap (λ (w : ℕ). min most (pair-length (table-of first) (table-of second) (p / w) (p % w))) e
 
-        at : (k : ℕ) → i - 1 ≤ k → k < n → Dec (getD order k 0 ≡ p) → Holds first second (set lengths p r) (row first second (getD order k 0)) (column first second (getD order k 0))
-        at k a b (yes q) = subst (λ (z : ℕ). Holds first second (set lengths p r) (row first second z) (column first second z)) (sym q) here
+        at : (k : ℕ) → i - 1 ≤ k → k < n → Dec (getD order k 0 ≡ p) → Holds first second (set lengths p r) (row second (getD order k 0)) (column second (getD order k 0))
+        at k a b (yes q) = subst (λ (z : ℕ). Holds first second (set lengths p r) (row second z) (column second z)) (sym q) here
         at k a b (no d) =
             let z = getD order k 0 in
             let later : i ≤ k = omega (arith, other k d) in
-            getD-set-other lengths p (number first second (row first second z) (column first second z)) r 0 (λ q. d (sym (div-add-mod' z (states-of (table-of second))) ∙ q))
+            getD-set-other lengths p (number second (row second z) (column second z)) r 0 (λ q. d (sym (div-add-mod' z (states-of (table-of second))) ∙ q))
             ∙ l .done k later b
           where
             other : (k : ℕ) → (getD order k 0 ≡ p → ⊥) → k ≢ i - 1
@@ -278,7 +280,7 @@ module _ {first second ranks lengths sets rel x : List ℕ} {s t : ℕ} (g : Mea
   pub root-low : Loaded second × (s < most-states) × (t < most-states)
   root-low = let low = lost-low lost (g .ranked .first-loaded) (g .ranked .second-loaded) in (g .ranked .second-loaded, low .0, low .1)
 
-  pub root-place : number first second s t < length lengths
+  pub root-place : number second s t < length lengths
   root-place = omega (arith, lost-place lost, g .room)
 
 -- a pair below a pair is not longer
@@ -303,14 +305,14 @@ child-short first second l₁ l₂ s t p i v b h =
     when-holds false n h = absurd h
 
 module _ {first second ranks choices lengths order : List ℕ} {n : ℕ} (g : Ranked first second ranks) (o : Ordered first second order n) (c : Noted first second order n choices)
-    (a : AllHold first second order lengths n) (s t : ℕ) (lost : Lost first second s t) (f : Found order n (number first second s t)) where
+    (a : AllHold first second order lengths n) (s t : ℕ) (lost : Lost first second s t) (f : Found order n (number second s t)) where
   abbrev size-at : ℕ → ℕ → ℕ
-  size-at u v = getD lengths (number first second u v) 0
+  size-at u v = getD lengths (number second u v) 0
 
-  listed-lost : (u v k : ℕ) → k < n → getD order k 0 ≡ number first second u v → v < states-of (table-of second) → Lost first second u v
+  listed-lost : (u v k : ℕ) → k < n → getD order k 0 ≡ number second u v → v < states-of (table-of second) → Lost first second u v
   listed-lost u v k b e c = from-number first second (Lost first second) u v (getD order k 0) c e (o .at k b .lost)
 
-  listed-holds : (u v k : ℕ) → k < n → getD order k 0 ≡ number first second u v → v < states-of (table-of second) → Holds first second lengths u v
+  listed-holds : (u v k : ℕ) → k < n → getD order k 0 ≡ number second u v → v < states-of (table-of second) → Holds first second lengths u v
   listed-holds u v k b e c = from-number first second (Holds first second lengths) u v (getD order k 0) c e (a .at k b)
 
   root-holds : Holds first second lengths s t
@@ -318,25 +320,25 @@ module _ {first second ranks choices lengths order : List ℕ} {n : ℕ} (g : Ra
 
   -- the pairs that are listed and short
   met : ℕ → ℕ → Bool
-  met u v = any n (λ k. eqb (getD order k 0) (number first second u v)) && (ltb v (states-of (table-of second)) && ltb (size-at u v) 65536)
+  met u v = any n (λ k. eqb (getD order k 0) (number second u v)) && (ltb v (states-of (table-of second)) && ltb (size-at u v) 65536)
 
   record Met (u v : ℕ) : Type 0 where
     place : ℕ
     listed : place < n
-    is : getD order place 0 ≡ number first second u v
+    is : getD order place 0 ≡ number second u v
     right : v < states-of (table-of second)
     short : size-at u v < 65536
 
   met-is : (u v : ℕ) → T (met u v) → Met u v
   unfolding met
   met-is u v h =
-      let all = any n (λ k. eqb (getD order k 0) (number first second u v)) in
-      let q = any-some n (λ k. eqb (getD order k 0) (number first second u v)) (and-left all _ h) in
+      let all = any n (λ k. eqb (getD order k 0) (number second u v)) in
+      let q = any-some n (λ k. eqb (getD order k 0) (number second u v)) (and-left all _ h) in
       let rest = and-right all _ h in
       record {
         place = q .0;
         listed = q .1;
-        is = eqb→eq (getD order (q .0) 0) (number first second u v) (q .2);
+        is = eqb→eq (getD order (q .0) 0) (number second u v) (q .2);
         right = ltb→lt v (states-of (table-of second)) (and-left (ltb v (states-of (table-of second))) _ rest);
         short = ltb→lt (size-at u v) 65536 (and-right (ltb v (states-of (table-of second))) _ rest);
       }
@@ -344,8 +346,8 @@ module _ {first second ranks choices lengths order : List ℕ} {n : ℕ} (g : Ra
   is-met : (u v : ℕ) → Met u v → T (met u v)
   unfolding met
   is-met u v m =
-      both (any n (λ k. eqb (getD order k 0) (number first second u v))) _
-      (some-any n (λ k. eqb (getD order k 0) (number first second u v)) (m .place) (m .listed) (same-eqb (m .is)))
+      both (any n (λ k. eqb (getD order k 0) (number second u v))) _
+      (some-any n (λ k. eqb (getD order k 0) (number second u v)) (m .place) (m .listed) (same-eqb (m .is)))
       (both (ltb v (states-of (table-of second))) _ (lt→ltb v (states-of (table-of second)) (m .right)) (lt→ltb (size-at u v) 65536 (m .short)))
 
   measured : size-at s t < 65536 → Measured first second choices lengths s t
@@ -368,7 +370,7 @@ module _ {first second ranks choices lengths order : List ℕ} {n : ℕ} (g : Ra
           let N = table-of second in
           let p = listed-lost u v (m .place) (m .listed) (m .is) (m .right) in
           let r = below-lost first second (g .first-loaded) (g .second-loaded) u v p i w b c .0 .right in
-          let P : ℕ → ℕ → Type 0 = λ u v. (i w : ℕ) → i < length (chosen M N u v .entries) → T (set-of M N u v i w) → Later order n (m .place) (number first second (target-at (chosen M N u v) i) w) in
+          let P : ℕ → ℕ → Type 0 = λ u v. (i w : ℕ) → i < length (chosen M N u v .entries) → T (set-of M N u v i w) → Later order n (m .place) (number second (target-at (chosen M N u v) i) w) in
           let q = from-number first second P u v (getD order (m .place) 0) (m .right) (m .is) (o .at (m .place) (m .listed) .below) i w b c in
           let u′ = target-at (chosen M N u v) i in
           is-met u′ w (record {

@@ -14,7 +14,7 @@ use Rattle.simulation.proofs.Finite.Sums.{sum-ext, sum-zero, sum-change}
 use Rattle.form.specs.Form.{table-of}
 use Rattle.relation.specs.Mask.{Test, member, without-member, Lowest}
 use Rattle.relation.proofs.Mask.{member-none}
-use Rattle.order.proofs.Pairs.{member-holds, without-in}
+use Rattle.counting.proofs.Pairs.{member-holds, without-in}
 use Rattle.measure.specs.Lengths.{set-length, SumGiven}
 
 -- a sum over the members of a set: its lowest member, and the others

@@ -17,8 +17,8 @@ use Rattle.relation.specs.Mask.{member}
 use Rattle.relation.specs.Words.{row-of, height}
 use Rattle.relate.specs.Ranked.{Ranked, Lent}
 use Rattle.choice.specs.Choice.{Lost, Choice}
-use Rattle.order.specs.Count.{longest}
-use Rattle.order.specs.Order.{number, row, column}
+use Rattle.counting.specs.Count.{longest}
+use Rattle.counting.specs.Pair.{number, row, column}
 
 -- a longer length is given as this number
 abbrev pub most : ℕ
@@ -66,7 +66,7 @@ module _ (first second : List ℕ) where
 
   -- the list holds the length of the pair (s, t)
   abbrev pub Holds : (lengths : List ℕ) (s t : ℕ) → Type 0
-  Holds lengths s t = getD lengths (number first second s t) 0 ≡ min most (pair-length (table-of first) (table-of second) s t)
+  Holds lengths s t = getD lengths (number second s t) 0 ≡ min most (pair-length (table-of first) (table-of second) s t)
 
   -- what measuring rests on: a length for each pair, a set for each target of a transition
   pub record MeasureGiven (ranks lengths sets rel x : List ℕ) : Type 0 where
@@ -84,7 +84,7 @@ module _ (first second : List ℕ) where
 
   -- the list holds the lengths of the listed pairs
   pub record AllHold (order lengths : List ℕ) (n : ℕ) : Type 0 where
-    pub at : (k : ℕ) → k < n → Holds lengths (row first second (getD order k 0)) (column first second (getD order k 0))
+    pub at : (k : ℕ) → k < n → Holds lengths (row second (getD order k 0)) (column second (getD order k 0))
 
   -- the tree's length, and the transitions and lengths of all pairs that it meets, if it is short enough
   pub record TreeMeasured (choices lengths : List ℕ) (s t len : ℕ) : Type 0 where

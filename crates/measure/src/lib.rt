@@ -1,9 +1,9 @@
 // How many bytes a tree takes: the lengths of the pairs that it meets, from the pairs with none below them up.
 use choice::find_sets;
 use choice::rank_at;
-use order::count::LONGEST;
-use order::list::list;
-use order::pair::number;
+use counting::count::LONGEST;
+use counting::pair::number;
+use order::list;
 use relation::Relation;
 use relation::rows;
 use relation::set::Set;
@@ -20,8 +20,9 @@ ghost use Rattle.relation.specs.Mask.{member};
 ghost use Rattle.relation.specs.Words.{mask};
 ghost use Rattle.relate.specs.Ranked.{Ranked, Lent};
 ghost use Rattle.choice.specs.Choice.{Lost, Choice};
-ghost use Rattle.order.specs.Count.{longest};
-ghost use Rattle.order.specs.Order.{Ordered, Noted};
+ghost use Rattle.counting.specs.Count.{longest};
+ghost use Rattle.passing.specs.Passing.{Noted};
+ghost use Rattle.order.specs.Order.{Ordered};
 ghost use Rattle.measure.specs.Lengths.{most, set-length, SumGiven, children-length, most-children, ChildrenGiven, MeasureGiven, PairGiven, AllHold, TreeMeasured};
 
 // A longer length is given as this number.

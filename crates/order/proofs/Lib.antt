@@ -1,9 +1,3 @@
 -- What the proofs of several functions use.
 -- Assumes nothing.
-pub mod Pairs
-pub mod Targets
-pub mod Owed
-pub mod Counting
-pub mod Listing
-pub mod Passing
 pub mod Walks

@@ -1,4 +1,3 @@
 -- What the contracts of this crate cite.
 -- Assumes nothing.
-pub mod Count
 pub mod Order

@@ -1,135 +1,41 @@
--- The pairs that a tree meets, each before all pairs below it.
+-- The pairs that a tree meets, in the order of their ranks.
 -- Assumes nothing.
 use mathlib.Core.Path.{_≡_}
 use mathlib.Core.Logic.{_⊎_}
-use mathlib.Core.Bool.{_||_}
 use mathlib.Core.List.{List}
-use Prim.Native.Nat.{ℕ, _+_, _-_, _*_, _/_, _%_, _≤_, _<_}
-use lib.Dec.{T, eqb}
+use Prim.Native.Nat.{ℕ, _-_, _≤_, _<_}
+use lib.Dec.{T}
 use lib.ListN.{length, getD}
-use Rattle.simulation.specs.Limits.{most-states, most-transitions, most-pairs}
-use Rattle.simulation.specs.Sum.{any}
-use Rattle.simulation.specs.Table.{target-at, states-of}
+use Rattle.simulation.specs.Limits.{most-pairs}
 use Rattle.simulation.specs.Round.{pairs, rank}
-use Rattle.simulation.specs.Tree.{chosen, set-of}
 use Rattle.simulation.specs.Length.{tree-length}
-use Rattle.form.specs.Form.{Loaded, table-of}
+use Rattle.form.specs.Form.{table-of}
 use Rattle.relation.specs.Mask.{member}
-use Rattle.relation.specs.Words.{row-of, height}
-use Rattle.order.specs.Count.{longest, child}
-use Rattle.relate.specs.Ranked.{Ranked, Lent}
-use Rattle.choice.specs.Choice.{Lost, Choice}
-
--- what adding the pairs of targets and members of their sets rests on
-pub record Children (targets sets todo : List ℕ) : Type 0 where
-  pub few : length targets ≤ most-states
-  pub words : length targets ≤ height sets
-  pub rows : most-states ≤ height todo
-  pub low : (i : ℕ) → i < length targets → getD targets i 0 < most-states
-
--- the pairs of the first n targets are added
-pub record ChildrenAdded (targets sets : List ℕ) (n : ℕ) (todo : List ℕ) (rows : ℕ) (todo′ : List ℕ) (rows′ : ℕ) : Type 0 where
-  pub listed : (u v : ℕ) → member (row-of todo′ u) v ≡ (any n (child targets sets u v) || member (row-of todo u) v)
-  pub opened : (u : ℕ) → member rows′ u ≡ (any n (λ i. eqb (getD targets i 0) u) || member rows u)
-
--- what the listing of a pair at place n rests on
-pub record NoteGiven (second : List ℕ) (s t j n : ℕ) (order choices : List ℕ) : Type 0 where
-  pub loaded : Loaded second
-  pub low : (s < most-states) × (t < most-states)
-  pub number : j < most-transitions
-  pub few : n < most-pairs
-  pub place : n < length order
-  pub room : s * states-of (table-of second) + t < length choices
-
--- what ordering rests on: room for each pair and its transition, a set for each target of a transition
-pub record OrderGiven (first second ranks order choices sets rel x : List ℕ) : Type 0 where
-  pub ranked : Ranked first second ranks
-  pub room : pairs (table-of first) (table-of second) ≤ length order
-  pub notes : pairs (table-of first) (table-of second) ≤ length choices
-  pub words : most-states ≤ height sets
-  pub lent : Lent rel x
-
--- and a set for each row
-pub record PassGiven (first second ranks order choices todo sets rel x : List ℕ) : Type 0 where
-  pub given : OrderGiven first second ranks order choices sets rel x
-  pub rows : most-states ≤ height todo
-
--- the number p is listed after place k, and anywhere
-abbrev pub Later : (order : List ℕ) (n k p : ℕ) → Type 0
-Later order n k p = (i : ℕ) × (k < i) × (i < n) × (getD order i 0 ≡ p)
-
-abbrev pub Found : (order : List ℕ) (n p : ℕ) → Type 0
-Found order n p = (i : ℕ) × (i < n) × (getD order i 0 ≡ p)
+use Rattle.relation.specs.Words.{row-of}
+use Rattle.counting.specs.Pair.{number}
+use Rattle.counting.specs.Count.{longest}
+use Rattle.passing.specs.Passing.{Later, Found, Above, Noted, Passing}
 
 module _ (first second : List ℕ) where
-  -- a pair's number, and the pair of a number
-  abbrev pub number : ℕ → ℕ → ℕ
-  number s t = s * states-of (table-of second) + t
-
-  abbrev pub row : ℕ → ℕ
-  row p = p / states-of (table-of second)
-
-  abbrev pub column : ℕ → ℕ
-  column p = p % states-of (table-of second)
-
-  -- the pair with number p is not kept, and each pair below it passes the test
-  pub record Above (passes : ℕ → ℕ → Type 0) (p : ℕ) : Type 0 where
-    pub lost : Lost first second (row p) (column p)
-    pub below : (i v : ℕ) → i < length (chosen (table-of first) (table-of second) (row p) (column p) .entries) → T (set-of (table-of first) (table-of second) (row p) (column p) i v)
-        → passes (target-at (chosen (table-of first) (table-of second) (row p) (column p)) i) v
-
-  -- the transitions chosen for the first n pairs of the list are noted
-  pub record Noted (order : List ℕ) (n : ℕ) (choices : List ℕ) : Type 0 where
-    pub at : (k : ℕ) → k < n → Choice first second (row (getD order k 0)) (column (getD order k 0)) (getD choices (getD order k 0) 0)
-
   -- the first n places of the list hold pairs, each before all pairs below it
   pub record Ordered (order : List ℕ) (n : ℕ) : Type 0 where
     pub fits : n ≤ length order
     pub few : n ≤ most-pairs
-    pub at : (k : ℕ) → k < n → Above (λ u v. Later order n k (number u v)) (getD order k 0)
+    pub at : (k : ℕ) → k < n → Above first second (λ u v. Later order n k (number second u v)) (getD order k 0)
 
   -- the pairs that the tree of (s, t) meets are listed and their transitions noted; none is if the tree is too long
   pub record Listed (s t : ℕ) (order choices : List ℕ) (n : ℕ) : Type 0 where
     pub long : n ≡ 0 → longest < tree-length (table-of first) (table-of second) s t
     pub ordered : 0 < n → Ordered order n
-    pub found : 0 < n → Found order n (number s t)
-    pub noted : 0 < n → Noted order n choices
-
-  -- no pair that is still to be passed is kept or above rank r, and the pairs below one that is passed come after it or are still to be passed
-  pub record Passing (r : ℕ) (order : List ℕ) (n : ℕ) (todo : List ℕ) (rows : ℕ) : Type 0 where
-    pub fits : n ≤ length order
-    pub few : n ≤ most-pairs
-    pub open-row : (s t : ℕ) → T (member (row-of todo s) t) → T (member rows s)
-    pub lost : (s t : ℕ) → T (member (row-of todo s) t) → Lost first second s t
-    pub most : (s t : ℕ) → T (member (row-of todo s) t) → rank (table-of first) (table-of second) s t ≤ r
-    pub at : (k : ℕ) → k < n → Above (λ u v. T (member (row-of todo u) v) ⊎ Later order n k (number u v)) (getD order k 0)
-    pub high : (k : ℕ) → k < n → r ≤ rank (table-of first) (table-of second) (row (getD order k 0)) (column (getD order k 0))
-    pub gone : (k : ℕ) → k < n → T (member (row-of todo (row (getD order k 0))) (column (getD order k 0))) → ⊥
-    pub once : (k l : ℕ) → k < l → l < n → getD order k 0 ≡ getD order l 0 → ⊥
-
-  -- some pairs of rank r are passed: no other pair of that rank is new, and a pair that was listed or passed is so still
-  pub record Passed (r : ℕ) (order : List ℕ) (n : ℕ) (todo order′ : List ℕ) (n′ : ℕ) (todo′ : List ℕ) (rows′ : ℕ) : Type 0 where
-    pub passing : Passing r order′ n′ todo′ rows′
-    pub old : (s t : ℕ) → T (member (row-of todo′ s) t) → rank (table-of first) (table-of second) s t ≡ r → T (member (row-of todo s) t)
-    pub stays : (s t : ℕ) → T (member (row-of todo s) t) ⊎ Found order n (number s t) → T (member (row-of todo′ s) t) ⊎ Found order′ n′ (number s t)
-
-  -- the pair (s, t) is passed, if it has rank r, and no other
-  pub record PairPassed (r s t : ℕ) (order : List ℕ) (n : ℕ) (todo order′ : List ℕ) (n′ : ℕ) (todo′ : List ℕ) (rows′ : ℕ) : Type 0 where
-    pub passed : Passed r order n todo order′ n′ todo′ rows′
-    pub gone : rank (table-of first) (table-of second) s t ≡ r → T (member (row-of todo′ s) t) → ⊥
-    pub others : (u v : ℕ) → T (member (row-of todo u) v) → ((u ≡ s) × (v ≡ t) → ⊥) → T (member (row-of todo′ u) v)
-
-  -- all pairs of row s and rank r are passed
-  pub record RowPassed (r s : ℕ) (order : List ℕ) (n : ℕ) (todo order′ : List ℕ) (n′ : ℕ) (todo′ : List ℕ) (rows′ : ℕ) : Type 0 where
-    pub passed : Passed r order n todo order′ n′ todo′ rows′
-    pub gone : (t : ℕ) → T (member (row-of todo′ s) t) → rank (table-of first) (table-of second) s t ≡ r → ⊥
+    pub found : 0 < n → Found order n (number second s t)
+    pub noted : 0 < n → Noted first second order n choices
 
   -- all pairs of rank r are passed
   pub record RankPassed (r : ℕ) (order : List ℕ) (n : ℕ) (todo order′ : List ℕ) (n′ : ℕ) (todo′ : List ℕ) (rows′ : ℕ) : Type 0 where
-    pub passing : Passing (r - 1) order′ n′ todo′ rows′
-    pub stays : (s t : ℕ) → T (member (row-of todo s) t) ⊎ Found order n (number s t) → T (member (row-of todo′ s) t) ⊎ Found order′ n′ (number s t)
+    pub passing : Passing first second (r - 1) order′ n′ todo′ rows′
+    pub stays : (s t : ℕ) → T (member (row-of todo s) t) ⊎ Found order n (number second s t) → T (member (row-of todo′ s) t) ⊎ Found order′ n′ (number second s t)
 
   -- all pairs are passed
   pub record RanksPassed (order : List ℕ) (n : ℕ) (todo order′ : List ℕ) (n′ : ℕ) : Type 0 where
     pub ordered : Ordered order′ n′
-    pub found : (s t : ℕ) → T (member (row-of todo s) t) ⊎ Found order n (number s t) → Found order′ n′ (number s t)
+    pub found : (s t : ℕ) → T (member (row-of todo s) t) ⊎ Found order n (number second s t) → Found order′ n′ (number second s t)

@@ -25,7 +25,7 @@ use Rattle.pod.specs.Check.{checked, RightFor, Checked}
 use Rattle.compare.specs.Condition.{Condition, short-ranks, short-flow, short-tree, long-tree, result-of, Ready, outside, flow-fits, tree-fits}
 use Rattle.pod.specs.Demands.{Call, first-refused, second-refused, both-accepted, call-result, Demand1, Demand2, Demand3, rank-at}
 use Rattle.compare.proofs.Outcome.{met, some-condition, number-met}
-use Rattle.order.proofs.Pairs.{place-below}
+use Rattle.counting.proofs.Pairs.{place-below}
 
 -- ---- demand 1
 

@@ -15,7 +15,7 @@ use Rattle.layout.proofs.DecodeLaws.{number-is}
 use Rattle.layout.proofs.Accepted.{accepted-shaped, accepted-valid}
 use Rattle.flows.specs.Flow.{most-flow}
 use Rattle.flows.proofs.FlowRoom.{room-most}
-use Rattle.order.specs.Count.{longest}
+use Rattle.counting.specs.Count.{longest}
 use Rattle.compare.specs.Outcome.{Buffers, Result, success}
 use Rattle.pod.specs.Check.{Checked, state-count, states-in}
 use Rattle.pod.specs.Demands.{Call, first-refused, second-refused, both-accepted, call-result}

@@ -9,7 +9,7 @@ use native.Mathlib.Omega.{arith}
 use lib.ListN.{length}
 use Rattle.simulation.specs.Limits.{most-states}
 use Rattle.answer.specs.declared.answer.Answer.{Answer}
-use Rattle.order.specs.Count.{longest}
+use Rattle.counting.specs.Count.{longest}
 use Rattle.compare.specs.Outcome.{lent, left}
 use Rattle.pod.specs.Check.{Checked, states-in}
 use Rattle.pod.specs.Demands.{Call}

@@ -21,8 +21,8 @@ use Rattle.relation.proofs.Relations.{pairs-most}
 use Rattle.relation.specs.Related.{holds}
 use Rattle.relation.specs.Words.{height}
 use Rattle.links.specs.Links.{Empty}
-use Rattle.rounds.specs.Rounds.{Cleared, Open, After, Refined}
-use Rattle.ranking.specs.Rows.{Filled}
+use Rattle.rounds.specs.Rounds.{Cleared, After, Refined}
+use Rattle.ranking.specs.Rows.{Open, Filled}
 use Rattle.rounds.proofs.RoundLaws.{begins}
 use Rattle.ranking.proofs.Answer.{ranks-list, kept-are}
 use Rattle.rounds.proofs.Settling.{row-place}

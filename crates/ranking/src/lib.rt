@@ -5,7 +5,7 @@ use relation::set;
 use relation::set::Set;
 use simulation::Table;
 ghost use mathlib.Core.Path.{_≡_};
-ghost use Prim.Native.Nat.{ℕ, _*_, _<_, _≤_};
+ghost use Prim.Native.Nat.{ℕ, _+_, _*_, _<_, _≤_};
 ghost use lib.ListN.{length, getD};
 ghost use Rattle.simulation.specs.Limits.{most-pairs, most-states, most-transitions};
 ghost use Rattle.relation.specs.Mask.{both, up-to};
@@ -51,16 +51,16 @@ fn no_sets() -> [u64; Table::TRANSITIONS * Set::WORDS]
 // clear a long one.
 const FEW: usize = 16;
 
-fn few_tried() -> [u8; FEW * Table::STATES]
-    ensures { λ r. ⌜ (length r ≡ 16 * most-states) × ((i : ℕ) → getD r i 0 ≡ 0) ⌝ }
+fn few_tried() -> [u8; (FEW + 1) * Table::STATES]
+    ensures { λ r. ⌜ (length r ≡ 17 * most-states) × ((i : ℕ) → getD r i 0 ≡ 0) ⌝ }
 {
-    [0u8; FEW * Table::STATES]
+    [0u8; (FEW + 1) * Table::STATES]
 }
 
-fn none_tried() -> [u8; Table::TRANSITIONS * Table::STATES]
-    ensures { λ r. ⌜ (length r ≡ most-transitions * most-states) × ((i : ℕ) → getD r i 0 ≡ 0) ⌝ }
+fn none_tried() -> [u8; (Table::TRANSITIONS + 1) * Table::STATES]
+    ensures { λ r. ⌜ (length r ≡ (most-transitions + 1) * most-states) × ((i : ℕ) → getD r i 0 ≡ 0) ⌝ }
 {
-    [0u8; Table::TRANSITIONS * Table::STATES]
+    [0u8; (Table::TRANSITIONS + 1) * Table::STATES]
 }
 
 // What is found beside the ranks.
@@ -71,7 +71,7 @@ pub struct Ranked {
     pub kept: u16,
 }
 
-// The ranks, in memory lent for the work, of which `rows` and `doubt` are full before; `rows` holds the kept pairs after.
+// The ranks, in memory lent for the work, of which `rows` is full before; it holds the kept pairs after.
 fn fill_ranks(
     first: &[u16],
     second: &[u16],
@@ -119,13 +119,13 @@ fn rank_untried(
     x: &mut [u32],
 ) -> Ranked
     requires { ⌜ Loaded (now first) × Loaded (now second) × (states-of (table-of (now first)) * states-of (table-of (now second)) ≤ length (now ranks)) × (most-pairs ≤ length (now x))
-        × (transitions-of (now first) * most-states ≤ length (now tried)) × ((i : ℕ) → getD (now tried) i 0 ≡ 0) ⌝ }
+        × ((transitions-of (now first) + 1) * most-states ≤ length (now tried)) × ((i : ℕ) → getD (now tried) i 0 ≡ 0) ⌝ }
     ensures { λ r. ⌜ Filled (table-of (now (first .entry))) (table-of (now (second .entry))) (now (ranks .entry)) (now (ranks .exit)) (r .rounds) (r .kept) ⌝ }
 {
     let all = Relation::full();
     let none = Relation::empty();
     let mut rows = all.rows;
-    let mut doubt = all.rows;
+    let mut doubt = none.rows;
     let mut lost = none.rows;
     let mut before = none.rows;
     let mut behind = none.rows;

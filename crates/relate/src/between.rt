@@ -1,6 +1,7 @@
 // The relation of a round between the targets of two transitions, a set to a target, out of the ranks of all pairs.
 use relation::ranks::lasts;
 use relation::rows;
+use relation::set;
 use relation::set::Set;
 use relation::word;
 ghost use mathlib.Core.Path.{_≡_};
@@ -30,17 +31,18 @@ pub fn row(ranks: &[u16], width: usize, r: u16, s: usize, nt: &[u16]) -> Set
     requires { ⌜ (length (now nt) ≤ most-states) × Indexed (now ranks) width s (now nt) ⌝ }
     ensures { λ b. ⌜ member (mask b) ≡ part (length (now (nt .entry))) (row (now (ranks .entry)) width r s (now (nt .entry))) ⌝ }
 {
-    if nt.len() <= 64 {
-        return Set {
-            words: [row_word(ranks, width, r, s, nt), 0],
-        };
+    let n = nt.len();
+    let mut row = set::empty();
+    for w in 0..Set::WORDS {
+        row.words[w] = row_word(
+            ranks,
+            width,
+            r,
+            s,
+            &nt[set::start(w, n)..set::start(w + 1, n)],
+        );
     }
-    Set {
-        words: [
-            row_word(ranks, width, r, s, &nt[..64]),
-            row_word(ranks, width, r, s, &nt[64..]),
-        ],
-    }
+    row
 }
 
 // Row i of rel becomes the row of the target at position i of mt.

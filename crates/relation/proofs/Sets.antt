@@ -6,7 +6,7 @@ use mathlib.Core.List.{List, [], _∷_}
 use mathlib.Core.Logic.{_⊎_, inl, inr, ⊎-elim, _≢_}
 use native.Mathlib.Decide.{ℕ-discrete}
 use borrow.Author.Tests.{lt-ltb, le-ltb, eq-eqb, ne-eqb, eqb-true, eqb-false}
-use Prim.Native.Nat.{ℕ, zero, suc, _+_, _-_, _*_, _/_, _%_, _^_, _≤_, _<_}
+use Prim.Native.Nat.{ℕ, zero, suc, _+_, _-_, _*_, _/_, _%_, _^_, _≤_, _<_, min}
 use native.Mathlib.Nat.{not-suc-le-zero, le-of-suc-le-suc, lt-irrefl}
 use native.Mathlib.Omega.{arith}
 use lib.Dec.{eqb, ltb}
@@ -19,7 +19,7 @@ use Rattle.simulation.specs.Limits.{most-states}
 use Rattle.relation.specs.Words.{words, word-of, mask, row-of, height, put-row, rest, after}
 use Rattle.relation.specs.declared.set.Set.{Set}
 use Rattle.relation.proofs.Mask.{member-none, member-or, below-or-not, no-member}
-use Rattle.relation.proofs.Words.{steps, bit-at, number-lt, words-are, number-ext, number-none, word-wise, word-put, number-lowest, number-drop, number-less, words-size}
+use Rattle.relation.proofs.Words.{steps, bit-at, number-lt, words-are, number-ext, number-none, word-wise, word-put, number-lowest, number-drop, number-less, words-size, length-words, words-there, words-other}
 
 abbrev pub of-words : List ℕ → Set
 of-words l = record { words = l }
@@ -253,71 +253,82 @@ row-get rows s =
 
 pub length-put : (rows : List ℕ) (s : ℕ) (x : Set) → length (put-row rows s x) ≡ length rows
 unfolding put-row
-length-put rows s x = length-set (set rows (s * words) (word-of x 0)) (s * words + 1) (word-of x 1) ∙ length-set rows (s * words) (word-of x 0)
+length-put rows s x = length-words rows (s * words) (word-of x) words
 
 pub row-put : (rows : List ℕ) (s : ℕ) (x : Set) → s < height rows → row-of (put-row rows s x) s ≡ mask x
 unfolding mask row-of put-row
 row-put rows s x lt =
     number-ext words (λ i. getD (put-row rows s x) (s * words + i) 0) (word-of x)
-    (two (λ i. getD (put-row rows s x) (s * words + i) 0 ≡ word-of x i)
-    (ap (λ (k : ℕ). getD (put-row rows s x) k 0) (steps (s * words + 0) (s * words) (omega arith))
-    ∙ getD-set-other (set rows (s * words) (word-of x 0)) (s * words + 1) (s * words) (word-of x 1) 0 (λ e. omega arith)
-    ∙ getD-set-same rows (s * words) (word-of x 0) 0 (omega arith))
-    (getD-set-same (set rows (s * words) (word-of x 0)) (s * words + 1) (word-of x 1) 0 (omega (arith, length-set rows (s * words) (word-of x 0)))))
+    (λ i li. words-there rows (s * words) (word-of x) words i li (omega arith))
 
 pub row-put-other : (rows : List ℕ) (s k : ℕ) (x : Set) → k ≢ s → row-of (put-row rows s x) k ≡ row-of rows k
 unfolding row-of put-row
 row-put-other rows s k x ne =
     number-ext words (λ i. getD (put-row rows s x) (k * words + i) 0) (λ i. getD rows (k * words + i) 0)
-    (λ i lt. getD-set-other (set rows (s * words) (word-of x 0)) (s * words + 1) (k * words + i) (word-of x 1) 0 (λ e. ne (omega arith))
-    ∙ getD-set-other rows (s * words) (k * words + i) (word-of x 0) 0 (λ e. ne (omega arith)))
+    (λ i li. words-other rows (s * words) (word-of x) words (k * words + i) (λ j lj e. ne (omega arith)))
 
--- a test of the numbers of a list, by the first k of them and by the others
+-- tests that agree below n
 part-ext : (n : ℕ) (X Y : Test) → ((j : ℕ) → j < n → X j ≡ Y j) → part n X ≡ part n Y
 part-ext n X Y e = fun-ext (λ k. ⊎-elim
     (λ lt. ap (λ b. ltb k n && b) (e k lt))
     (λ le. ap (λ b. b && X k) (le-ltb k n le) ∙ sym (ap (λ b. b && Y k) (le-ltb k n le)))
     (below-or-not k n))
 
-module _ (F : Test) (k : ℕ) (ts : List ℕ) (h : k ≤ length ts) where
-  pub part-take : part (length (take k ts)) (λ j. F (getD (take k ts) j 0)) ≡ part k (λ j. F (getD ts j 0))
-  part-take =
-      let m : length (take k ts) ≡ k = simp length-take (omega arith) in
-      ap (λ (n : ℕ). part n (λ j. F (getD (take k ts) j 0))) m
-      ∙ part-ext k (λ j. F (getD (take k ts) j 0)) (λ j. F (getD ts j 0)) (λ j l. ap F (getD-take k ts j 0 l))
+-- the places of a list whose number passes
+abbrev pub passing : Test → List ℕ → Test
+passing F ts = part (length ts) (λ j. F (getD ts j 0))
 
-  pub part-drop : part (length (take (length ts - k) (drop k ts))) (λ j. F (getD (take (length ts - k) (drop k ts)) j 0)) ≡ part (length ts - k) (λ j. F (getD ts (k + j) 0))
-  part-drop =
-      let m : length (take (length ts - k) (drop k ts)) ≡ length ts - k = simp (length-take, length-drop) (omega arith) in
-      ap (λ (n : ℕ). part n (λ j. F (getD (take (length ts - k) (drop k ts)) j 0))) m
-      ∙ part-ext (length ts - k) (λ j. F (getD (take (length ts - k) (drop k ts)) j 0)) (λ j. F (getD ts (k + j) 0))
-      (λ j l. ap F (getD-take (length ts - k) (drop k ts) j 0 l ∙ getD-drop k ts j 0))
+pub part-take : (F : Test) (k : ℕ) (ts : List ℕ) → k ≤ length ts → passing F (take k ts) ≡ part k (λ j. F (getD ts j 0))
+part-take F k ts h =
+    let m : length (take k ts) ≡ k = simp length-take (omega arith) in
+    ap (λ (n : ℕ). part n (λ j. F (getD (take k ts) j 0))) m
+    ∙ part-ext k (λ j. F (getD (take k ts) j 0)) (λ j. F (getD ts j 0)) (λ j l. ap F (getD-take k ts j 0 l))
 
--- of the first n numbers, those that pass: in the first word, and in both
-pub low-part : (X : Test) (n x : ℕ) → n ≤ 64 → member x ≡ part n X → member (mask (of-words (x ∷ 0 ∷ []))) ≡ part n X
-unfolding mask
-low-part X n x le e =
-    words-are words (word-of (of-words (x ∷ 0 ∷ []))) (part n X)
-    (λ i u li lu. two (λ j. member (word-of (of-words (x ∷ 0 ∷ [])) j) u ≡ part n X (j * 64 + u))
-    (ap (λ Y. Y u) e ∙ ap (part n X) (steps u (0 * 64 + u) (omega arith)))
-    (member-none u ∙ sym (ap (λ b. b && X (1 * 64 + u)) (le-ltb (1 * 64 + u) n (omega arith)))) i li)
-    (λ t out. ap (λ b. b && X t) (le-ltb t n (omega arith)))
+-- these places as a set, made a word at a time: the first w words are filled
+pub record Filled (F : Test) (ts : List ℕ) (w : ℕ) (l : List ℕ) : Type 0 where
+  pub size : length l ≡ words
+  pub each : (v : ℕ) → v < w → member (getD l v 0) ≡ part 64 (λ u. passing F ts (v * 64 + u))
 
-pub high-part : (X : Test) (n x y : ℕ) → 64 ≤ n → n ≤ most-states → member x ≡ part 64 X → member y ≡ part (n - 64) (λ j. X (64 + j))
-    → member (mask (of-words (x ∷ y ∷ []))) ≡ part n X
-unfolding mask
-high-part X n x y ge le e f =
-    words-are words (word-of (of-words (x ∷ y ∷ []))) (part n X)
-    (λ i u li lu. two (λ j. member (word-of (of-words (x ∷ y ∷ [])) j) u ≡ part n X (j * 64 + u))
-    (ap (λ Y. Y u) e ∙ ap (λ b. b && X u) (lt-ltb u 64 lu ∙ sym (lt-ltb u n (omega arith))) ∙ ap (part n X) (steps u (0 * 64 + u) (omega arith)))
-    (ap (λ Y. Y u) f ∙ ap (λ b. b && X (64 + u)) (same n u ge) ∙ ap (part n X) (steps (64 + u) (1 * 64 + u) (omega arith))) i li)
-    (λ t out. ap (λ b. b && X t) (le-ltb t n (omega arith)))
-  where
-    same : (n u : ℕ) → 64 ≤ n → ltb u (n - 64) ≡ ltb (64 + u) n
-    same n u ge = ⊎-elim
-        (λ lt. lt-ltb u (n - 64) lt ∙ sym (lt-ltb (64 + u) n (omega arith)))
-        (λ out. le-ltb u (n - 64) out ∙ sym (le-ltb (64 + u) n (omega arith)))
-        (below-or-not u (n - 64))
+module _ (F : Test) (ts : List ℕ) where
+  pub filled-start : {l : List ℕ} → length l ≡ words → Filled F ts 0 l
+  filled-start size = record { size = size; each = λ v lt. absurd (not-suc-le-zero lt) }
+
+  pub filled-next : (w x : ℕ) {l : List ℕ} → w < words → Filled F ts w l → member x ≡ part 64 (λ u. passing F ts (w * 64 + u)) → Filled F ts (w + 1) (set l w x)
+  filled-next w x {l} lw h e = record { size = length-set l w x ∙ h .size; each = λ v lt. at v lt (ℕ-discrete v w) }
+    where
+      at : (v : ℕ) → v < w + 1 → Dec (v ≡ w) → member (getD (set l w x) v 0) ≡ part 64 (λ u. passing F ts (v * 64 + u))
+      at v lt (yes q) =
+          ap (λ (k : ℕ). member (getD (set l w x) k 0)) q ∙ ap member (getD-set-same l w x 0 (omega (arith, h .size))) ∙ e
+          ∙ ap (λ (k : ℕ). part 64 (λ u. passing F ts (k * 64 + u))) (sym q)
+      at v lt (no ne) = ap member (getD-set-other l w v x 0 ne) ∙ h .each v (omega (arith, ne))
+
+  pub filled-all : {w : ℕ} (s : Set) → w ≡ words → length ts ≤ most-states → Filled F ts w (s .words) → member (mask s) ≡ passing F ts
+  unfolding mask
+  filled-all {w} s e few h =
+      words-are words (word-of s) (passing F ts)
+      (λ i u li lu. ap (λ X. X u) (h .each i (omega arith)) ∙ ap (λ b. b && passing F ts (i * 64 + u)) (lt-ltb u 64 lu))
+      (λ t out. ap (λ b. b && F (getD ts t 0)) (le-ltb t (length ts) (omega arith)))
+
+-- word w has the places from a to before b
+module _ (F : Test) (ts : List ℕ) (w : ℕ) {a b : ℕ} (ea : a ≡ min (w * 64) (length ts)) (eb : b ≡ min ((w + 1) * 64) (length ts)) where
+  inside : (k : ℕ) → k < b - a → (ltb k (b - a) && F (getD (take (b - a) (drop a ts)) k 0)) ≡ part 64 (λ u. passing F ts (w * 64 + u)) k
+  inside k lt =
+      ap₂ _&&_ (lt-ltb k (b - a) lt ∙ sym (lt-ltb k 64 (omega arith)))
+      (ap F (getD-take (b - a) (drop a ts) k 0 lt ∙ getD-drop a ts k 0 ∙ ap (λ (j : ℕ). getD ts j 0) (steps (a + k) (w * 64 + k) (omega arith)))
+      ∙ sym (ap (λ c. c && F (getD ts (w * 64 + k) 0)) (lt-ltb (w * 64 + k) (length ts) (omega arith))))
+
+  outside : (k : ℕ) → b - a ≤ k → (ltb k (b - a) && F (getD (take (b - a) (drop a ts)) k 0)) ≡ part 64 (λ u. passing F ts (w * 64 + u)) k
+  outside k le =
+      ap (λ c. c && F (getD (take (b - a) (drop a ts)) k 0)) (le-ltb k (b - a) le)
+      ∙ sym (⊎-elim
+      (λ lt. ap₂ (λ c d. c && (d && F (getD ts (w * 64 + k) 0))) (lt-ltb k 64 lt) (le-ltb (w * 64 + k) (length ts) (omega arith)))
+      (λ out. ap (λ c. c && passing F ts (w * 64 + k)) (le-ltb k 64 out))
+      (below-or-not k 64))
+
+  pub slice-passing : passing F (take (b - a) (drop a ts)) ≡ part 64 (λ u. passing F ts (w * 64 + u))
+  slice-passing =
+      let m : length (take (b - a) (drop a ts)) ≡ b - a = simp (length-take, length-drop) (omega arith) in
+      fun-ext (λ k. ap (λ (n : ℕ). ltb k n && F (getD (take (b - a) (drop a ts)) k 0)) m ∙ ⊎-elim (inside k) (outside k) (below-or-not k (b - a)))
 
 -- a set that was read from a row
 module _ {Z : Test} {g x : ℕ} (e : g ≡ x) where

@@ -2,6 +2,7 @@
 -- Assumes nothing.
 use mathlib.Core.Path.{_≡_, refl, sym, ap, ap₂, _∙_, subst, fun-ext}
 use mathlib.Core.Bool.{Bool, false, not, _&&_, and-true}
+use mathlib.Core.List.{List}
 use mathlib.Core.Logic.{_⊎_, ⊎-elim, _≢_}
 use native.Mathlib.Decide.{ℕ-discrete}
 use borrow.Author.Tests.{eq-eqb, ne-eqb}
@@ -10,11 +11,13 @@ use native.Mathlib.Nat.{mod-lt, not-suc-le-zero, le-of-suc-le-suc, pow-suc, add-
 use native.Mathlib.Omega.{arith}
 use lib.Dec.{eqb}
 use lib.Arith.{digits-lt}
+use lib.ListN.{length, getD, set, length-set}
+use lib.Seq.{getD-set-same, getD-set-other}
 use lib.Pow.{shr-shr, pow-pos, pow-add, high, split}
 use Rattle.simulation.specs.Sum.{sum, when}
 use Rattle.simulation.proofs.Finite.Sums.{sum-ext}
 use Rattle.relation.specs.Mask.{Test, member, without-member, size, Lowest}
-use Rattle.relation.specs.Words.{number}
+use Rattle.relation.specs.Words.{number, put-words}
 use Rattle.relation.proofs.Mask.{member-high, member-shift, below-or-not, lowest-unique, without-less}
 
 -- an equation, with its sides named
@@ -163,3 +166,25 @@ words-size n (suc m) f le =
     ∙ ap₂ _+_ (words-size n m f (omega arith))
     (sum-ext 64 (λ u. when (member (number n f) (m * 64 + u)) 1) (λ u. when (member (f m) u) 1) (λ u lt. ap (λ b. when b 1) (bit-at n f m u (omega arith) lt)))
     ∙ add-comm (sum m (λ i. size 64 (member (f i)))) (size 64 (member (f m)))
+
+-- words written one after the other: each is found in its place, and every other place is as before
+module _ (l : List ℕ) (at : ℕ) (f : ℕ → ℕ) where
+  pub length-words : (n : ℕ) → length (put-words n l at f) ≡ length l
+  unfolding put-words
+  length-words zero = refl
+  length-words (suc n) = length-set (put-words n l at f) (at + n) (f n) ∙ length-words n
+
+  pub words-there : (n i : ℕ) → i < n → at + n ≤ length l → getD (put-words n l at f) (at + i) 0 ≡ f i
+  unfolding put-words
+  words-there zero i lt room = absurd (not-suc-le-zero lt)
+  words-there (suc n) i lt room = elim (ℕ-discrete i n) [
+    | yes e ↦ ap (λ (k : ℕ). getD (set (put-words n l at f) (at + n) (f n)) (at + k) 0) e
+        ∙ getD-set-same (put-words n l at f) (at + n) (f n) 0 (omega (arith, length-words n)) ∙ ap f (sym e)
+    | no ne ↦ getD-set-other (put-words n l at f) (at + n) (at + i) (f n) 0 (λ e. ne (omega arith)) ∙ words-there n i (omega (arith, ne)) (omega arith)
+  ]
+
+  pub words-other : (n k : ℕ) → ((i : ℕ) → i < n → k ≢ at + i) → getD (put-words n l at f) k 0 ≡ getD l k 0
+  unfolding put-words
+  words-other zero k out = refl
+  words-other (suc n) k out =
+      getD-set-other (put-words n l at f) (at + n) k (f n) 0 (out n (omega arith)) ∙ words-other n k (λ i lt. out i (omega arith))

@@ -1,12 +1,12 @@
 -- Sets and rows of words, computed: members in either word, a row that is read and one that is written, and what a walk has left.
 -- Assumes nothing.
 use mathlib.Core.Path.{_≡_, refl}
-use mathlib.Core.Bool.{Bool, true, false}
+use mathlib.Core.Bool.{true, false}
 use mathlib.Core.List.{List, [], _∷_, map}
 use Prim.Native.Nat.{ℕ, _+_, _^_}
 use Rattle.relation.specs.declared.set.Set.{Set}
 use Rattle.relation.specs.Mask.{member}
-use Rattle.relation.specs.Words.{words, mask, row-of, height, put-row, rest, after}
+use Rattle.relation.specs.Words.{words, mask, row-of, height, put-words, put-row, rest, after}
 
 -- the states 0, 2 and 64
 abbrev some : Set
@@ -23,6 +23,11 @@ set-example = (refl, refl, refl)
 pub rows-example : (height rows ≡ 2) × (row-of rows 0 ≡ 1) × (row-of rows 1 ≡ 2 ^ 127) × (put-row rows 1 some ≡ 1 ∷ 0 ∷ 5 ∷ 1 ∷ [])
 unfolding row-of put-row
 rows-example = (refl, refl, refl, refl)
+
+-- three words from place 1 on, and none
+pub put-example : (put-words 3 (9 ∷ 9 ∷ 9 ∷ 9 ∷ 9 ∷ []) 1 (λ i. i) ≡ 9 ∷ 0 ∷ 1 ∷ 2 ∷ 9 ∷ []) × (put-words 0 rows 1 (λ i. i) ≡ rows)
+unfolding put-words
+put-example = (refl, refl)
 
 -- before the second word, within the first after state 0, and at the end
 pub walk-example : (after 1 some ≡ 2 ^ 64) × (rest 0 4 some ≡ 2 ^ 64 + 4) × (after words some ≡ 0)

@@ -34,9 +34,15 @@ row-of rows s = number words (λ i. getD rows (s * words + i) 0)
 abbrev pub height : List ℕ → ℕ
 height rows = length rows / words
 
+-- a list with n words from a place on written anew
+unfoldable pub put-words : ℕ → List ℕ → ℕ → (ℕ → ℕ) → List ℕ
+put-words zero l at word = l
+put-words (suc n) l at word = set (put-words n l at word) (at + n) (word n)
+
 -- the rows with a set in the place of row s
 unfoldable pub put-row : List ℕ → ℕ → Set → List ℕ
-put-row rows s x = set (set rows (s * words) (word-of x 0)) (s * words + 1) (word-of x 1)
+unfolding put-words
+put-row rows s x = put-words words rows (s * words) (word-of x)
 
 -- what a walk over the members has left: `left` in word w, and the words after it
 unfoldable pub rest : ℕ → ℕ → Set → ℕ

@@ -2,11 +2,11 @@
 use crate::word;
 use simulation::Table;
 ghost use mathlib.Core.Path.{_≡_};
-ghost use Prim.Native.Nat.{ℕ, _<_, _≤_};
+ghost use Prim.Native.Nat.{ℕ, _*_, _<_, _≤_, min};
 ghost use lib.Dec.{eqb};
 ghost use Rattle.simulation.specs.Limits.{most-states};
 ghost use Rattle.relation.specs.Mask.{member, «up-to», only, «with-member», «without-member», «with-bit», either, both, except, bit, size, Lowest, bit};
-ghost use Rattle.relation.specs.Words.{mask};
+ghost use Rattle.relation.specs.Words.{words, mask};
 
 pub struct Set {
     pub words: [u64; Set::WORDS],
@@ -23,6 +23,15 @@ pub fn empty() -> Set
     Set {
         words: [0; Set::WORDS],
     }
+}
+
+// Where the places of word w begin among n places: at the end where it has none.
+pub fn start(w: usize, n: usize) -> usize
+    requires { ⌜ w ≤ words ⌝ }
+    ensures { λ r. ⌜ r ≡ min (w * 64) n ⌝ }
+{
+    let at = w * 64;
+    if at < n { at } else { n }
 }
 
 pub fn is_empty(set: Set) -> bool

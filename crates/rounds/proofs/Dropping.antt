@@ -1,9 +1,9 @@
--- The pairs that a round drops, gathered member by member from a row, and row by row.
+-- Those that fall, gathered member by member from a set, and the pairs that a round drops, row by row.
 -- Assumes nothing.
-use mathlib.Core.Path.{_≡_, refl, sym, ap, ap₂, _∙_, subst, fun-ext}
+use mathlib.Core.Path.{_≡_, refl, sym, ap, _∙_, subst, fun-ext}
 use mathlib.Core.Bool.{Bool, true, false, not, _&&_, _||_, and-true, and-false, or-true, or-false, true≢false}
 use mathlib.Core.List.{List}
-use mathlib.Core.Logic.{_≢_, _⊎_, inl, inr}
+use mathlib.Core.Logic.{_≢_}
 use Prim.Native.Nat.{ℕ, _^_, _<_}
 use native.Mathlib.Decide.{ℕ-discrete, decLt}
 use borrow.Author.Tests.{eq-eqb, ne-eqb}
@@ -12,9 +12,9 @@ use Rattle.simulation.specs.Limits.{most-states}
 use Rattle.simulation.specs.Sum.{when}
 use Rattle.simulation.specs.Table.{Table, states-of}
 use Rattle.simulation.specs.Round.{Relation, related, survives}
-use Rattle.simulation.proofs.Finite.Tests.{either, both as both-of, and-left, and-right, is-false}
+use Rattle.simulation.proofs.Finite.Tests.{both as both-of, and-left, and-right, is-false}
 use Rattle.simulation.proofs.Simulation.Relation.{relation-at, relation-right}
-use Rattle.relation.specs.Mask.{Test, member, with-member, without-member, both, Lowest}
+use Rattle.relation.specs.Mask.{Test, member, with-member, without-member, except, Lowest}
 use Rattle.relation.specs.Words.{mask, row-of, height, put-row}
 use Rattle.relation.specs.declared.set.Set.{Set}
 use Rattle.relation.proofs.Sets.{mask-lt, row-put, row-put-other}
@@ -56,6 +56,14 @@ module _ {pass : Bool} {t f g : ℕ} (j : Judged pass t f g) where
   judged-same : pass ≡ true → (u : ℕ) → member g u ≡ member f u
   judged-same e u = judged-at u ∙ ap (λ (b : Bool). (eqb u t && not b) || member f u) e ∙ ap (λ (b : Bool). b || member f u) (and-false (eqb u t))
 
+-- nothing has fallen where all of the set is left
+pub drop-start : (Y : Test) (x : ℕ) {f : ℕ} → f ≡ 0 → Dropped (except (member x) Y) x f
+drop-start Y x e = record { at = λ u. ap (λ (n : ℕ). member n u) e ∙ member-none u ∙ none (member x u) (not (Y u)) }
+  where
+    none : (a b : Bool) → false ≡ ((a && b) && not a)
+    none true b = sym (and-false b)
+    none false b = refl
+
 -- the lowest member is judged
 pub drop-next : {F : Test} {x y t f g : ℕ} {pass : Bool} → Lowest (member x) t → member y ≡ without-member t (member x) → Judged pass t f g → F t ≡ not pass → Dropped F x f → Dropped F y g
 drop-next {F} {x} {y} {t} {f} {g} {pass} low rest judged e h = record { at = λ u. go u (ℕ-discrete u t) }
@@ -76,21 +84,14 @@ drop-next {F} {x} {y} {t} {f} {g} {pass} low rest judged e h = record { at = λ 
 pub drop-end : {F : Test} {x f : ℕ} → x ≡ 0 → Dropped F x f → member f ≡ F
 drop-end {F} {x} e h = fun-ext (λ u. h .at u ∙ ap (λ (n : ℕ). F u && not (member n u)) e ∙ ap (λ (b : Bool). F u && not b) (member-none u) ∙ and-true (F u))
 
-pub both-first : (x y z t : ℕ) → member z ≡ both (member x) (member y) → member z t ≡ true → member x t ≡ true
-both-first x y z t e h = first (member x t) (member y t) (ap (λ (X : Test). X t) (sym e) ∙ h)
-  where
-    first : (a b : Bool) → (a && b) ≡ true → a ≡ true
-    first true b h = refl
-    first false b h = h
-
 -- both tests, or the one that decides
-with-both : (a b : Bool) → (a && not (a && b)) ≡ (a && not b)
+pub with-both : (a b : Bool) → (a && not (a && b)) ≡ (a && not b)
 with-both true b = refl
 with-both false b = refl
 
 module _ (M N : Table) (rows : List ℕ) (s : ℕ) (a : s < states-of M) (columns : Columns N (row-of rows s)) where
   -- a row of the relation is the mask
-  related-row : (t : ℕ) → related (held M N rows) s t ≡ holds rows s t
+  pub related-row : (t : ℕ) → related (held M N rows) s t ≡ holds rows s t
   related-row t = go (decLt t (states-of N))
     where
       go : Dec (t < states-of N) → related (held M N rows) s t ≡ holds rows s t
@@ -99,87 +100,44 @@ module _ (M N : Table) (rows : List ℕ) (s : ℕ) (a : s < states-of M) (column
           is-false (related (held M N rows) s t) (λ h. b (relation-right (states-of M) (states-of N) (holds rows) s t h))
           ∙ sym (is-false (holds rows s t) (λ h. b (columns t h)))
 
-  falls-is : (t : ℕ) → falls M N (held M N rows) s t ≡ (holds rows s t && not (matched M N (held M N rows) s t))
+  -- of a pair that is there, the match decides
+  pub falls-is : (t : ℕ) → falls M N (held M N rows) s t ≡ (holds rows s t && not (matched M N (held M N rows) s t))
   unfolding survives
   falls-is t = with-both (related (held M N rows) s t) (matched M N (held M N rows) s t) ∙ ap (λ (b : Bool). b && not (matched M N (held M N rows) s t)) (related-row t)
 
-  -- of a pair that is there, the match decides
-  pub falls-here : (t : ℕ) → holds rows s t ≡ true → falls M N (held M N rows) s t ≡ not (matched M N (held M N rows) s t)
-  falls-here t e = falls-is t ∙ ap (λ (b : Bool). b && not (matched M N (held M N rows) s t)) e
-
-  -- no pair falls but those in doubt
-  pub drop-start : (doubt : ℕ) {x f : ℕ} → member x ≡ both (holds rows s) (member doubt) → f ≡ 0 → Doubtless M N (held M N rows) s (member doubt) → Dropped (falls M N (held M N rows) s) x f
-  drop-start doubt {x} {f} e z sure =
-      record { at = λ u. ap (λ (n : ℕ). member n u) z ∙ member-none u ∙ sym (is-false (falls M N (held M N rows) s u && not (member x u)) (go u (either (member doubt u)))) }
-    where
-      out : (a b c : Bool) → T ((a && not b) && not (a && c)) → T c → ⊥
-      out true b true h _ = absurd (subst T (and-false (not b)) h)
-      out true b false h c = c
-      out false b c h _ = h
-
-      sure-of : (a b c : Bool) → T ((a && not b) && not c) → T a × T (not b)
-      sure-of true true c h = absurd h
-      sure-of true false c h = (tt, tt)
-      sure-of false b c h = absurd h
-
-      go : (u : ℕ) → T (member doubt u) ⊎ T (not (member doubt u)) → T (falls M N (held M N rows) s u && not (member x u)) → ⊥
-      go u (inl d) h =
-          out (holds rows s u) (matched M N (held M N rows) s u) (member doubt u)
-          (subst T (ap₂ (λ (a b : Bool). a && not b) (falls-is u) (ap (λ (X : Test). X u) e)) h) d
-      go u (inr d) h =
-          let y = sure-of (holds rows s u) (matched M N (held M N rows) s u) (member x u) (subst T (ap (λ (a : Bool). a && not (member x u)) (falls-is u)) h) in
-          T-not (matched M N (held M N rows) s u) (y .1) (sure u (is-false (member doubt u) (T-not (member doubt u) d)) (subst T (sym (related-row u)) (y .0)))
-
--- the rows of `left` wait, with what is in doubt of each; of the others, those that have a pair that falls are in `fell`, and that pair in `lost`
-pub record Dropping (M N : Table) (R : Relation) (left : ℕ) (doubt lost : List ℕ) (fell : ℕ) : Type 0 where
-  pub waits : (s : ℕ) → member left s ≡ true → (s < states-of M) × Doubtless M N R s (member (row-of doubt s))
-  pub exact : (s t : ℕ) → s < states-of M → member left s ≡ false → holds lost s t ≡ falls M N R s t
+-- of the rows that do not wait, those that have a pair that falls are in `fell`, and that pair in `lost`
+pub record Finding (M N : Table) (R : Relation) (waits : Test) (lost : List ℕ) (fell : ℕ) : Type 0 where
+  pub exact : (s t : ℕ) → s < states-of M → waits s ≡ false → holds lost s t ≡ falls M N R s t
   pub within : (s t : ℕ) → holds lost s t ≡ true → (s < states-of M) × (member fell s ≡ true)
   pub some : fell ≢ 0 → (s : ℕ) × (t : ℕ) × (s < states-of M) × T (falls M N R s t)
 
--- at first the rows with a pair in doubt wait, and in no other a pair falls
-pub dropping-start : {M N : Table} {rows doubt lost : List ℕ} {doubtful : ℕ} → Ready M N rows doubtful doubt → Empty lost → Dropping M N (held M N rows) doubtful doubt lost 0
-unfolding survives
-dropping-start {M} {N} {rows} {doubt} {lost} {doubtful} ready empty =
+-- at first none is lost
+pub finding-start : {M N : Table} {R : Relation} {waits : Test} {lost : List ℕ} {fell : ℕ} → fell ≡ 0 → Empty lost
+    → ((s t : ℕ) → s < states-of M → waits s ≡ false → T (falls M N R s t) → ⊥) → Finding M N R waits lost fell
+finding-start {M} {N} {R} none empty kept =
     record {
-      waits = λ s m. (ready .states s m, λ t d h. ready .sure s (ready .states s m) t (ap (λ (b : Bool). b && holds doubt s t) m ∙ d) h);
-      exact = λ s t a m. empty s t ∙ sym (is-false (falls M N (held M N rows) s t) (kept s t a m));
+      exact = λ s t a m. empty s t ∙ sym (is-false (falls M N R s t) (kept s t a m));
       within = λ s t h. absurd (true≢false (sym h ∙ empty s t));
-      some = λ d. absurd (d refl);
+      some = λ d. absurd (d none);
     }
-  where
-    kept : (s t : ℕ) → s < states-of M → member doubtful s ≡ false → T (falls M N (held M N rows) s t) → ⊥
-    kept s t a m h =
-        let x : T (related (held M N rows) s t) = and-left (related (held M N rows) s t) (not (survives M N (held M N rows) s t)) h in
-        T-not (survives M N (held M N rows) s t) (and-right (related (held M N rows) s t) (not (survives M N (held M N rows) s t)) h)
-        (both-of (related (held M N rows) s t) (matched M N (held M N rows) s t) x (ready .sure s a t (ap (λ (b : Bool). b && holds doubt s t) m) x))
 
 -- one row more is judged
-pub dropping-next : {M N : Table} {R : Relation} {left rest s fell fell′ : ℕ} {doubt lost : List ℕ} (z row : Set) → s < height doubt → s < height lost → fell′ < 2 ^ most-states
-    → member left s ≡ true → member rest ≡ without-member s (member left) → member (mask row) ≡ falls M N R s → Judged (eqb (mask row) 0) s fell fell′
-    → Dropping M N R left doubt lost fell → Dropping M N R rest (put-row doubt s z) (put-row lost s row) fell′
-dropping-next {M} {N} {R} {left} {rest} {s} {fell} {fell′} {doubt} {lost} z row room room′ small has e d judged h =
+pub finding-next : {M N : Table} {R : Relation} {waits later : Test} {s fell fell′ : ℕ} {lost : List ℕ} (row : Set) → s < states-of M → s < height lost → fell′ < 2 ^ most-states
+    → ((u : ℕ) → u ≢ s → later u ≡ waits u) → member (mask row) ≡ falls M N R s → Judged (eqb (mask row) 0) s fell fell′
+    → Finding M N R waits lost fell → Finding M N R later (put-row lost s row) fell′
+finding-next {M} {N} {R} {waits} {later} {s} {fell} {fell′} {lost} row a room small e d judged h =
     record {
-      waits = λ u m. wait u m (ℕ-discrete u s);
       exact = λ u t a m. at u t a m (ℕ-discrete u s);
       within = λ u t m. inside u t m (ℕ-discrete u s);
       some = found (ℕ-discrete (mask row) 0);
     }
   where
-    a : s < states-of M
-    a = h .waits s has .0
-
-    wait : (u : ℕ) → member rest u ≡ true → Dec (u ≡ s) → (u < states-of M) × Doubtless M N R u (member (row-of (put-row doubt s z) u))
-    wait u m (yes c) = absurd (true≢false (sym m ∙ ap (member rest) c ∙ left-self left rest s e))
-    wait u m (no c) =
-        subst (λ (x : ℕ). (u < states-of M) × Doubtless M N R u (member x)) (sym (row-put-other doubt s u z c)) (h .waits u (sym (left-other left rest s e u c) ∙ m))
-
     here : (t : ℕ) → holds (put-row lost s row) s t ≡ member (mask row) t
-    here t = ap (λ (y : ℕ). member y t) (row-put lost s row room′)
+    here t = ap (λ (y : ℕ). member y t) (row-put lost s row room)
 
-    at : (u t : ℕ) → u < states-of M → member rest u ≡ false → Dec (u ≡ s) → holds (put-row lost s row) u t ≡ falls M N R u t
+    at : (u t : ℕ) → u < states-of M → later u ≡ false → Dec (u ≡ s) → holds (put-row lost s row) u t ≡ falls M N R u t
     at u t b m (yes c) = subst (λ (u : ℕ). holds (put-row lost s row) u t ≡ falls M N R u t) (sym c) (here t ∙ ap (λ (X : Test). X t) d)
-    at u t b m (no c) = ap (λ (y : ℕ). member y t) (row-put-other lost s u row c) ∙ h .exact u t b (sym (left-other left rest s e u c) ∙ m)
+    at u t b m (no c) = ap (λ (y : ℕ). member y t) (row-put-other lost s u row c) ∙ h .exact u t b (sym (e u c) ∙ m)
 
     joined : mask row ≢ 0 → member fell′ s ≡ true
     joined n = judged-here judged ∙ ap (λ (b : Bool). not b || member fell s) (ne-eqb (mask row) 0 n)
@@ -198,8 +156,8 @@ dropping-next {M} {N} {R} {left} {rest} {s} {fell} {fell′} {doubt} {lost} z ro
     found (no y) n = let x = some-member (mask row) (mask-lt row) y in (s, x .0, a, subst (λ (X : Test). T (X (x .0))) d (x .1))
 
 -- no row waits
-pub dropping-end : {M N : Table} {R : Relation} {left fell : ℕ} {doubt lost : List ℕ} → left ≡ 0 → Dropping M N R left doubt lost fell → Fallen M N R lost fell
-dropping-end {M} {N} {R} {left} {fell} {doubt} {lost} e h =
+pub finding-end : {M N : Table} {R : Relation} {waits : Test} {fell : ℕ} {lost : List ℕ} → ((s : ℕ) → s < states-of M → waits s ≡ false) → Finding M N R waits lost fell → Fallen M N R lost fell
+finding-end {M} {N} {R} {waits} {fell} {lost} e h =
     record {
       exact = exact;
       within = h .within;
@@ -207,4 +165,43 @@ dropping-end {M} {N} {R} {left} {fell} {doubt} {lost} e h =
     }
   where
     exact : Lost M N R lost
-    exact s t a = h .exact s t a (ap (λ (n : ℕ). member n s) e ∙ member-none s)
+    exact s t a = h .exact s t a (e s a)
+
+-- the rows of `left` wait, with what is in doubt of each
+pub record Dropping (M N : Table) (R : Relation) (left : ℕ) (doubt lost : List ℕ) (fell : ℕ) : Type 0 where
+  pub waits : (s : ℕ) → member left s ≡ true → (s < states-of M) × Doubtless M N R s (member (row-of doubt s))
+  pub found : Finding M N R (member left) lost fell
+
+-- at first the rows with a pair in doubt wait, and in no other a pair falls
+pub dropping-start : {M N : Table} {rows doubt lost : List ℕ} {doubtful : ℕ} → Ready M N rows doubtful doubt → Empty lost → Dropping M N (held M N rows) doubtful doubt lost 0
+unfolding survives
+dropping-start {M} {N} {rows} {doubt} {lost} {doubtful} ready empty =
+    record {
+      waits = λ s m. (ready .states s m, λ t d h. ready .sure s (ready .states s m) t (ap (λ (b : Bool). b && holds doubt s t) m ∙ d) h);
+      found = finding-start refl empty kept;
+    }
+  where
+    kept : (s t : ℕ) → s < states-of M → member doubtful s ≡ false → T (falls M N (held M N rows) s t) → ⊥
+    kept s t a m h =
+        let x : T (related (held M N rows) s t) = and-left (related (held M N rows) s t) (not (survives M N (held M N rows) s t)) h in
+        T-not (survives M N (held M N rows) s t) (and-right (related (held M N rows) s t) (not (survives M N (held M N rows) s t)) h)
+        (both-of (related (held M N rows) s t) (matched M N (held M N rows) s t) x (ready .sure s a t (ap (λ (b : Bool). b && holds doubt s t) m) x))
+
+-- one row more is judged
+pub dropping-next : {M N : Table} {R : Relation} {left rest s fell fell′ : ℕ} {doubt lost : List ℕ} (z row : Set) → s < height doubt → s < height lost → fell′ < 2 ^ most-states
+    → member left s ≡ true → member rest ≡ without-member s (member left) → member (mask row) ≡ falls M N R s → Judged (eqb (mask row) 0) s fell fell′
+    → Dropping M N R left doubt lost fell → Dropping M N R rest (put-row doubt s z) (put-row lost s row) fell′
+dropping-next {M} {N} {R} {left} {rest} {s} {fell} {fell′} {doubt} {lost} z row room room′ small has e d judged h =
+    record {
+      waits = λ u m. wait u m (ℕ-discrete u s);
+      found = finding-next row (h .waits s has .0) room′ small (left-other left rest s e) d judged (h .found);
+    }
+  where
+    wait : (u : ℕ) → member rest u ≡ true → Dec (u ≡ s) → (u < states-of M) × Doubtless M N R u (member (row-of (put-row doubt s z) u))
+    wait u m (yes c) = absurd (true≢false (sym m ∙ ap (member rest) c ∙ left-self left rest s e))
+    wait u m (no c) =
+        subst (λ (x : ℕ). (u < states-of M) × Doubtless M N R u (member x)) (sym (row-put-other doubt s u z c)) (h .waits u (sym (left-other left rest s e u c) ∙ m))
+
+-- no row waits
+pub dropping-end : {M N : Table} {R : Relation} {left fell : ℕ} {doubt lost : List ℕ} → left ≡ 0 → Dropping M N R left doubt lost fell → Fallen M N R lost fell
+dropping-end e h = finding-end (λ s _. ap (λ (n : ℕ). member n s) e ∙ member-none s) (h .found)

@@ -84,21 +84,21 @@ module _ (M N : Table) where
   stays-by (suc d) k e = let r = stays-by d k e in rw suc-add (stays M N (d + k) (r .0), r .0 ∙ r .1)
 
   -- before the first round all pairs are there
+  pub all-pairs : (s t : ℕ) → s < states-of M → related (round M N 0) s t ≡ ltb t (states-of N)
+  all-pairs s t a = go (decLt t (states-of N))
+    where
+      go : Dec (t < states-of N) → related (round M N 0) s t ≡ ltb t (states-of N)
+      go (yes b) = is-true (related (round M N 0) s t) (in-zero M N a b) ∙ sym (lt-ltb t (states-of N) b)
+      go (no b) = is-false (related (round M N 0) s t) (λ h. b (in-right M N 0 s t h)) ∙ sym (le-ltb t (states-of N) (omega arith))
+
   pub begins : (rows ranks : List ℕ) → ((s t : ℕ) → s < states-of M → holds rows s t ≡ ltb t (states-of N))
       → ((s t : ℕ) → s < states-of M → t < states-of N → getD ranks (s * states-of N + t) 0 ≡ 0) → After M N 0 rows ranks
   begins rows ranks f g =
       record {
-        rows-are = λ s t a. f s t a ∙ all s t a;
+        rows-are = λ s t a. f s t a ∙ sym (all-pairs s t a);
         ranks-are = λ s t a b. g s t a b ∙ sym (shown-none (rank M N s t));
         reached = zero-le;
       }
-    where
-      all : (s t : ℕ) → s < states-of M → ltb t (states-of N) ≡ related (round M N 0) s t
-      all s t a = go (decLt t (states-of N))
-        where
-          go : Dec (t < states-of N) → ltb t (states-of N) ≡ related (round M N 0) s t
-          go (yes b) = lt-ltb t (states-of N) b ∙ sym (is-true (related (round M N 0) s t) (in-zero M N a b))
-          go (no b) = le-ltb t (states-of N) (omega arith) ∙ sym (is-false (related (round M N 0) s t) (λ h. b (in-right M N 0 s t h)))
 
   module _ (k : ℕ) (rows ranks : List ℕ) (after : After M N k rows ranks) (lost : List ℕ) (fell : Lost M N (held M N rows) lost) where
     lost-is : (s t : ℕ) → s < states-of M → holds lost s t ≡ (related (round M N k) s t && not (related (round M N (suc k)) s t))

@@ -7,16 +7,14 @@ use mathlib.Core.Logic.{_≢_}
 use Prim.Native.Nat.{ℕ, suc, _+_, _*_, _≤_, _<_}
 use native.Mathlib.Numerals.{add-one}
 use native.Mathlib.Omega.{arith}
-use borrow.Author.Tests.{lt-ltb, ltb-true}
 use lib.Dec.{T}
 use lib.ListN.{length, getD}
-use Rattle.simulation.specs.Limits.{most-states}
 use Rattle.simulation.specs.Table.{Transition, Table, weights, target-at, states-of, steps, transition}
 use Rattle.simulation.specs.Round.{Relation, related, round}
 use Rattle.simulation.proofs.Finite.Tests.{and-left, is-true, is-false, same-test}
 use Rattle.simulation.proofs.Simulation.Relation.{relation-at, relation-left, relation-right}
 use Rattle.simulation.proofs.Simulation.Rounds.{in-right, falls as round-falls}
-use Rattle.relation.specs.Mask.{Test, member, up-to}
+use Rattle.relation.specs.Mask.{Test, member}
 use Rattle.relation.proofs.Mask.{member-none}
 use Rattle.form.specs.Form.{Loaded, start-of, transition-at, table-of}
 use Rattle.form.proofs.FormLaws.{counts, transition-of, state-of, weights-length, targets-length, sound}
@@ -25,7 +23,7 @@ use Rattle.matching.specs.Held.{held, matched}
 use Rattle.relation.specs.Words.{row-of}
 use Rattle.links.specs.Links.{Linked}
 use Rattle.links.specs.Links.{Doubted}
-use Rattle.rounds.specs.Rounds.{Columns, Placed, After, Ready, Settled, Standing, Open, Refined}
+use Rattle.rounds.specs.Rounds.{Columns, Placed, After, Ready, Settled, Fallen, Standing, Refined}
 use Rattle.rounds.proofs.Fitting.{Alike, matched-agree}
 use Rattle.rounds.proofs.Settling.{row-place}
 use Rattle.rounds.proofs.RoundLaws.{held-round, in-test, kept-unless, lost-rank, more, moves, ranks-whole, rounds-are, rows-kept}
@@ -34,18 +32,10 @@ use Rattle.rounds.proofs.RoundLaws.{held-round, in-test, kept-unless, l
 pub round-columns : {M N : Table} {k : ℕ} {rows ranks : List ℕ} → After M N k rows ranks → (s : ℕ) → s < states-of M → Columns N (row-of rows s)
 round-columns {M} {N} {k} after s a t h = in-right M N k s t (subst T (after .rows-are s t a) h)
 
--- where all pairs are in doubt nothing is asked
-pub ready : {M N : Table} {rows doubt : List ℕ} {p doubtful : ℕ} → states-of M ≤ most-states → states-of N ≤ most-states → Open doubt → p ≡ states-of M → member doubtful ≡ up-to p
-    → ((s : ℕ) → s < states-of M → Columns N (row-of rows s)) → Ready M N rows doubtful doubt
-ready {M} {N} {rows} {doubt} {p} {doubtful} few-rows few doubts e d columns =
-    record {
-      columns = columns;
-      states = λ s m. let a : s < p = ltb-true s p (sym (ap (λ (X : Test). X s) d) ∙ m) in omega arith;
-      sure = λ s a t q h.
-          let b : t < states-of N = relation-right (states-of M) (states-of N) (holds rows) s t h in
-          let m : member doubtful s ≡ true = ap (λ (X : Test). X s) d ∙ lt-ltb s p (omega arith) in
-          absurd (true≢false (sym (ap₂ _&&_ m (doubts .all s t (omega arith) (omega arith))) ∙ q));
-    }
+-- the standing before the first round
+pub stands-first : {M N : Table} {fell : ℕ} {rows ranks lost : List ℕ} → After M N 0 rows ranks → Fallen M N (round M N 0) lost fell → Standing M N 0 rows ranks lost fell
+stands-first {M} {N} {fell} {rows} {ranks} {lost} after next =
+    record { after = after; next = subst (λ (R : Relation). Fallen M N R lost fell) (sym (held-round M N 0 rows (after .rows-are))) next }
 
 -- rows that lose pairs hold less
 pub held-less : (M N : Table) {q k : ℕ} {X : ℕ → Test} {rows rows′ ranks ranks′ : List ℕ} → Settled q k X rows rows′ ranks ranks′

@@ -5,23 +5,31 @@ use mathlib.Core.Bool.{Bool, true, false, cond, not, _&&_}
 use mathlib.Core.List.{List}
 use mathlib.Core.Logic.{_≢_}
 use Prim.Native.Nat.{ℕ, _+_, _-_, _*_, _≤_, _<_}
-use lib.Dec.{T, eqb, leb}
+use lib.Dec.{T, eqb, leb, ltb}
 use lib.ListN.{length, getD}
 use Rattle.simulation.specs.Limits.{most-states}
 use Rattle.relation.specs.Words.{row-of, height}
 use Rattle.relation.specs.Mask.{Test, member, with-bit}
 use Rattle.form.specs.Form.{table-of}
 use Rattle.relation.specs.Related.{holds}
-use Rattle.matching.specs.Held.{held, matched, relation-of}
+use Rattle.matching.specs.Held.{held, matched, coded, relation-of}
 use Rattle.matching.specs.Known.{Lent, Tried}
 use Rattle.links.specs.Links.{Linked}
-use Rattle.simulation.specs.Sum.{when}
-use Rattle.simulation.specs.Table.{Table, states-of}
+use Rattle.simulation.specs.Sum.{when, all-of}
+use Rattle.simulation.specs.Table.{Transition, Table, states-of, steps}
 use Rattle.simulation.specs.Round.{Relation, related, survives, round, rank, rank-list, maximum}
 
 -- the pair (s, t) of R is not kept by the round after R
 abbrev pub falls : Table → Table → Relation → ℕ → ℕ → Bool
 falls M N R s t = related R s t && not (survives M N R s t)
+
+-- the states of a table that lack a code
+abbrev pub lacks : Table → ℕ → Test
+lacks N c t = ltb t (states-of N) && not (coded c (steps N t))
+
+-- those that lack a code of the state s of another table
+abbrev pub lacks-one : Table → Table → ℕ → Test
+lacks-one M N s t = ltb t (states-of N) && not (all-of (λ (m : Transition). coded (m .code) (steps N t)) (steps M s))
 
 -- a rank that round k or one before it has shown; 0 for any other
 abbrev pub shown : ℕ → ℕ → ℕ
@@ -84,11 +92,6 @@ pub record Cleared (n : ℕ) (l l′ : List ℕ) : Type 0 where
 pub record Standing (M N : Table) (k : ℕ) (rows ranks lost : List ℕ) (fell : ℕ) : Type 0 where
   pub after : After M N k rows ranks
   pub next : Fallen M N (held M N rows) lost fell
-
--- every member of a row may fall
-pub record Open (doubt : List ℕ) : Type 0 where
-  pub room : most-states ≤ height doubt
-  pub all : (s t : ℕ) → s < most-states → t < most-states → holds doubt s t ≡ true
 
 -- what a turn starts from: two tables, their links, room for the work, and a standing
 pub record Turning (f g masks ranks rows doubt lost before behind tried x : List ℕ) (k fell : ℕ) : Type 0 where

@@ -27,7 +27,7 @@ use Rattle.relation.specs.declared.set.Set.{Set}
 use Rattle.relation.proofs.Mask.{member-none, below-or-not}
 use Rattle.choice.specs.Choice.{Lost}
 use Rattle.tree.proofs.Bytes.{members-all, steps-lowest, no-steps, steps-bytes, node-is}
-use Rattle.order.proofs.Pairs.{place-below, member-holds}
+use Rattle.counting.proofs.Pairs.{place-below, member-holds}
 use Rattle.tree.specs.Parts.{At, node-of, step-of, PartOf, Left, Given, StepGiven, StepWritten, NodeGiven, Around}
 use Rattle.tree.proofs.Places.{at-self, at-is, at-front, at-back, piece, placed, piece-length, placed-length, placed-before, placed-in}
 use Rattle.tree.proofs.Lengths.{step-size}

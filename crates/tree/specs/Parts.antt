@@ -14,7 +14,7 @@ use Rattle.simulation.specs.Length.{tree-length}
 use Rattle.form.specs.Form.{table-of}
 use Rattle.relation.specs.Mask.{member}
 use Rattle.relation.specs.Words.{words}
-use Rattle.order.specs.Count.{longest}
+use Rattle.counting.specs.Count.{longest}
 use Rattle.measure.specs.Lengths.{Measured}
 use Rattle.relate.specs.Ranked.{Ranked, Lent}
 

@@ -1,10 +1,10 @@
 // Writing a tree whose lengths are known: a node holds transitions and a transition holds nodes. The parts of the buffer are written in any order,
 // so that a call is made for parts of at most half the length only, and a longer part is left for a loop: the depth of calls is the logarithm of the length.
 use choice::find_sets;
+use counting::count::LONGEST;
+use counting::pair::number;
 use measure::node_length;
 use measure::pair_length;
-use order::count::LONGEST;
-use order::pair::number;
 use relation::rows;
 use relation::set;
 use relation::set::Set;

@@ -17,7 +17,7 @@ use Rattle.flows.specs.Flow.{flow-room}
 use Rattle.flows.specs.FlowSteps.{Flowed}
 use Rattle.flows.proofs.FlowPlace.{right-amounts}
 use Rattle.buffer.specs.Buffer.{over}
-use Rattle.order.specs.Count.{longest}
+use Rattle.counting.specs.Count.{longest}
 use Rattle.answer.specs.Numbers.{refusal, with-written}
 use Rattle.answer.specs.declared.answer.Answer.{Answer}
 use Rattle.witness.specs.Shown.{tree-bytes, FlowShown, TreeShown}

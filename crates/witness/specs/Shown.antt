@@ -13,7 +13,7 @@ use Rattle.tree.specs.Parts.{Given}
 use Rattle.measure.specs.Lengths.{Measured}
 use Rattle.flows.specs.Flow.{Right, flow-bytes, flow-room}
 use Rattle.buffer.specs.Buffer.{over}
-use Rattle.order.specs.Count.{longest}
+use Rattle.counting.specs.Count.{longest}
 use Rattle.answer.specs.Numbers.{refusal, with-written}
 use Rattle.answer.specs.declared.answer.Answer.{Answer}
 

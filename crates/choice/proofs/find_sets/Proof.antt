@@ -1,7 +1,7 @@
 -- `choice::find_sets` meets its contract. Assumes nothing.
 use mathlib.Core.List.{List}
-use mathlib.Core.Path.{_≡_, refl, sym, ap, ap₂, _∙_, subst}
-use mathlib.Core.Bool.{Bool, true, false, not}
+use mathlib.Core.Path.{_≡_, refl, sym, ap₂, _∙_, subst}
+use mathlib.Core.Bool.{Bool, true}
 use Prim.Native.Nat.{ℕ, _-_, _+_, _<_, _≤_, pred}
 use native.Mathlib.Omega.{arith}
 use lib.ListN.{length}
@@ -10,7 +10,7 @@ use Rattle.simulation.specs.Round.{Relation, round, rank}
 use Rattle.simulation.specs.Table.{Transition, steps}
 use Rattle.form.proofs.FormLaws.{limits, start-bound}
 use Rattle.form.specs.Form.{table-of, start-of, transitions-of, transition-at}
-use Rattle.choice.proofs.Choosing.{Gathering, number-of, scan-found, scan-end, chosen-unfit, gathering-start, gathering-next, gathering-end}
+use Rattle.choice.proofs.Choosing.{Gathering, number-of, one-passes, none-passes, tested-one, gathering-start, gathering-next, gathering-end}
 use Rattle.choice.proofs.Choices.{choice-width}
 use Rattle.relate.proofs.Places.{few-places, targets-count}
 use Rattle.relate.specs.Ranked.{Ranked, Lent}
@@ -47,17 +47,21 @@ module _ {first second ranks : List ℕ} {s t r j : ℕ} (g : Ranked first secon
 
     -- number k is one that j fits
     stopped : {b : Bool} {sets′ : List ℕ} → k < end → Parted R (transition-at first j) (transition-at second k) b sets sets′ → b ≡ true
-        → Tested first second s t r j false sets′
+        → Tested first second s t r j k sets′
     stopped lt a f =
-        let some = scan-found second (g .second-loaded) t (p .right) _ (l .gathering .scan) (omega (arith, l .ends)) (sym (a .fit) ∙ f) in
-        record { unfit = ap not some; found = λ w. absurd (chosen-unfit first second s t (g .first-loaded) p e w some) }
+        let low = l .gathering .scan .low in
+        let h : k < start-of second (t + 1) = omega (arith, l .ends) in
+        tested-one first second s t (g .first-loaded) p e low h (one-passes second (g .second-loaded) t (p .right) _ low h (sym (a .fit) ∙ f))
 
     -- all of t are passed
-    passed : end ≤ k → Tested first second s t r j true sets
+    passed : end ≤ k → Tested first second s t r j k sets
     passed le =
         let f : start-of second (t + 1) ≤ k = omega (arith, l .ends) in
         record {
-          unfit = ap not (scan-end second (g .second-loaded) t (p .right) _ (l .gathering .scan) f);
+          low = l .gathering .scan .low;
+          high = l .gathering .scan .high;
+          one = λ h. absurd (omega (arith, h));
+          none = none-passes second (g .second-loaded) t (p .right) _ (l .gathering .scan);
           found = λ w. record {
             set = λ i b.
                 gathering-end R (transition-at first j) second (g .second-loaded) t (p .right) (l .gathering) f i

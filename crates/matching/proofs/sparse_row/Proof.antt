@@ -1,63 +1,65 @@
--- `sparse_row` meets its contract: by one word, or by two. Assumes nothing.
-use mathlib.Core.Path.{_≡_, _∙_}
-use Prim.Native.Nat.{_-_}
-use lib.ListN.{length, take, drop, length-take, length-drop}
-use Rattle.simulation.specs.Limits.{most-states}
-use Rattle.relation.specs.Mask.{member}
-use Rattle.relation.specs.Words.{row-of}
-use Rattle.matching.specs.Held.{row-at}
-use Rattle.relation.proofs.Sets.{low-part, high-part, part-take, part-drop}
-use Rattle.matching.proofs.Gathering.{places-take, places-drop}
-use borrow.Author.Needs.{needs}
+-- `sparse_row` meets its contract: the words passed are filled. Assumes nothing.
+use Prim.Native.Nat.{_-_, _≤_}
 use native.Mathlib.Omega.{arith}
+use Rattle.relation.specs.Mask.{member}
+use Rattle.relation.specs.Words.{words, row-of}
+use Rattle.relation.proofs.Sets.{Filled, filled-start, filled-next, filled-all}
+use borrow.Author.Needs.{needs}
 use Rattle.matching.proofs.sparse_row.Statement.{statement}
 use Rattle.matching.proofs.sparse_row.Tie as tie
 
-row-word-requires : tie.Need-row-word-requires
-row-word-requires c κs = search needs
+abbrev Inv-loop : tie.InvT-loop
+Inv-loop rows s to row₀ w₀ row w = (w ≤ words) × Filled (member (row-of rows s)) to w (row .words)
 
-returns : tie.Need-returns
-returns c = let a = c .before .before .before .before .args in low-part (row-at (row-of (a .rows .now) (a .s)) (a .to .now)) (length (a .to .now)) (c .row-word .result) (omega arith) (c .row-word .ensures)
+abbrev μ-loop : tie.MeasureT-loop
+μ-loop rows s to row₀ w₀ row w = words - w
 
-slice-aggregate-row-word : tie.Need-slice-aggregate-row-word
-slice-aggregate-row-word c = let e : 64 ≡ length (take 64 (c .before .before .before .before .args .to .now)) = simp length-take (omega arith) in e
+empty-requires : tie.Need-empty-requires Inv-loop μ-loop
+empty-requires c κs = search needs
 
-row-word-requires-2 : tie.Need-row-word-requires-2
-row-word-requires-2 c κs = (c .before .before .before .before .pre .0, places-take most-states 64 (c .before .before .before .before .args .to .now) (c .before .before .before .before .pre .1), simp length-take (omega arith))
+loop-holds : tie.Need-loop-holds Inv-loop μ-loop
+loop-holds c = let a = c .before .before .before .args in (omega arith, filled-start (member (row-of (a .rows .now) (a .s))) (a .to .now) (search needs))
 
-sub-row-word : tie.Need-sub-row-word
-sub-row-word c = search needs
+row-word-at-requires : tie.Need-row-word-at-requires Inv-loop μ-loop
+row-word-at-requires c κs = let g = c .before .before .before .before .before in (g .pre .0, g .pre .1, search needs)
 
-part-row-word-start : tie.Need-part-row-word-start
-part-row-word-start c = search needs
+mul-row : tie.Need-mul-row Inv-loop μ-loop
+mul-row c = search needs
 
-part-row-word-end : tie.Need-part-row-word-end
-part-row-word-end c = search needs
+element-write-row : tie.Need-element-write-row Inv-loop μ-loop
+element-write-row c = search needs
 
-row-word-requires-3 : tie.Need-row-word-requires-3
-row-word-requires-3 c κs =
-    let to = c .before .before .before .before .before .before .args .to .now in
-    let p = c .before .before .before .before .before .before .pre .1 in
-    (c .before .before .before .before .before .before .pre .0, places-take most-states (length to - 64) (drop 64 to) (places-drop most-states 64 to p), simp (length-take, length-drop) (omega (arith, p .few)))
+add-w : tie.Need-add-w Inv-loop μ-loop
+add-w c = search needs
 
-returns-2 : tie.Need-returns-2
-returns-2 c =
-    let a = c .before .before .before .before .before .before .before .args in
-    let R = row-of (a .rows .now) (a .s) in
-    let to = a .to .now in
-    high-part (row-at R to) (length to) (c .before .before .row-word2 .result) (c .row-word3 .result) (omega arith) (c .before .before .before .before .before .before .before .pre .1 .few)
-    (c .before .before .row-word2 .ensures ∙ part-take (member R) 64 to (omega arith)) (c .row-word3 .ensures ∙ part-drop (member R) 64 to (omega arith))
+loop-less : tie.Need-loop-less Inv-loop μ-loop
+loop-less c = omega arith
+
+loop-again : tie.Need-loop-again Inv-loop μ-loop
+loop-again c =
+    let l = c .before .before in
+    let a = l .before .before .before .before .args in
+    (omega arith, filled-next (member (row-of (a .rows .now) (a .s))) (a .to .now) (l .loop .w) (c .row-word-at .result) (omega arith) (l .loop .inv .1) (c .row-word-at .ensures))
+
+returns : tie.Need-returns Inv-loop μ-loop
+returns c =
+    let l = c .before in
+    let g = l .before .before .before .before in
+    let a = g .args in
+    filled-all (member (row-of (a .rows .now) (a .s))) (a .to .now) (l .loop .row) (omega arith) (g .pre .1 .few) (l .loop .inv .1)
 
 pub sparse-row-spec : {M : Type 1} → statement M
 sparse-row-spec =
     tie.close
     (tie.spec
-    row-word-requires
-    returns
-    slice-aggregate-row-word
-    row-word-requires-2
-    sub-row-word
-    part-row-word-start
-    part-row-word-end
-    row-word-requires-3
-    returns-2)
+    Inv-loop
+    μ-loop
+    empty-requires
+    loop-holds
+    row-word-at-requires
+    mul-row
+    element-write-row
+    add-w
+    loop-less
+    loop-again
+    returns)

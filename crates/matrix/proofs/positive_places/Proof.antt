@@ -1,57 +1,95 @@
--- `positive_places` meets its contract: by one word, or by two. Assumes nothing.
-use mathlib.Core.Path.{_≡_, _∙_}
-use lib.ListN.{length, take, getD, length-take}
-use Rattle.relation.proofs.Sets.{low-part, high-part, part-take, part-drop}
+-- `positive_places` meets its contract: the words passed are filled. Assumes nothing.
+use mathlib.Core.Path.{_∙_}
+use Prim.Native.Nat.{_-_, _≤_}
+use native.Mathlib.Omega.{arith}
+use lib.ListN.{length-take, length-drop}
+use Rattle.relation.specs.Words.{words}
+use Rattle.relation.proofs.Sets.{Filled, filled-start, filled-next, filled-all, slice-passing}
 use Rattle.matrix.specs.Masks.{nonzero}
 use borrow.Author.Needs.{needs}
-use native.Mathlib.Omega.{arith}
 use Rattle.matrix.proofs.positive_places.Statement.{statement}
 use Rattle.matrix.proofs.positive_places.Tie as tie
 
-positive-word-requires : tie.Need-positive-word-requires
-positive-word-requires c κs = search needs
+abbrev Inv-loop : tie.InvT-loop
+Inv-loop a n r₀ w₀ r w = (w ≤ words) × Filled nonzero a w (r .words)
 
-returns : tie.Need-returns
-returns c =
-    let a = c .before .before .before .args .a .now in
-    low-part (λ i. nonzero (getD a i 0)) (length a) (c .positive-word .result) (omega arith) (c .positive-word .ensures)
+abbrev μ-loop : tie.MeasureT-loop
+μ-loop a n r₀ w₀ r w = words - w
 
-slice-aggregate-positive-word : tie.Need-slice-aggregate-positive-word
-slice-aggregate-positive-word c =
-    let e : 64 ≡ length (take 64 (c .before .before .before .args .a .now)) = simp length-take (omega arith) in
-    e
+empty-requires : tie.Need-empty-requires Inv-loop μ-loop
+empty-requires c κs = search needs
 
-positive-word-requires-2 : tie.Need-positive-word-requires-2
-positive-word-requires-2 c κs = simp length-take (omega arith)
+loop-holds : tie.Need-loop-holds Inv-loop μ-loop
+loop-holds c = (omega arith, filled-start nonzero (c .before .before .args .a .now) (search needs))
 
-sub-positive-word : tie.Need-sub-positive-word
+start-requires : tie.Need-start-requires Inv-loop μ-loop
+start-requires c κs = search needs
+
+add-start : tie.Need-add-start Inv-loop μ-loop
+add-start c = search needs
+
+start-requires-2 : tie.Need-start-requires-2 Inv-loop μ-loop
+start-requires-2 c κs = search needs
+
+mul-positive-word : tie.Need-mul-positive-word Inv-loop μ-loop
+mul-positive-word c = search needs
+
+sub-positive-word : tie.Need-sub-positive-word Inv-loop μ-loop
 sub-positive-word c = search needs
 
-part-positive-word-start : tie.Need-part-positive-word-start
+part-positive-word-start : tie.Need-part-positive-word-start Inv-loop μ-loop
 part-positive-word-start c = search needs
 
-part-positive-word-end : tie.Need-part-positive-word-end
+part-positive-word-end : tie.Need-part-positive-word-end Inv-loop μ-loop
 part-positive-word-end c = search needs
 
-positive-word-requires-3 : tie.Need-positive-word-requires-3
-positive-word-requires-3 c κs = search needs
+positive-word-requires : tie.Need-positive-word-requires Inv-loop μ-loop
+positive-word-requires c κs = simp (length-take, length-drop) (omega arith)
 
-returns-2 : tie.Need-returns-2
-returns-2 c =
-    let a = c .before .before .before .before .before .before .args .a .now in
-    high-part (λ i. nonzero (getD a i 0)) (length a) (c .before .before .positive-word2 .result) (c .positive-word3 .result) (omega arith) (c .before .before .before .before .before .before .pre)
-    (c .before .before .positive-word2 .ensures ∙ part-take nonzero 64 a (omega arith)) (c .positive-word3 .ensures ∙ part-drop nonzero 64 a (omega arith))
+mul-r : tie.Need-mul-r Inv-loop μ-loop
+mul-r c = search needs
+
+element-write-r : tie.Need-element-write-r Inv-loop μ-loop
+element-write-r c = search needs
+
+add-w : tie.Need-add-w Inv-loop μ-loop
+add-w c = search needs
+
+loop-less : tie.Need-loop-less Inv-loop μ-loop
+loop-less c = omega arith
+
+loop-again : tie.Need-loop-again Inv-loop μ-loop
+loop-again c =
+    let s = c .before .before .before in
+    let l = s .before .before in
+    let a = l .before .before .before .args .a .now in
+    let w = l .loop .w in
+    (omega arith, filled-next nonzero a w (c .positive-word .result) (omega arith) (l .loop .inv .1) (c .positive-word .ensures ∙ slice-passing nonzero a w (s .start .ensures) (c .before .before .start2 .ensures)))
+
+returns : tie.Need-returns Inv-loop μ-loop
+returns c =
+    let l = c .before in
+    filled-all nonzero (l .before .before .before .args .a .now) (l .loop .r) (omega arith) (l .before .before .before .pre) (l .loop .inv .1)
 
 pub positive-places-spec : {M : Type 1} → statement M
 positive-places-spec =
     tie.close
     (tie.spec
-    positive-word-requires
-    returns
-    slice-aggregate-positive-word
-    positive-word-requires-2
+    Inv-loop
+    μ-loop
+    empty-requires
+    loop-holds
+    start-requires
+    add-start
+    start-requires-2
+    mul-positive-word
     sub-positive-word
     part-positive-word-start
     part-positive-word-end
-    positive-word-requires-3
-    returns-2)
+    positive-word-requires
+    mul-r
+    element-write-r
+    add-w
+    loop-less
+    loop-again
+    returns)

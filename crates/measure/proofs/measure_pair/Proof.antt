@@ -3,8 +3,8 @@ use mathlib.Core.Path.{_∙_}
 use native.Mathlib.Omega.{arith}
 use Rattle.relate.proofs.Places.{few-places}
 use Rattle.choice.specs.Choice.{Sets}
-use Rattle.order.proofs.Pairs.{rank-asked}
-use Rattle.order.proofs.Targets.{step-number}
+use Rattle.counting.proofs.Pairs.{rank-asked}
+use Rattle.counting.proofs.Targets.{step-number}
 use Rattle.measure.proofs.Measuring.{pair-choice, pair-children, pair-over, pair-under}
 use Rattle.measure.proofs.measure_pair.Statement.{statement}
 use Rattle.measure.proofs.measure_pair.Tie as tie

@@ -8,7 +8,7 @@ use Rattle.ranking.proofs.few_tried.Statement.{statement}
 use Rattle.ranking.proofs.few_tried.Tie as tie
 
 returns : tie.Need-returns
-returns c = (length-replicate {A = ℕ} (16 * most-states) 0, zeros-at (16 * most-states))
+returns c = (length-replicate {A = ℕ} (17 * most-states) 0, zeros-at (17 * most-states))
 
 pub few-tried-spec : {M : Type 1} → statement M
 few-tried-spec = tie.close (tie.spec returns)

@@ -56,7 +56,7 @@ refine-requires c κs =
       omega (arith, c .before .before .before .before .before .before .before .before .before .before .before .before .before .before .before .before .before .before .before .before .before .before .before .before .before .before .ranks .given, d .pre .ranks-room),
       d .pre .lost-room,
       d .pre .lost-empty,
-      d .pre .doubt-open,
+      d .pre .doubt-room,
       c .before .before .before .before .before .before .before .before .before .before .before .before .before .before .before .before .before .before .before .link .ensures,
       c .before .before .before .before .before .before .before .before .before .before .before .before .before .before .before .link2 .ensures,
       begun (table-of (d .args .first .now)) (table-of (d .args .second .now)) (d .args .rows .now) _ _ _ (d .pre .rows-open) e v

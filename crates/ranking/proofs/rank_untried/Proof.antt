@@ -47,15 +47,14 @@ fill-ranks-requires c κs =
     let e = c .before .before .before .before .before .before .before .before .before .before .before .before .before .before .before .empty in
     let n : length (f .result .rows) ≡ most-states * words = search needs in
     let z : length (e .result .rows) ≡ most-states * words = search needs in
-    let all = all-rows (f .result) (f .ensures) (omega (arith, n)) in
     let none = no-rows (e .result) (e .ensures) in
     record {
       first = d .pre .0;
       second = d .pre .1;
       masks-room = omega (arith, c .before .before .before .before .before .before .before .before .before .no-sets .ensures);
       ranks-room = d .pre .2;
-      rows-open = all;
-      doubt-open = all;
+      rows-open = all-rows (f .result) (f .ensures) (omega (arith, n));
+      doubt-room = omega (arith, z);
       lost-room = omega (arith, z);
       lost-empty = none;
       before-room = omega (arith, z);

@@ -1,170 +1,133 @@
--- `rounds::drop_row` meets its contract: of the members passed, those that fall are gathered. Assumes nothing.
+-- `rounds::drop_row` meets its contract: those are left that answer each of the transitions passed. Assumes nothing.
 use mathlib.Core.Path.{_≡_, refl, sym, _∙_, subst}
-use mathlib.Core.Bool.{true}
-use Prim.Native.Nat.{ℕ, _≤_, _-_}
-use lib.Dec.{T}
+use Prim.Native.Nat.{ℕ, _+_, _-_, _≤_}
+use native.Mathlib.Omega.{arith}
+use borrow.Author.Needs.{needs}
 use lib.ListN.{length}
 use Rattle.relation.specs.Mask.{member}
-use Rattle.relation.specs.Words.{words, mask, row-of, after, rest}
-use Rattle.relation.proofs.Sets.{walk-begin, walk-into, walk-on, walk-done, both-of}
-use Rattle.form.specs.Form.{table-of}
-use Rattle.form.proofs.FormLaws.{limits}
+use Rattle.relation.specs.Words.{mask, row-of}
+use Rattle.relation.proofs.Sets.{both-of}
+use Rattle.form.specs.Form.{start-of, table-of}
+use Rattle.form.proofs.FormLaws.{limits, counts, start-bound}
 use Rattle.matching.specs.Held.{relation-of}
 use Rattle.matching.specs.Known.{Tried}
 use Rattle.matching.proofs.Trying.{lent-again}
-use Rattle.rounds.specs.Rounds.{falls}
-use Rattle.links.proofs.Walks.{left-member}
-use Rattle.rounds.proofs.Dropping.{Dropped, drop-start, drop-next, drop-end, falls-here, both-first}
-use native.Mathlib.Omega.{arith}
+use Rattle.rounds.proofs.Keeping.{Answering, kept-start, kept-next, kept-columns, kept-end}
 use Rattle.rounds.proofs.drop_row.Statement.{statement}
 use Rattle.rounds.proofs.drop_row.Tie as tie
 
-abbrev Inv-loop2 : tie.InvT-loop2
-Inv-loop2 first s second masks rows tried₀ x₀ near fallen₀ w left₀ tried x fallen left = (length tried ≡ length tried₀) × (length x ≡ length x₀)
-    × ((t : ℕ) → member (rest w left near) t ≡ true → member (row-of rows s) t ≡ true)
-    × Dropped (falls (table-of first) (table-of second) (relation-of first second rows) s) (rest w left near) (mask fallen)
-    × Tried first second (relation-of first second rows) tried
-
-abbrev μ-loop2 : tie.MeasureT-loop2
-μ-loop2 first s second masks rows tried₀ x₀ near fallen₀ w left₀ tried x fallen left = left
-
 abbrev Inv-loop : tie.InvT-loop
-Inv-loop first s second masks rows tried₀ x₀ near fallen₀ w₀ tried x fallen w = (w ≤ words) × (length tried ≡ length tried₀) × (length x ≡ length x₀)
-    × ((t : ℕ) → member (after w near) t ≡ true → member (row-of rows s) t ≡ true)
-    × Dropped (falls (table-of first) (table-of second) (relation-of first second rows) s) (after w near) (mask fallen)
-    × Tried first second (relation-of first second rows) tried
+Inv-loop first s second masks rows tried₀ x₀ near end left₀ j₀ tried x left j =
+    (start-of first s ≤ j) × (j ≤ start-of first (s + 1)) × (length tried ≡ length tried₀) × (length x ≡ length x₀) × Tried first second (relation-of first second rows) tried
+    × Answering first second rows s (mask near) j (mask left)
 
 abbrev μ-loop : tie.MeasureT-loop
-μ-loop first s second masks rows tried₀ x₀ near fallen₀ w₀ tried x fallen w = words - w
+μ-loop first s second masks rows tried₀ x₀ near end left₀ j₀ tried x left j = end - j
 
-get-requires : tie.Need-get-requires Inv-loop2 μ-loop2 Inv-loop μ-loop
-get-requires c κs = let d = (c .before .before .before .before .before .before) in omega (arith, d .pre .0 .rows-room, d .pre .2, limits (d .args .first .now) (d .pre .0 .first) .states-few)
+get-requires : tie.Need-get-requires Inv-loop μ-loop
+get-requires c κs = let d = c .before .before .before .before .before .before in omega (arith, d .pre .0 .rows-room, d .pre .2, limits (d .args .first .now) (d .pre .0 .first) .states-few)
 
-intersection-requires : tie.Need-intersection-requires Inv-loop2 μ-loop2 Inv-loop μ-loop
+intersection-requires : tie.Need-intersection-requires Inv-loop μ-loop
 intersection-requires c κs = tt
 
-empty-requires : tie.Need-empty-requires Inv-loop2 μ-loop2 Inv-loop μ-loop
-empty-requires c κs = tt
+add-first : tie.Need-add-first Inv-loop μ-loop
+add-first c = let d = c .before .before .before .before .before .before .before .before in omega (arith, d .pre .2, limits (d .args .first .now) (d .pre .0 .first) .states-few)
 
-loop-holds : tie.Need-loop-holds Inv-loop2 μ-loop2 Inv-loop μ-loop
+first-requires : tie.Need-first-requires Inv-loop μ-loop
+first-requires c κs = search needs
+
+first-requires-2 : tie.Need-first-requires-2 Inv-loop μ-loop
+first-requires-2 c κs = search needs
+
+loop-holds : tie.Need-loop-holds Inv-loop μ-loop
 loop-holds c =
-    let d = (c .before .before .before .before .before .before .before .before .before) in
+    let d = c .before .before .before .before .before .before .before .before .before .before in
     let a = d .args in
-    let near = c .before .intersection .result in
-    let row = row-of (a .rows .now) (a .s) in
-    let e = both-of (c .before .before .get .ensures) (member (mask (a .doubt))) (c .before .intersection .ensures) in (
-      omega arith,
+    let near = mask (c .before .before .intersection .result) in (
+      omega (arith, c .first2 .ensures),
+      omega (arith, c .first2 .ensures, counts (a .first .now) (d .pre .0 .first) (a .s) (d .pre .2)),
       refl,
       refl,
-      walk-begin near (λ (n : ℕ). (t : ℕ) → member n t ≡ true → member row t ≡ true) (λ t m. both-first row (mask (a .doubt)) (mask near) t e m),
-      walk-begin near (λ (n : ℕ). Dropped (falls (table-of (a .first .now)) (table-of (a .second .now)) (relation-of (a .first .now) (a .second .now) (a .rows .now)) (a .s)) n (mask (c .empty .result)))
-          (drop-start (table-of (a .first .now)) (table-of (a .second .now)) (a .rows .now) (a .s) (d .pre .2) (d .pre .4) (mask (a .doubt)) e (c .empty .ensures) (d .pre .3)),
       d .pre .1,
+      subst (λ (n : ℕ). Answering (a .first .now) (a .second .now) (a .rows .now) (a .s) near n near) (sym (c .first2 .ensures)) (kept-start _ near _),
     )
 
-mul-left : tie.Need-mul-left Inv-loop2 μ-loop2 Inv-loop μ-loop
-mul-left c = omega arith
-
-element-copy-out-left : tie.Need-element-copy-out-left Inv-loop2 μ-loop2 Inv-loop μ-loop
-element-copy-out-left c = omega arith
-
-loop2-holds : tie.Need-loop2-holds Inv-loop2 μ-loop2 Inv-loop μ-loop
-loop2-holds c =
-    let a = c .before .before .before .before .before .before .before .before .before .before .before .before .args in
-    let o = c .before .before .loop in
-    let near = c .before .before .before .before .intersection .result in (
-      refl,
-      refl,
-      walk-into near (λ (n : ℕ). (t : ℕ) → member n t ≡ true → member (row-of (a .rows .now) (a .s)) t ≡ true) (o .w) (o .inv .3),
-      walk-into near (λ (n : ℕ). Dropped (falls (table-of (a .first .now)) (table-of (a .second .now)) (relation-of (a .first .now) (a .second .now) (a .rows .now)) (a .s)) n (mask (o .fallen))) (o .w) (o .inv .4),
-      o .inv .5,
-    )
-
-lowest-requires : tie.Need-lowest-requires Inv-loop2 μ-loop2 Inv-loop μ-loop
-lowest-requires c κs = (omega arith, omega arith)
-
-judge-requires : tie.Need-judge-requires Inv-loop2 μ-loop2 Inv-loop μ-loop
-judge-requires c κs =
-    let d = (c .before .before .before .before .before .before .before .before .before .before .before .before .before .before .before .before .before) in
-    let u = c .before .before .before .before .loop2 .inv in
-    let o = c .before .before .before .before .before .before .before .loop .inv in
-    (lent-again (d .pre .0) (u .1 ∙ o .2), u .4, d .pre .2, d .pre .4 _ (subst T (sym (u .2 _ (c .before .before .lowest .ensures .1 .here))) tt))
-
-without-lowest-requires : tie.Need-without-lowest-requires Inv-loop2 μ-loop2 Inv-loop μ-loop
-without-lowest-requires c κs = (omega (arith, c .before .before .before .before .before .before .before .before .before .before .before .loop-test .taken), omega (arith, c .before .before .before .before .before .before .before .before .loop2-test .taken))
-
-loop2-less : tie.Need-loop2-less Inv-loop2 μ-loop2 Inv-loop μ-loop
-loop2-less c = c .without-lowest .ensures .1
-
-loop2-again : tie.Need-loop2-again Inv-loop2 μ-loop2 Inv-loop μ-loop
-loop2-again c =
-    let d = (c .before .before .before .before .before .before .before .before .before .before .before .before .before .before .before .before .before .before .before .before .before .before .before) in
+drop-step-requires : tie.Need-drop-step-requires Inv-loop μ-loop
+drop-step-requires c κs =
+    let l = c .before .before .before in
+    let d = c .before .before .before .before .before .before .before .before .before .before .before .before .before .before in
     let a = d .args in
-    let o = c .before .before .before .before .before .before .before .before .before .before .loop2 in
-    let w = c .before .before .before .before .before .before .before .before .before .before .before .before .before .loop .w in
-    let near = c .before .before .before .before .before .before .before .before .before .before .before .before .before .before .before .intersection .result in
-    let t = c .before .before .before .before .before .before .before .before .lowest in
-    let j = c .before .before .before .before .before .judge .ensures in
-    let e = c .without-lowest .ensures .0 (t .result) (t .ensures .1) in (
-      c .before .before .before .before .tried .given ∙ o .inv .0,
-      c .before .before .x .given ∙ o .inv .1,
-      (λ u m. o .inv .2 u (left-member (rest w (o .left) near) (rest w (c .without-lowest .result) near) (t .result) e u m)),
-      drop-next (t .ensures .1) e (j .0) (falls-here (table-of (a .first .now)) (table-of (a .second .now)) (a .rows .now) (a .s) (d .pre .2) (d .pre .4) (t .result) (o .inv .2 (t .result) (t .ensures .1 .here))) (o .inv .3),
-      j .1,
+    let e = both-of (l .before .before .before .before .get .ensures) (member (mask (a .doubt))) (l .before .before .before .intersection .ensures) in (
+      lent-again (d .pre .0) (l .loop .inv .3),
+      l .loop .inv .4,
+      omega (arith, c .before .before .loop-test .taken, l .before .before .first .ensures, start-bound (a .first .now) (d .pre .0 .first) (a .s + 1) (omega (arith, d .pre .2))),
+      kept-columns (table-of (a .second .now)) (row-of (a .rows .now) (a .s)) (mask (a .doubt)) (d .pre .4) e (l .loop .inv .5),
     )
 
-add-w : tie.Need-add-w Inv-loop2 μ-loop2 Inv-loop μ-loop
-add-w c = omega arith
+difference-requires : tie.Need-difference-requires Inv-loop μ-loop
+difference-requires c κs = tt
 
-loop-less : tie.Need-loop-less Inv-loop2 μ-loop2 Inv-loop μ-loop
-loop-less c = omega arith
+add-j : tie.Need-add-j Inv-loop μ-loop
+add-j c = omega (arith, c .before .before .before .before .before .before .before .before .loop-test .taken)
 
-loop-again : tie.Need-loop-again Inv-loop2 μ-loop2 Inv-loop μ-loop
+loop-less : tie.Need-loop-less Inv-loop μ-loop
+loop-less c = omega (arith, c .before .before .before .before .before .before .before .before .loop-test .taken)
+
+loop-again : tie.Need-loop-again Inv-loop μ-loop
 loop-again c =
-    let a = c .before .before .before .before .before .before .before .before .before .before .before .before .before .before .args in
-    let u = c .before .loop2 in
-    let o = c .before .before .before .before .loop in
-    let near = c .before .before .before .before .before .before .intersection .result in (
-      omega (arith, c .before .before .before .loop-test .taken),
-      u .inv .0 ∙ o .inv .1,
-      u .inv .1 ∙ o .inv .2,
-      walk-on near (λ (n : ℕ). (t : ℕ) → member n t ≡ true → member (row-of (a .rows .now) (a .s)) t ≡ true) (o .w) (u .left) (c .loop2-test .left) (u .inv .2),
-      walk-on near (λ (n : ℕ). Dropped (falls (table-of (a .first .now)) (table-of (a .second .now)) (relation-of (a .first .now) (a .second .now) (a .rows .now)) (a .s)) n (mask (u .fallen))) (o .w) (u .left) (c .loop2-test .left) (u .inv .3),
-      u .inv .4,
+    let l = c .before .before .before .before .before .before .before .before .before in
+    let r = c .before .before .before .before .before .drop-step in (
+      omega (arith, l .loop .inv .0),
+      omega (arith, c .before .before .before .before .before .before .before .before .loop-test .taken, l .before .before .first .ensures),
+      c .before .before .before .before .tried .given ∙ l .loop .inv .2,
+      c .before .before .x .given ∙ l .loop .inv .3,
+      r .ensures .1,
+      kept-next (mask (r .result)) (l .loop .inv .0) (r .ensures .0) (c .difference .ensures) (l .loop .inv .5),
     )
 
-same-length : tie.Need-same-length Inv-loop2 μ-loop2 Inv-loop μ-loop
-same-length c = c .before .loop .inv .1
+difference-requires-2 : tie.Need-difference-requires-2 Inv-loop μ-loop
+difference-requires-2 c κs = tt
 
-same-length-2 : tie.Need-same-length-2 Inv-loop2 μ-loop2 Inv-loop μ-loop
-same-length-2 c = c .before .loop .inv .2
+same-length : tie.Need-same-length Inv-loop μ-loop
+same-length c = c .before .before .loop .inv .2
 
-returns : tie.Need-returns Inv-loop2 μ-loop2 Inv-loop μ-loop
-returns c = (drop-end (walk-done (c .before .before .before .intersection .result) (c .before .loop .w) (omega arith)) (c .before .loop .inv .4), c .before .loop .inv .5)
+same-length-2 : tie.Need-same-length-2 Inv-loop μ-loop
+same-length-2 c = c .before .before .loop .inv .3
+
+returns : tie.Need-returns Inv-loop μ-loop
+returns c =
+    let l = c .before .before in
+    let d = c .before .before .before .before .before .before .before .before .before .before .before .before .before in
+    let a = d .args in
+    let f = a .first .now in
+    let g = a .second .now in
+    let near = l .before .before .before .intersection in
+    let e = both-of (l .before .before .before .before .get .ensures) (member (mask (a .doubt))) (near .ensures) in
+    let last : l .loop .j ≡ start-of f (a .s + 1) = omega (arith, c .before .loop-test .left, l .before .before .first .ensures, l .loop .inv .1) in (
+      kept-end f g (a .rows .now) (d .pre .0 .first) (a .s) (d .pre .2) (mask (a .doubt)) (mask (c .difference2 .result)) (d .pre .4) (d .pre .3) e
+          (subst (λ (n : ℕ). Answering f g (a .rows .now) (a .s) (mask (near .result)) n (mask (l .loop .left))) last (l .loop .inv .5))
+          (c .difference2 .ensures),
+      l .loop .inv .4,
+    )
 
 pub drop-row-spec : {M : Type 1} → statement M
 drop-row-spec =
     tie.close
     (tie.spec
-    Inv-loop2
-    μ-loop2
     Inv-loop
     μ-loop
     get-requires
     intersection-requires
-    empty-requires
+    add-first
+    first-requires
+    first-requires-2
     loop-holds
-    mul-left
-    element-copy-out-left
-    loop2-holds
-    lowest-requires
-    judge-requires
-    without-lowest-requires
-    loop2-less
-    loop2-again
-    add-w
+    drop-step-requires
+    difference-requires
+    add-j
     loop-less
     loop-again
+    difference-requires-2
     same-length
     same-length-2
     returns)

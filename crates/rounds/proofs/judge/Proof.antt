@@ -7,8 +7,8 @@ use Rattle.rounds.proofs.Dropping.{judged-pass, judged-fail}
 use Rattle.rounds.proofs.judge.Statement.{statement}
 use Rattle.rounds.proofs.judge.Tie as tie
 
-matches-requires : tie.Need-matches-requires
-matches-requires c κs = c .before .before .before .before .before .before .before .before .pre
+answers-requires : tie.Need-answers-requires
+answers-requires c κs = c .before .before .before .before .before .before .before .before .pre
 
 same-length : tie.Need-same-length
 same-length c = c .before .before .before .before .tried .given
@@ -18,7 +18,7 @@ same-length-2 c = c .before .before .x .given
 
 returns : tie.Need-returns
 returns c =
-    let m = c .before .before .before .before .before .matches .ensures in
+    let m = c .before .before .before .before .before .answers .ensures in
     (judged-pass _ (sym (m .answer) ∙ c .if1 .taken), m .known)
 
 insert-requires : tie.Need-insert-requires
@@ -32,14 +32,14 @@ same-length-4 c = c .before .before .before .x .given
 
 returns-2 : tie.Need-returns-2
 returns-2 c =
-    let m = c .before .before .before .before .before .before .matches .ensures in
+    let m = c .before .before .before .before .before .before .answers .ensures in
     (judged-fail _ (sym (m .answer) ∙ c .before .if1 .left) (c .insert .ensures), m .known)
 
 pub judge-spec : {M : Type 1} → statement M
 judge-spec =
     tie.close
     (tie.spec
-    matches-requires
+    answers-requires
     same-length
     same-length-2
     returns

@@ -1,62 +1,113 @@
--- `row` meets its contract: by one word, or by two. Assumes nothing.
-use mathlib.Core.Path.{_≡_, _∙_}
-use Prim.Native.Nat.{ℕ, _+_, _-_, _*_}
-use lib.ListN.{length, getD, take, drop, length-take, length-drop}
-use Rattle.relation.proofs.Sets.{low-part, high-part, part-take, part-drop}
+-- `row` meets its contract: the words passed are filled. Assumes nothing.
+use mathlib.Core.Path.{_∙_}
+use mathlib.Core.List.{List}
+use Prim.Native.Nat.{ℕ, _+_, _-_, _*_, _≤_}
+use native.Mathlib.Omega.{arith}
+use lib.ListN.{getD, drop, length-take, length-drop}
+use Rattle.relation.specs.Mask.{Test}
 use Rattle.relation.specs.Ranks.{lasts}
-use Rattle.relate.specs.Rows.{row}
+use Rattle.relation.specs.Words.{words}
+use Rattle.relation.proofs.Sets.{Filled, filled-start, filled-next, filled-all, slice-passing}
 use Rattle.relate.proofs.Laws.{indexed-take, indexed-drop}
 use borrow.Author.Needs.{needs}
-use native.Mathlib.Omega.{arith}
 use Rattle.relate.proofs.between.row.Statement.{statement}
 use Rattle.relate.proofs.between.row.Tie as tie
 
-row-word-requires : tie.Need-row-word-requires
-row-word-requires c κs = (omega arith, c .before .before .before .pre .1)
+-- the state s is related to the target t
+abbrev kept : List ℕ → (width r s : ℕ) → Test
+kept ranks width r s t = lasts r (getD ranks (s * width + t) 0)
 
-returns : tie.Need-returns
-returns c = let a = c .before .before .before .before .args in low-part (row (a .ranks .now) (a .width) (a .r) (a .s) (a .nt .now)) (length (a .nt .now)) (c .row-word .result) (omega arith) (c .row-word .ensures)
+abbrev Inv-loop : tie.InvT-loop
+Inv-loop ranks width r s nt n row₀ w₀ row w = (w ≤ words) × Filled (kept ranks width r s) nt w (row .words)
 
-slice-aggregate-row-word : tie.Need-slice-aggregate-row-word
-slice-aggregate-row-word c = let e : 64 ≡ length (take 64 (c .before .before .before .before .args .nt .now)) = simp length-take (omega arith) in e
+abbrev μ-loop : tie.MeasureT-loop
+μ-loop ranks width r s nt n row₀ w₀ row w = words - w
 
-row-word-requires-2 : tie.Need-row-word-requires-2
-row-word-requires-2 c κs = let a = c .before .before .before .before .args in (simp length-take (omega arith), indexed-take (a .ranks .now) (a .width) (a .s) (a .nt .now) 64 (c .before .before .before .before .pre .1))
+empty-requires : tie.Need-empty-requires Inv-loop μ-loop
+empty-requires c κs = search needs
 
-sub-row-word : tie.Need-sub-row-word
+loop-holds : tie.Need-loop-holds Inv-loop μ-loop
+loop-holds c = let a = c .before .before .before .args in (omega arith, filled-start (kept (a .ranks .now) (a .width) (a .r) (a .s)) (a .nt .now) (search needs))
+
+start-requires : tie.Need-start-requires Inv-loop μ-loop
+start-requires c κs = search needs
+
+add-start : tie.Need-add-start Inv-loop μ-loop
+add-start c = search needs
+
+start-requires-2 : tie.Need-start-requires-2 Inv-loop μ-loop
+start-requires-2 c κs = search needs
+
+mul-row-word : tie.Need-mul-row-word Inv-loop μ-loop
+mul-row-word c = search needs
+
+sub-row-word : tie.Need-sub-row-word Inv-loop μ-loop
 sub-row-word c = search needs
 
-part-row-word-start : tie.Need-part-row-word-start
+part-row-word-start : tie.Need-part-row-word-start Inv-loop μ-loop
 part-row-word-start c = search needs
 
-part-row-word-end : tie.Need-part-row-word-end
+part-row-word-end : tie.Need-part-row-word-end Inv-loop μ-loop
 part-row-word-end c = search needs
 
-row-word-requires-3 : tie.Need-row-word-requires-3
-row-word-requires-3 c κs =
-    let a = c .before .before .before .before .before .before .args in
-    let nt = a .nt .now in (
+row-word-requires : tie.Need-row-word-requires Inv-loop μ-loop
+row-word-requires c κs =
+    let s = c .before .before in
+    let l = s .before .before in
+    let g = l .before .before .before .before in
+    let a = g .args in
+    let from = s .start .result in (
       simp (length-take, length-drop) (omega arith),
-      indexed-take (a .ranks .now) (a .width) (a .s) (drop 64 nt) (length nt - 64) (indexed-drop (a .ranks .now) (a .width) (a .s) nt 64 (c .before .before .before .before .before .before .pre .1)),
+      indexed-take (a .ranks .now) (a .width) (a .s) (drop from (a .nt .now)) (c .before .start2 .result - from) (indexed-drop (a .ranks .now) (a .width) (a .s) (a .nt .now) from (g .pre .1)),
     )
 
-returns-2 : tie.Need-returns-2
-returns-2 c =
-    let a = c .before .before .before .before .before .before .before .args in
-    let nt = a .nt .now in
-    high-part (row (a .ranks .now) (a .width) (a .r) (a .s) nt) (length nt) (c .before .before .row-word2 .result) (c .row-word3 .result) (omega arith) (c .before .before .before .before .before .before .before .pre .0)
-    (c .before .before .row-word2 .ensures ∙ part-take (λ (t : ℕ). lasts (a .r) (getD (a .ranks .now) (a .s * a .width + t) 0)) 64 nt (omega arith)) (c .row-word3 .ensures ∙ part-drop (λ (t : ℕ). lasts (a .r) (getD (a .ranks .now) (a .s * a .width + t) 0)) 64 nt (omega arith))
+mul-row : tie.Need-mul-row Inv-loop μ-loop
+mul-row c = search needs
+
+element-write-row : tie.Need-element-write-row Inv-loop μ-loop
+element-write-row c = search needs
+
+add-w : tie.Need-add-w Inv-loop μ-loop
+add-w c = search needs
+
+loop-less : tie.Need-loop-less Inv-loop μ-loop
+loop-less c = omega arith
+
+loop-again : tie.Need-loop-again Inv-loop μ-loop
+loop-again c =
+    let s = c .before .before .before in
+    let l = s .before .before in
+    let a = l .before .before .before .before .args in
+    let F = kept (a .ranks .now) (a .width) (a .r) (a .s) in
+    let w = l .loop .w in
+    (omega arith, filled-next F (a .nt .now) w (c .row-word .result) (omega arith) (l .loop .inv .1) (c .row-word .ensures ∙ slice-passing F (a .nt .now) w (s .start .ensures) (c .before .before .start2 .ensures)))
+
+returns : tie.Need-returns Inv-loop μ-loop
+returns c =
+    let l = c .before in
+    let g = l .before .before .before .before in
+    let a = g .args in
+    filled-all (kept (a .ranks .now) (a .width) (a .r) (a .s)) (a .nt .now) (l .loop .row) (omega arith) (g .pre .0) (l .loop .inv .1)
 
 pub row-spec : {M : Type 1} → statement M
 row-spec =
     tie.close
     (tie.spec
-    row-word-requires
-    returns
-    slice-aggregate-row-word
-    row-word-requires-2
+    Inv-loop
+    μ-loop
+    empty-requires
+    loop-holds
+    start-requires
+    add-start
+    start-requires-2
+    mul-row-word
     sub-row-word
     part-row-word-start
     part-row-word-end
-    row-word-requires-3
-    returns-2)
+    row-word-requires
+    mul-row
+    element-write-row
+    add-w
+    loop-less
+    loop-again
+    returns)

@@ -1,8 +1,11 @@
 -- `relation::rows::put` meets its contract. Assumes nothing.
-use mathlib.Core.Path.{refl}
+use mathlib.Core.Path.{ap}
+use Prim.Native.Nat.{ℕ, _+_, _*_}
 use native.Mathlib.Omega.{arith}
-use lib.ListN.{length-set}
-use Rattle.relation.specs.Words.{put-row}
+use lib.ListN.{set, length-set}
+use denote.Ref.{now}
+use Rattle.relation.specs.Words.{words, word-of, put-row}
+use Rattle.relation.proofs.Words.{steps}
 use borrow.Author.Needs.{needs}
 use Rattle.relation.proofs.rows.put.Statement.{statement}
 use Rattle.relation.proofs.rows.put.Tie as tie
@@ -36,7 +39,9 @@ same-length c = search needs
 
 returns : tie.Need-returns
 unfolding put-row
-returns c = refl
+returns c =
+    let a = c .before .before .args in
+    ap (λ (k : ℕ). set (set (now (a .rows)) k (word-of (a .t3) 0)) (a .s * words + 1) (word-of (a .t3) 1)) (steps (a .s * words) (a .s * words + 0) (omega arith))
 
 pub put-spec : {M : Type 1} → statement M
 put-spec =

@@ -1,0 +1,2 @@
+-- The definitions.
+-- Assumes nothing.

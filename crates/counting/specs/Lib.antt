@@ -1,0 +1,4 @@
+-- What the contracts of this crate cite.
+-- Assumes nothing.
+pub mod Pair
+pub mod Count

@@ -1,0 +1,4 @@
+-- The definitions, in reading order.
+-- Assumes nothing.
+pub mod Excess
+pub mod Examples
