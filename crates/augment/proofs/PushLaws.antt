@@ -1,97 +1,162 @@
 -- One path found by the search: how much it carries, and the flow after the move.
 -- Assumes nothing.
-use mathlib.Core.Path.{_≡_, ap, ap₂, _∙_, subst, subst⁻¹}
+use mathlib.Core.Path.{_≡_, refl, sym, ap, _∙_}
 use mathlib.Core.Bool.{true}
 use mathlib.Core.List.{List}
-use Prim.Native.Nat.{ℕ, _+_, _≤_, _<_, min}
+use Prim.Native.Nat.{ℕ, _+_, _<_, _≤_, min}
 use native.Mathlib.Numerals.{add-one}
 use native.Mathlib.Omega.{arith}
 use lib.ListN.{length, getD}
-use Rattle.simulation.specs.Limits.{most-states}
 use Rattle.relation.specs.Mask.{Test, member, both, Lowest}
 use Rattle.relation.specs.Words.{row-of}
-use Rattle.matrix.specs.Problem.{relates}
+use Rattle.relation.specs.Related.{holds}
+use Rattle.relation.proofs.Sets.{both-of}
 use Rattle.matrix.specs.Matrix.{AddsAt}
-use Rattle.matrix.specs.Masks.{MaskOf}
-use Rattle.matrix.specs.Flow.{missing, Flow, Extends, Improves}
+use Rattle.matrix.specs.Masks.{put, MaskOf}
+use Rattle.matrix.specs.Flow.{Flow, Partial, FlowIn}
+use Rattle.search.specs.Links.{HasLinks}
 use Rattle.search.specs.Search.{Room, Reaches}
 use Rattle.augment.specs.Path.{root, carried, Safe, Movable, Moved}
-use Rattle.augment.specs.Augments.{Augments, Augmented}
-use Rattle.matrix.proofs.MaskedLaws.{both-at, both-in, not-zero, user-row}
+use Rattle.augment.specs.Augments.{Augments, Augmented, AugmentsIn, EndsOf, Pushed}
+use Rattle.matrix.proofs.MatrixLaws.{delta-other}
+use Rattle.matrix.proofs.MaskedLaws.{both-at, both-in, not-zero, mask-put, user-row}
 use Rattle.matrix.proofs.FlowLaws.{improved, missing-falls}
 use Rattle.augment.proofs.PathLaws.{Tree, Walk, Carries, carries-of, tree-of, tree-safe, tree-root, tree-carries, walk-start, movable, moved}
 
-pub room-of : {p q : ℕ} {rel x a b users : List ℕ} (from via : List ℕ) {short : ℕ} → Flow p q rel x a b users → MaskOf p (λ i. getD a i 0) short → most-states ≤ length from → most-states ≤ length via → Room rel users from via short
-room-of from via f h lf lv = let z = f .sized in record {
+-- a search has room in a flow
+pub room-of : {p q : ℕ} {rel x a b senders links : List ℕ} {short : ℕ} → Flow p q rel x a b senders → MaskOf p (λ i. getD a i 0) short
+    → HasLinks links → Room rel senders links short
+room-of f h l = let z = f .sized in record {
   columns = z .columns;
-  froms = lf;
-  vias = lv;
+  links-room = l;
   starts = λ i m. omega (arith, h .below i m, z .masks);
   rows = λ i j m. omega (arith, user-row (f .used) i j m, z .masks);
 }
 
-module _ {p q : ℕ} {rel x a b users from via : List ℕ} {short free : ℕ} {S : Test} {r depth : ℕ} (f : Flow p q rel x a b users) (rows : MaskOf p (λ i. getD a i 0) short)
-    (columns : MaskOf q (λ j. getD b j 0) free) (t : Reaches rel users short free from via S r depth) where
-  abbrev tree : Tree p q rel x a from via
-  tree = tree-of (t .forest) (f .used) rows
+-- the column that push goes to
+pub record Column (rel : List ℕ) (F : Partial) (free r j : ℕ) : Type 0 where
+  pub below : j < length (F .demand)
+  pub related : holds rel r j ≡ true
+  pub is-free : member free j ≡ true
 
-  pub path-row : r < p
+-- what push moves to it: d, from row i
+pub record Load (rel : List ℕ) (F : Partial) (short free : ℕ) (from via : ℕ → ℕ) (S : Test) (r depth j i d : ℕ) : Type 0 where
+  pub flow : FlowIn rel F
+  pub ends : EndsOf F (length (F .supply)) (length (F .demand)) short free
+  pub found : Reaches rel (F .senders) short free from via S r depth
+  pub column : Column rel F free r j
+  pub is-root : i ≡ root from via depth r
+  pub most : d ≡ min (carried from via (F .amounts) depth r (getD (F .demand) j 0)) (getD (F .supply) i 0)
+  pub row : i < length (F .supply)
+  pub some : 0 < d
+  pub within-row : d ≤ getD (F .supply) i 0
+  pub within-column : d ≤ getD (F .demand) j 0
+  pub walk : Walk (length (F .supply)) (length (F .demand)) rel (F .amounts) (F .supply) from via j d (F .amounts) depth r j
+
+module _ {rel : List ℕ} {F : Partial} {short free : ℕ} {from via : ℕ → ℕ} {S : Test} {r depth : ℕ} (f : FlowIn rel F)
+    (e : EndsOf F (length (F .supply)) (length (F .demand)) short free) (t : Reaches rel (F .senders) short free from via S r depth) where
+  abbrev tree : Tree (length (F .supply)) (length (F .demand)) rel (F .amounts) (F .supply) from via
+  tree = tree-of (t .forest) (f .used) (e .rows)
+
+  pub path-row : r < length (F .supply)
   path-row = tree .row r (t .inside)
 
   pub path-safe : Safe from via depth r
-  path-safe = tree-safe p q rel x a from via tree (f .sized .few-rows) (f .sized .few-columns) depth r (t .inside) (t .deep)
+  path-safe = tree-safe tree (f .sized .few-rows) (f .sized .few-columns) depth r (t .inside) (t .deep)
 
-  pub root-row : {i : ℕ} → i ≡ root from via depth r → i < p
-  root-row e = omega (arith, tree-root p q rel x a from via tree depth r (t .inside) (t .deep) .0)
+  pub path-root : {i : ℕ} → i ≡ root from via depth r → i < length (F .supply)
+  path-root c = omega (arith, tree-root tree depth r (t .inside) (t .deep) .0)
 
-  module _ (m : ℕ) (e : member m ≡ both (member (row-of rel r)) (member free)) where
+  module _ {g : ℕ} (eg : g ≡ row-of rel r) where
     -- there is a free column
-    pub path-column : 0 < m
-    path-column = not-zero (t .hit .column) (both-in (member (row-of rel r)) (member free) (t .hit .column) e (t .hit .related) (t .hit .is-free))
+    pub path-some : {m : ℕ} → member m ≡ both (member g) (member free) → 0 < m
+    path-some em =
+        let h = t .hit in
+        not-zero (h .column) (both-in (member (row-of rel r)) (member free) (h .column) (both-of eg (member free) em) (h .related) (h .is-free))
 
-    module _ {j : ℕ} (l : Lowest (member m) j) where
-      at : (relates rel r j ≡ true) × (member free j ≡ true)
-      at = both-at (member (row-of rel r)) (member free) j e (l .here)
+    pub path-column : {Z : Test} {j : ℕ} → Z ≡ both (member g) (member free) → Lowest Z j → Column rel F free r j
+    path-column {j = j} ez l =
+        let w = both-at (member (row-of rel r)) (member free) j (both-of eg (member free) ez) (l .here) in
+        record { below = e .columns .below j (w .1); related = w .0; is-free = w .1 }
 
-      pub path-free : j < q
-      path-free = columns .below j (at .1)
+  module _ {j i m d : ℕ} (c : Column rel F free r j) (ei : i ≡ root from via depth r)
+      (em : m ≡ carried from via (F .amounts) depth r (getD (F .demand) j 0)) (ed : d ≡ min m (getD (F .supply) i 0)) where
+    left-root : getD (F .supply) i 0 ≡ getD (F .supply) (root from via depth r) 0
+    left-root = ap (λ (n : ℕ). getD (F .supply) n 0) ei
 
-      module _ {i c d : ℕ} (ei : i ≡ root from via depth r) (ec : c ≡ carried from via x depth r (getD b j 0)) (ed : d ≡ min c (getD a i 0)) where
-        left-root : getD a i 0 ≡ getD a (root from via depth r) 0
-        left-root = ap (λ (n : ℕ). getD a n 0) ei
+    carries : Carries (F .amounts) (F .supply) from via d depth r × (d ≤ getD (F .demand) j 0)
+    carries = carries-of (F .amounts) (F .supply) from via d depth r (getD (F .demand) j 0) (omega (arith, em)) (omega (arith, left-root))
 
-        carries : Carries p q rel x a from via d depth r × (d ≤ getD b j 0)
-        carries = carries-of p q rel x a from via d depth r (getD b j 0) (omega (arith, ec)) (omega (arith, left-root))
+    positive : 0 < d
+    positive =
+        let w = tree-root tree depth r (t .inside) (t .deep) in
+        let v = tree-carries tree depth r (getD (F .demand) j 0) (t .inside) (t .deep) (e .columns .some j (c .is-free)) in
+        omega (arith, left-root, w .1, v)
 
-        pub within-column : d ≤ getD b j 0
-        within-column = carries .1
+    pub path-load : Load rel F short free from via S r depth j i d
+    path-load = record {
+      flow = f;
+      ends = e;
+      found = t;
+      column = c;
+      is-root = ei;
+      most = ed ∙ ap (λ (n : ℕ). min n (getD (F .supply) i 0)) em;
+      row = path-root ei;
+      some = positive;
+      within-row = omega arith;
+      within-column = carries .1;
+      walk = walk-start tree (t .inside) (t .deep) (c .below) (c .related) (carries .0) (f .supported);
+    }
 
-        positive : 0 < d
-        positive = omega (
-          arith,
-          left-root,
-          tree-root p q rel x a from via tree depth r (t .inside) (t .deep) .1,
-          tree-carries p q rel x a from via tree depth r (getD b j 0) (t .inside) (t .deep) (columns .some j (at .1)),
-        )
+-- the mask of what is left, where d is taken away at one place
+mask-left : {n m m′ k d : ℕ} {a a′ : List ℕ} → MaskOf n (λ i. getD a i 0) m → k < n → AddsAt a′ a k d
+    → member m′ ≡ put k (getD a′ k 0) (member m) → MaskOf n (λ i. getD a′ i 0) m′
+mask-left {m′ = m′} {d = d} h l s e = mask-put m′ h l refl (λ i o. omega (arith, s .more i, delta-other d (λ (z : _ ≡ i). o (sym z)))) e
 
-        walk : Walk p q rel x a from via j d x depth r j
-        walk = walk-start p q rel x a from via tree (t .inside) (t .deep) path-free (at .0) (carries .0) (f .supported)
+module _ {rel : List ℕ} {F : Partial} {short free : ℕ} {from via : ℕ → ℕ} {S : Test} {r depth j i d : ℕ}
+    (w : Load rel F short free from via S r depth j i d) where
+  pub load-movable : Movable from via d depth r j (F .amounts)
+  load-movable = movable (w .flow .sized .few-columns) (w .flow .small) depth (w .walk)
 
-        pub path-movable : Movable from via d depth r j x
-        path-movable = movable p q rel x a from via (f .sized .few-columns) (f .small) depth walk
+  module _ {G : Partial} (mv : Moved from via d depth r j (F .amounts) (F .senders) (G .amounts) (G .senders))
+      (s : AddsAt (G .supply) (F .supply) i d) (u : AddsAt (G .demand) (F .demand) j d) where
+    augments : AugmentsIn rel F G
+    augments = record {
+      short = short;
+      free = free;
+      from = from;
+      via = via;
+      reached = S;
+      r = r;
+      depth = depth;
+      c = j;
+      d = d;
+      rows = w .ends .rows;
+      columns = w .ends .columns;
+      found = w .found;
+      related = w .column .related;
+      is-free = w .column .is-free;
+      most = rw (← w .is-root) (w .most);
+      moved = mv;
+      sent = rw (← w .is-root) s;
+      taken = u;
+    }
 
-        pub pushed : {x′ a′ b′ users′ : List ℕ} {short′ free′ : ℕ} → Moved from via d depth r j x users x′ users′ → length x′ ≡ length x → length a′ ≡ length a → length b′ ≡ length b → length users′ ≡ length users
-            → AddsAt a′ a i d → AddsAt b′ b j d → MaskOf p (λ k. getD a′ k 0) short′ → MaskOf q (λ k. getD b′ k 0) free′
-            → Improves p q rel x a b users x′ a′ b′ users′ × Augments p q rel x a b users x′ a′ b′ users′ × (missing q b′ < missing q b) × MaskOf p (λ k. getD a′ k 0) short′ × MaskOf q (λ k. getD b′ k 0) free′
-        pushed {x′} {a′} {b′} {users′} mv lx la lb lu s u v v′ =
-            let w = moved p q rel x a from via (f .sized .few-columns) walk (f .used) mv in
-            (improved f lx la lb lu (subst⁻¹ (λ (n : ℕ). Extends p q rel x x′ n j d) ei (w .0)) s u (w .1), augments, omega (arith, missing-falls path-free u, positive), v, v′)
-          where
-            augments : Augments p q rel x a b users x′ a′ b′ users′
-            augments = record { short = short; free = free; from = from; via = via; reached = S; r = r; depth = depth; c = j; d = d; rows = rows; columns = columns; found = t; related = at .0; is-free = at .1; most = ed ∙ ap₂ min ec left-root; moved = mv; sent = subst (λ (n : ℕ). AddsAt a′ a n d) ei s; taken = u }
+    pub pushed : {short′ free′ : ℕ} → length (G .amounts) ≡ length (F .amounts) → length (G .supply) ≡ length (F .supply)
+        → length (G .demand) ≡ length (F .demand) → length (G .senders) ≡ length (F .senders)
+        → member short′ ≡ put i (getD (G .supply) i 0) (member short) → member free′ ≡ put j (getD (G .demand) j 0) (member free)
+        → Pushed rel F G short′ free′
+    pushed lx la lb lu es ef = let v = moved (w .flow .sized .few-columns) (w .walk) (w .flow .used) mv in record {
+      improves = improved (w .flow) lx la lb lu (rw (w .is-root) (v .0)) s u (v .1);
+      augments = augments;
+      less = omega (arith, missing-falls (w .column .below) u, w .some);
+      ends = record {
+        rows = mask-left (w .ends .rows) (w .row) s es;
+        columns = mask-left (w .ends .columns) (w .column .below) u ef;
+      };
+    }
 
 -- one path more, as the loop counts
-pub augmented-next : {p q n : ℕ} {rel x a b u x′ a′ b′ u′ x″ a″ b″ u″ : List ℕ} → Augmented p q rel n x a b u x′ a′ b′ u′ → Augments p q rel x′ a′ b′ u′ x″ a″ b″ u″
-    → Augmented p q rel (n + 1) x a b u x″ a″ b″ u″
-augmented-next {p} {q} {n} {rel} {x} {a} {b} {u} {x″ = x″} {a″ = a″} {b″ = b″} {u″ = u″} s t =
-    subst⁻¹ (λ (m : ℕ). Augmented p q rel m x a b u x″ a″ b″ u″) (add-one n) (Augmented.more s t)
+pub augmented-next : {p q n : ℕ} {rel x a b u x′ a′ b′ u′ x″ a″ b″ u″ : List ℕ} → Augmented p q rel n x a b u x′ a′ b′ u′
+    → Augments p q rel x′ a′ b′ u′ x″ a″ b″ u″ → Augmented p q rel (n + 1) x a b u x″ a″ b″ u″
+augmented-next {n = n} s t = rw (add-one n) (Augmented.more s t)

@@ -1,31 +1,27 @@
 // A path that the search found: the most that it can carry, and a move along it.
-use matrix::index;
+use matrix::add;
+use matrix::deduct;
 use matrix::marked;
-use matrix::place;
 use matrix::smaller;
-use matrix::take;
+use matrix::subtract;
+use relation::Word;
 use relation::rows;
 use relation::set;
-use relation::set::Set;
-use search::Found;
+use search::Ends;
+use search::Links;
+use search::Path;
 use simulation::Table;
 ghost use mathlib.Core.Path.{_≡_};
-ghost use Prim.Native.Nat.{_≤_, _<_};
-ghost use lib.ListN.{length, getD};
+ghost use Prim.Native.Nat.{_≤_};
+ghost use lib.ListN.{length};
 ghost use Rattle.simulation.specs.Limits.{most-pairs, most-states};
 ghost use Rattle.relation.specs.Mask.{member};
 ghost use Rattle.relation.specs.Words.{mask, height};
-ghost use Rattle.matrix.specs.Masks.{MaskOf};
-ghost use Rattle.matrix.specs.Flow.{missing, Flow, Improves};
+ghost use Rattle.matrix.specs.Flow.{partial, FlowIn};
+ghost use Rattle.search.specs.Links.{HasLinks, from, via};
 ghost use Rattle.search.specs.Search.{Reaches};
 ghost use Rattle.augment.specs.Path.{root, carried, Safe, Movable, Moved};
-ghost use Rattle.augment.specs.Augments.{Augments};
-
-// The short rows and the free columns.
-pub struct Ends {
-    pub short: Set,
-    pub free: Set,
-}
+ghost use Rattle.augment.specs.Augments.{EndsOf, Pushed};
 
 // The first row of a path, and the most that it can carry.
 struct Carried {
@@ -34,18 +30,19 @@ struct Carried {
 }
 
 // The root of the path of row r, and the least of `most` and the amounts on it.
-fn carry(x: &[u32], from: &[u8], via: &[u8], r: usize, depth: usize, most: u32) -> Carried
-    requires { ⌜ (most-pairs ≤ length (now x)) × (most-states ≤ length (now from)) × (most-states ≤ length (now via)) × Safe (now from) (now via) depth r ⌝ }
-    ensures { λ s. ⌜ (s .row ≡ root (now (from .entry)) (now (via .entry)) depth r) × (s .amount ≡ carried (now (from .entry)) (now (via .entry)) (now (x .entry)) depth r most) ⌝ }
+fn carry(amounts: &[u32], links: &[u8], r: usize, depth: usize, most: u32) -> Carried
+    requires { ⌜ (most-pairs ≤ length (now amounts)) × HasLinks (now links) × Safe (from (now links)) (via (now links)) depth r ⌝ }
+    ensures { λ s. ⌜ (s .row ≡ root (from (now (links .entry))) (via (now (links .entry))) depth r)
+        × (s .amount ≡ carried (from (now (links .entry))) (via (now (links .entry))) (now (amounts .entry)) depth r most) ⌝ }
 {
     let mut i = r;
     let mut amount = most;
     let mut k = depth;
     while 0 < k {
-        let j = index(via[i]);
+        let j = links[Links::VIA_AT + i] as usize;
         let at = i * Table::STATES + j;
-        amount = smaller(amount, x[at]);
-        i = index(from[i]);
+        amount = smaller(amount, amounts[at]);
+        i = links[Links::FROM_AT + i] as usize;
         k -= 1;
     }
     Carried { row: i, amount }
@@ -53,60 +50,62 @@ fn carry(x: &[u32], from: &[u8], via: &[u8], r: usize, depth: usize, most: u32) 
 
 // d more along the path of row r to column c.
 fn shift(
-    x: &mut [u32],
-    users: &mut [u64],
-    from: &[u8],
-    via: &[u8],
+    amounts: &mut [u32],
+    senders: &mut [Word],
+    links: &[u8],
     r: usize,
     c: usize,
     depth: usize,
     d: u32,
 )
-    requires { ⌜ (most-pairs ≤ length (now x)) × (most-states ≤ height (now users)) × (most-states ≤ length (now from)) × (most-states ≤ length (now via)) × Safe (now from) (now via) depth r × Movable (now from) (now via) d depth r c (now x) ⌝ }
-    ensures { λ o. ⌜ Moved (now (from .entry)) (now (via .entry)) d depth r c (now (x .entry)) (now (users .entry)) (now (x .exit)) (now (users .exit)) ⌝ }
+    requires { ⌜ (most-pairs ≤ length (now amounts)) × (most-states ≤ height (now senders)) × HasLinks (now links)
+        × Safe (from (now links)) (via (now links)) depth r × Movable (from (now links)) (via (now links)) d depth r c (now amounts) ⌝ }
+    ensures { λ o. ⌜ Moved (from (now (links .entry))) (via (now (links .entry))) d depth r c
+        (now (amounts .entry)) (now (senders .entry)) (now (amounts .exit)) (now (senders .exit)) ⌝ }
 {
     let mut i = r;
     let mut j = c;
     let mut k = depth;
     while 0 < k {
-        let e = index(via[i]);
-        take(x, users, i, e, d);
-        place(x, users, i, j, d);
+        let e = links[Links::VIA_AT + i] as usize;
+        subtract(amounts, senders, i, e, d);
+        add(amounts, senders, i, j, d);
         j = e;
-        i = index(from[i]);
+        i = links[Links::FROM_AT + i] as usize;
         k -= 1;
     }
-    place(x, users, i, j, d);
+    add(amounts, senders, i, j, d);
 }
 
-// As much as the path that was found can carry. Only the contract reads p and q.
+// As much as the path that was found can carry. Returns the ends that are left.
 pub fn push(
-    x: &mut [u32],
-    a: &mut [u32],
-    b: &mut [u32],
-    users: &mut [u64],
-    rel: &[u64],
-    from: &[u8],
-    via: &[u8],
-    p: usize,
-    q: usize,
-    e: Ends,
-    s: Found,
+    amounts: &mut [u32],
+    supply: &mut [u32],
+    demand: &mut [u32],
+    senders: &mut [Word],
+    rel: &[Word],
+    links: &[u8],
+    ends: Ends,
+    path: Path,
 ) -> Ends
-    requires { ⌜ Flow p q (now rel) (now x) (now a) (now b) (now users) × MaskOf p (λ i. getD (now a) i 0) (mask (e .short)) × MaskOf q (λ j. getD (now b) j 0) (mask (e .free)) × Reaches (now rel) (now users) (mask (e .short)) (mask (e .free)) (now from) (now via) (member (mask (s .reached))) (s .row) (s .depth) × (most-states ≤ length (now from)) × (most-states ≤ length (now via)) ⌝ }
-    ensures { λ r. ⌜ Improves p q (now (rel .entry)) (now (x .entry)) (now (a .entry)) (now (b .entry)) (now (users .entry)) (now (x .exit)) (now (a .exit)) (now (b .exit)) (now (users .exit)) × Augments p q (now (rel .entry)) (now (x .entry)) (now (a .entry)) (now (b .entry)) (now (users .entry)) (now (x .exit)) (now (a .exit)) (now (b .exit)) (now (users .exit)) × (missing q (now (b .exit)) < missing q (now (b .entry))) × MaskOf p (λ i. getD (now (a .exit)) i 0) (mask (r .short)) × MaskOf q (λ j. getD (now (b .exit)) j 0) (mask (r .free)) ⌝ }
+    requires { ⌜ FlowIn (now rel) (partial (now amounts) (now supply) (now demand) (now senders))
+        × EndsOf (partial (now amounts) (now supply) (now demand) (now senders)) (length (now supply)) (length (now demand))
+        (mask (ends .short)) (mask (ends .free))
+        × Reaches (now rel) (now senders) (mask (ends .short)) (mask (ends .free)) (from (now links)) (via (now links))
+        (member (mask (path .reached))) (path .row) (path .depth) × HasLinks (now links) ⌝ }
+    ensures { λ r. ⌜ Pushed (now (rel .entry)) (partial (now (amounts .entry)) (now (supply .entry)) (now (demand .entry)) (now (senders .entry)))
+        (partial (now (amounts .exit)) (now (supply .exit)) (now (demand .exit)) (now (senders .exit))) (mask (r .short)) (mask (r .free)) ⌝ }
 {
-    let r = s.row;
-    let depth = s.depth;
-    let j = set::lowest(set::intersection(rows::get(rel, r), e.free));
-    let c = carry(x, from, via, r, depth, b[j]);
+    let r = path.row;
+    let depth = path.depth;
+    let j = set::lowest(set::intersection(rows::get(rel, r), ends.free));
+    let c = carry(amounts, links, r, depth, demand[j]);
     let i = c.row;
-    let d = smaller(c.amount, a[i]);
-    shift(x, users, from, via, r, j, depth, d);
-    a[i] = a[i] - d;
-    b[j] = b[j] - d;
+    let d = smaller(c.amount, supply[i]);
+    shift(amounts, senders, links, r, j, depth, d);
+    deduct(supply, demand, i, j, d);
     Ends {
-        short: marked(e.short, i, a[i]),
-        free: marked(e.free, j, b[j]),
+        short: marked(ends.short, i, supply[i]),
+        free: marked(ends.free, j, demand[j]),
     }
 }

@@ -12,7 +12,7 @@ use native.Mathlib.Nat.{le-refl, add-zero}
 use native.Mathlib.Numerals.{add-one}
 use native.Mathlib.Omega.{arith}
 use lib.ListN.{length, take, drop, set, length-set, length-append, length-drop, take-append-drop, drop-of-length-le}
-use Rattle.buffer.specs.Buffer.{over, Filled}
+use Rattle.buffer.specs.Buffer.{over, with-part, Filled}
 use lib.Seq.{take-suc-set, append-snoc, length-take-le, take-append-add, drop-append-add, take-append-seam, drop-append-seam, drop-drop, drop-set-lt, take-all}
 
 -- the part of a buffer from `at` on, and the buffer once the part is back at the list ys: what a loan of `&mut b[at..]` gives
@@ -20,7 +20,7 @@ abbrev pub part : {A : Type 0} → ℕ → List A → List A
 part at l = take (length l - at) (drop at l)
 
 abbrev pub back : {A : Type 0} → ℕ → List A → List A → List A
-back at l ys = take at l ++ (ys ++ drop (length l - at) (drop at l))
+back at l ys = with-part at (length l - at) ys l
 
 -- `now` is `before` with the first `at` elements of `total` written; `rest` is what is left of `total`
 pub record Written {A : Type 0} (total before rest now : List A) (at : ℕ) : Type 0 where

@@ -13,24 +13,25 @@ use Rattle.simulation.specs.Tree.{before, chosen, set-of}
 use Rattle.simulation.specs.Demands.{Sound}
 use Rattle.simulation.proofs.Trees.Sets.{apart-some}
 use Rattle.simulation.proofs.Trees.Choice.{chosen-target, below-rank}
-use Rattle.form.specs.Form.{Loaded, table-of, transitions-of, transition-at}
+use Rattle.form.specs.Form.{Loaded, transitions-of}
+use Rattle.form.specs.Tables.{first-form, second-form, first-table, second-table, first-step}
 use Rattle.form.proofs.FormLaws.{start-bound, weights-length, sound}
 use Rattle.relate.specs.Ranked.{Ranked}
 use Rattle.choice.specs.Choice.{Lost, Choice}
 
-module _ (first second : List ℕ) (l : Loaded first) (s t j : ℕ) (in-range : s < states-of (table-of first)) (w : Choice first second s t j) where
-  pub choice-number : j < transitions-of first
-  choice-number = omega (arith, w .high, start-bound first l (s + 1) (omega arith))
+module _ (tables : List ℕ) (l : Loaded (first-form tables)) (s t j : ℕ) (in-range : s < states-of (first-table tables)) (w : Choice tables s t j) where
+  pub choice-number : j < transitions-of (first-form tables)
+  choice-number = omega (arith, w .high, start-bound (first-form tables) l (s + 1) (omega arith))
 
-  pub choice-width : length (transition-at first j .entries) ≡ length (chosen (table-of first) (table-of second) s t .entries)
+  pub choice-width : length (first-step tables j .entries) ≡ length (chosen (first-table tables) (second-table tables) s t .entries)
   choice-width = ap (λ (m : Transition). length (m .entries)) (w .is)
 
 -- where a pair's rank stands
-module _ {first second ranks : List ℕ} (g : Ranked first second ranks) {s t : ℕ} (a : s < states-of (table-of first)) (b : t < states-of (table-of second)) where
-  pub pair-place : s * states-of (table-of second) + t < length ranks
+module _ {tables ranks : List ℕ} (g : Ranked tables ranks) {s t : ℕ} (a : s < states-of (first-table tables)) (b : t < states-of (second-table tables)) where
+  pub pair-place : s * states-of (second-table tables) + t < length ranks
   pair-place =
-      let row : suc s * states-of (table-of second) ≤ states-of (table-of first) * states-of (table-of second) = mul-le-mul-right (states-of (table-of second)) a in
-      omega (arith, row, suc-mul s (states-of (table-of second)), g .enough)
+      let row : suc s * states-of (second-table tables) ≤ states-of (first-table tables) * states-of (second-table tables) = mul-le-mul-right (states-of (second-table tables)) a in
+      omega (arith, row, suc-mul s (states-of (second-table tables)), g .enough)
 
 -- a set holds states of the second table
 pub set-in-range : (M N : Table) → Sound N → (s t i t′ : ℕ) → T (set-of M N s t i t′) → t′ < states-of N
@@ -40,14 +41,14 @@ set-in-range M N sound s t i t′ h =
     subst (λ (u : ℕ). u < states-of N) (p .target) (sound .target-bound t (r .0) (p .place) (r .1) (p .bound))
 
 -- a pair met below a pair is not kept either, and its rank is lower
-pub below-lost : (first second : List ℕ) → Loaded first → Loaded second → (s t : ℕ) → Lost first second s t → (i t′ : ℕ)
-    → i < length (chosen (table-of first) (table-of second) s t .entries) → T (set-of (table-of first) (table-of second) s t i t′)
-    → Lost first second (target-at (chosen (table-of first) (table-of second) s t) i) t′
-    × (rank (table-of first) (table-of second) (target-at (chosen (table-of first) (table-of second) s t) i) t′ < rank (table-of first) (table-of second) s t)
-below-lost first second l l′ s t p i t′ b h =
-    let M = table-of first in
-    let N = table-of second in
+pub below-lost : (tables : List ℕ) → Loaded (first-form tables) → Loaded (second-form tables) → (s t : ℕ) → Lost tables s t → (i t′ : ℕ)
+    → i < length (chosen (first-table tables) (second-table tables) s t .entries) → T (set-of (first-table tables) (second-table tables) s t i t′)
+    → Lost tables (target-at (chosen (first-table tables) (second-table tables) s t) i) t′
+    × (rank (first-table tables) (second-table tables) (target-at (chosen (first-table tables) (second-table tables) s t) i) t′ < rank (first-table tables) (second-table tables) s t)
+below-lost tables l l′ s t p i t′ b h =
+    let M = first-table tables in
+    let N = second-table tables in
     let c : i < length (weights (chosen M N s t)) = omega (arith, weights-length (chosen M N s t)) in
-    let d = set-in-range M N (sound second l′) s t i t′ h in
-    let q = below-rank M N (sound first l) s t (p .left) (p .right) (p .fell) i t′ c d h in
-    (record { left = chosen-target M N (sound first l) s t (p .left) (p .right) (p .fell) i c; right = d; fell = q .0 }, q .1)
+    let d = set-in-range M N (sound (second-form tables) l′) s t i t′ h in
+    let q = below-rank M N (sound (first-form tables) l) s t (p .left) (p .right) (p .fell) i t′ c d h in
+    (record { left = chosen-target M N (sound (first-form tables) l) s t (p .left) (p .right) (p .fell) i c; right = d; fell = q .0 }, q .1)

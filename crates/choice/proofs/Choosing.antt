@@ -1,40 +1,46 @@
--- How the chosen transition and its sets are found: the walks over the members of a mask, the cut of two transitions, what one adds to
--- the sets of the other, and the walks over the transitions of a state.
+-- How the chosen transition and its sets are found: the walks over the members of a mask, what one transition adds to the sets of another,
+-- the rows that are lent beside the sets, and the walks over the transitions of a state.
 -- Assumes nothing.
 use mathlib.Core.Path.{_≡_, refl, sym, ap, ap₂, _∙_, subst, subst₂, fun-ext}
 use mathlib.Core.Bool.{Bool, true, false, not, _&&_, _||_, and-comm}
 use mathlib.Core.List.{List, [], _∷_}
 use mathlib.Core.Logic.{_⊎_, inl, inr, ⊎-elim}
-use Prim.Native.Nat.{ℕ, zero, suc, _+_, _-_, _≤_, _<_, pred}
-use native.Mathlib.Nat.{not-suc-le-zero, le-of-suc-le-suc, sub-self}
+use Prim.Native.Nat.{ℕ, zero, suc, _+_, _-_, _*_, _/_, _≤_, _<_, pred}
+use native.Mathlib.Nat.{zero-add, not-suc-le-zero, le-of-suc-le-suc, sub-self}
 use native.Mathlib.Omega.{arith}
 use native.Mathlib.Decide.{ℕ-discrete, decLt}
 use lib.Dec.{T, eqb, eqb→eq}
 use borrow.Author.Tests.{lt-ltb, ltb-true}
 use lib.ListN.{length, getD, take}
 use lib.Seq.{take-all}
+use Rattle.simulation.specs.Limits.{most-pairs, most-states}
 use Rattle.simulation.specs.Sum.{any, any-of}
-use Rattle.simulation.specs.Fit.{touched, fits?}
-use Rattle.simulation.specs.Table.{Transition, Table, weights, targets, target-at, states-of, steps, no-transition, transition}
+use Rattle.simulation.specs.Fit.{touched}
+use Rattle.simulation.specs.Table.{Transition, weights, target-at, states-of, steps, no-transition, transition}
 use Rattle.simulation.specs.Round.{Relation, between, fits-step, round, rank}
 use Rattle.simulation.specs.Tree.{before, chosen, cut-of, apart-by, apart}
-use Rattle.simulation.proofs.Finite.Tests.{and-left, and-right, differ-eqb, is-true, is-false, same-test, any-some, some-any, any-ext, same-eqb}
-use Rattle.simulation.proofs.Finite.Lists.{any-of-at, any-of-by}
+use Rattle.simulation.proofs.Finite.Tests.{and-left, and-right, differ-eqb, is-true, same-test, any-some, some-any, any-ext, same-eqb, last-or-below}
+use Rattle.simulation.proofs.Finite.Lists.{any-of-at}
 use Rattle.simulation.proofs.Trees.Choice.{Chosen, chosen-law, chosen-at}
 use Rattle.form.specs.Form.{Loaded, table-of, start-of, transitions-of, transition-at}
+use Rattle.form.specs.Tables.{first-form, second-form, first-table, second-table, first-step, second-step}
 use Rattle.form.proofs.FormLaws.{counts, start-bound, starts-ascend, transition-of, transition-numbered, weights-length}
 use Rattle.relation.specs.Mask.{Test, member, up-to, without-member, either, except, Lowest}
-use Rattle.relation.specs.Words.{mask as mask-of, row-of, height, put-row}
+use Rattle.relation.specs.Words.{mask as mask-of, words, row-of, height, rows-in, put-row}
 use Rattle.relation.specs.declared.set.Set.{Set}
 use Rattle.relation.proofs.Sets.{length-put, row-put, row-put-other}
 use Rattle.relation.proofs.Mask.{member-none, below-or-not}
-use Rattle.relate.specs.Rows.{Rows}
-use Rattle.matrix.specs.Problem.{relates}
-use Rattle.cut.specs.Quick.{CutOf}
+use Rattle.relation.proofs.Parts.{part-row}
 use Rattle.matrix.proofs.MaskedLaws.{true-or-false, neither, except-at, either-at, either-left, either-right, drop-at, drop-out, no-members}
-use Rattle.choice.specs.Choice.{Compared, Cut, Names, Added, Joined, Parted, Lost, Choice, fits-some, Tested}
-use Rattle.simulation.proofs.Fit.Agree.{fits-agree, cut-agree}
-use Rattle.relate.proofs.Relating.{related-round}
+use Rattle.buffer.specs.Buffer.{with-part}
+use Rattle.buffer.proofs.Parts.{part-size, part-is, part-length, part-before}
+use Rattle.relate.specs.Ranked.{Ranked}
+use Rattle.fit.specs.Ranked.{InRound, Cut}
+use Rattle.fit.proofs.Fitting.{other-code}
+use Rattle.fit.proofs.Comparing.{cut-fits}
+use Rattle.fit.proofs.Steps.{upto-next, none-passes}
+use Rattle.choice.specs.Choice.{Names, SetsJoined, Parted, Lost, Choice, round-fits-some, Tested}
+use Rattle.relation.specs.Related.{holds}
 
 -- ---- a walk over the members of a mask
 
@@ -130,121 +136,94 @@ joining-next {mask} {more} {left} {left′} {t} {sets} {sets′} v j names low e
     at i m u (no o) (inl c) = absurd (o c)
     at i m u (no o) (inr f) = ap (λ (y : ℕ). member y u) (row-put-other sets′ t i v o) ∙ j .joined i m f u
 
-pub joining-end : {mask more left : ℕ} {sets sets′ : List ℕ} → left ≡ 0 → Joining mask more sets sets′ left → Joined mask more sets sets′
+pub joining-end : {mask more left : ℕ} {sets sets′ : List ℕ} → left ≡ 0 → Joining mask more sets sets′ left → SetsJoined mask more sets sets′
 joining-end {mask} {more} {sets = sets} {sets′} z j = record { join = λ i u. at i u (true-or-false (member mask i)) }
   where
     at : (i u : ℕ) → (member mask i ≡ true) ⊎ (member mask i ≡ false) → member (row-of sets′ i) u ≡ ((member mask i && member more u) || member (row-of sets i) u)
     at i u (inl t) = j .joined i t (no-members z i) u ∙ sym (ap (λ b. (b && member more u) || member (row-of sets i) u) t)
     at i u (inr f) = ap (λ (y : ℕ). member y u) (j .others i f) ∙ sym (ap (λ b. (b && member more u) || member (row-of sets i) u) f)
 
--- ---- a list emptied from its start
-
-pub record Clearing (n : ℕ) (l₀ l : List ℕ) (i : ℕ) : Type 0 where
-  pub inside : i ≤ n
-  pub size : length l ≡ length l₀
-  pub empty : (k : ℕ) → k < i → row-of l k ≡ 0
-
-pub clearing-start : (n : ℕ) (l : List ℕ) → Clearing n l l 0
-clearing-start n l = record { inside = omega arith; size = refl; empty = λ k h. absurd (not-suc-le-zero h) }
-
-pub clearing-next : {n : ℕ} {l₀ l : List ℕ} {i : ℕ} → Clearing n l₀ l i → i < n → n ≤ height l₀ → (z : Set) → mask-of z ≡ 0 → Clearing n l₀ (put-row l i z) (i + 1)
-clearing-next {n} {l₀} {l} {i} w lt le z none = record { inside = omega arith; size = length-put l i z ∙ w .size; empty = λ k h. at k h (ℕ-discrete k i) }
-  where
-    at : (k : ℕ) → k < i + 1 → Dec (k ≡ i) → row-of (put-row l i z) k ≡ 0
-    at k h (yes e) = ap (λ (k : ℕ). row-of (put-row l i z) k) e ∙ row-put l i z (omega (arith, w .size)) ∙ none
-    at k h (no ne) = row-put-other l i k z ne ∙ w .empty k (omega (arith, ne))
-
--- ---- the cut of two transitions
-
-module _ {first second ranks : List ℕ} {r j k : ℕ} {rel x : List ℕ} (g : Compared first second ranks r j k rel x) where
-  -- what the answer says, with the rows that it was asked for
-  pub cut-found : {rel′ ws vs : List ℕ} {mask : ℕ}
-      → Rows ranks (states-of (table-of second)) r (targets (transition-at first j)) (targets (transition-at second k)) rel rel′
-      → ws ≡ weights (transition-at first j) → vs ≡ weights (transition-at second k) → CutOf ws vs rel′ mask
-      → Cut (round (table-of first) (table-of second) (pred r)) (transition-at first j) (transition-at second k) rel′ mask
-  cut-found {rel′} {mask = mask} w ew ev answer =
-      let m = transition-at first j in
-      let n = transition-at second k in
-      let R = between (round (table-of first) (table-of second) (pred r)) m n in
-      let a : CutOf (weights m) (weights n) rel′ mask = subst₂ (λ (p q : List ℕ). CutOf p q rel′ mask) ew ev answer in
-      let rows = related-round j k (g .ranked) (g .from-first) (g .from-second) r (g .later) w in
-      let same : (i l : ℕ) → i < length (weights m) → l < length (weights n) → R i l ≡ relates rel′ i l =
-      λ i l b c. sym (rows i l (omega (arith, weights-length m)) (omega (arith, weights-length n))) in
-      record {
-        fit = fits-agree R (relates rel′) (weights m) (weights n) same ∙ a .fit;
-        smallest = λ i b. let c : i < length (weights m) = omega (arith, weights-length m) in cut-agree R (relates rel′) (weights m) (weights n) same i c ∙ a .smallest i c;
-        no-others = λ i b. a .no-others i (omega (arith, weights-length m));
-        related = rows;
-      }
-
--- ---- whether one transition fits another
+-- ---- what a transition adds to the sets of the targets of another
 
 module _ (R : Relation) (m n : Transition) where
-  fits-other : (m .code ≡ n .code → ⊥) → false ≡ fits-step R m n
-  unfolding fits-step
-  fits-other d = sym (ap (λ b. b && fits? (between R m n) (weights m) (weights n)) (differ-eqb (m .code) (n .code) d))
-
-  pub fits-same : {rel : List ℕ} {mask : ℕ} → m .code ≡ n .code → Cut R m n rel mask → eqb mask 0 ≡ fits-step R m n
-  unfolding fits-step
-  fits-same e c = sym (ap (λ b. b && fits? (between R m n) (weights m) (weights n)) (is-true (eqb (m .code) (n .code)) (same-eqb e)) ∙ c .fit)
-
-  -- ---- what n adds to the sets of the targets of m
+  -- u is a target of n that no target in the cut is related to
+  abbrev off-cut : ℕ → Bool
+  off-cut u = any (length (weights n)) (λ l. eqb (target-at n l) u && not (touched (length (weights m)) (between R m n) (cut-of R m n) l))
 
   apart-other : (m .code ≡ n .code → ⊥) → (i u : ℕ) → apart-by R m i n u ≡ false
   unfolding apart-by
-  apart-other d i u =
-      ap (λ b. (b && cut-of R m n i) && any (length (weights n)) (λ l. eqb (target-at n l) u && not (touched (length (weights m)) (between R m n) (cut-of R m n) l)))
-      (differ-eqb (m .code) (n .code) d)
+  apart-other d i u = ap (λ b. (b && cut-of R m n i) && off-cut u) (differ-eqb (m .code) (n .code) d)
 
-  apart-same : m .code ≡ n .code → (i u : ℕ)
-      → apart-by R m i n u ≡ (cut-of R m n i && any (length (weights n)) (λ l. eqb (target-at n l) u && not (touched (length (weights m)) (between R m n) (cut-of R m n) l)))
+  apart-same : m .code ≡ n .code → (i u : ℕ) → apart-by R m i n u ≡ (cut-of R m n i && off-cut u)
   unfolding apart-by
-  apart-same e i u =
-      ap (λ b. (b && cut-of R m n i) && any (length (weights n)) (λ l. eqb (target-at n l) u && not (touched (length (weights m)) (between R m n) (cut-of R m n) l)))
-      (is-true (eqb (m .code) (n .code)) (same-eqb e))
-
-  none-added : (m .code ≡ n .code → ⊥) → (sets : List ℕ) → Added R m n sets sets
-  none-added d sets = record { join = λ i _ u. sym (ap (λ b. b || member (row-of sets i) u) (apart-other d i u)) }
+  apart-same e i u = ap (λ b. (b && cut-of R m n i) && off-cut u) (is-true (eqb (m .code) (n .code)) (same-eqb e))
 
   -- n has another code
   pub parted-other : (m .code ≡ n .code → ⊥) → (sets : List ℕ) → Parted R m n false sets sets
-  parted-other d sets = record { fit = fits-other d; added = λ _. none-added d sets }
+  parted-other d sets =
+      record {
+        fit = other-code R m n d;
+        added = λ _. record { join = λ i _ u. sym (ap (λ b. b || member (row-of sets i) u) (apart-other d i u)) };
+      }
 
   -- the cut is empty
   pub parted-fit : {rel sets sets′ : List ℕ} {mask : ℕ} {b : Bool} → m .code ≡ n .code → Cut R m n rel mask → b ≡ eqb mask 0 → b ≡ true → Parted R m n true sets sets′
-  parted-fit e c v t = record { fit = sym t ∙ v ∙ fits-same e c; added = λ f. absurd (neither refl f) }
+  parted-fit e c v t = record { fit = sym t ∙ v ∙ cut-fits R m n e c; added = λ f. absurd (neither refl f) }
 
   -- the mask names targets of m
   pub cut-names : {rel : List ℕ} {mask : ℕ} → Cut R m n rel mask → (p : ℕ) → length (m .entries) ≤ p → Names mask p
   cut-names c p le i t = ⊎-elim (λ l. omega arith) (λ l. absurd (neither t (c .no-others i l))) (below-or-not i (length (m .entries)))
 
   module _ {rel : List ℕ} {mask : ℕ} (near more : ℕ) (code : m .code ≡ n .code) (c : Cut R m n rel mask) (rows : length (m .entries) ≤ height rel)
-      (touch : (l : ℕ) → member near l ≡ touched (height rel) (relates rel) (member mask) l)
-      (loose : (u : ℕ) → member more u ≡ any (length (n .entries)) (λ l. eqb (target-at n l) u && not (member near l))) where
+      (reached : (l : ℕ) → member near l ≡ touched (height rel) (holds rel) (member mask) l)
+      (others : (u : ℕ) → member more u ≡ any (length (n .entries)) (λ l. eqb (target-at n l) u && not (member near l))) where
     near-is : (l : ℕ) → l < length (n .entries) → touched (length (weights m)) (between R m n) (cut-of R m n) l ≡ member near l
     near-is l b =
-        any-wider (length (weights m)) (height rel) (λ i. cut-of R m n i && between R m n i l) (λ i. member mask i && relates rel i l) (omega (arith, weights-length m))
+        any-wider (length (weights m)) (height rel) (λ i. cut-of R m n i && between R m n i l) (λ i. member mask i && holds rel i l) (omega (arith, weights-length m))
         (λ i a. ap₂ _&&_ (c .smallest i (omega (arith, weights-length m))) (sym (c .related i l (omega (arith, weights-length m)) b)))
-        (λ i a. ap (λ v. v && relates rel i l) (c .no-others i (omega (arith, weights-length m))))
-        ∙ sym (touch l)
+        (λ i a. ap (λ v. v && holds rel i l) (c .no-others i (omega (arith, weights-length m))))
+        ∙ sym (reached l)
 
-    more-is : (u : ℕ) → any (length (weights n)) (λ l. eqb (target-at n l) u && not (touched (length (weights m)) (between R m n) (cut-of R m n) l)) ≡ member more u
+    more-is : (u : ℕ) → off-cut u ≡ member more u
     more-is u =
         ap (λ (q : ℕ). any q (λ l. eqb (target-at n l) u && not (touched (length (weights m)) (between R m n) (cut-of R m n) l))) (weights-length n)
         ∙ any-ext (length (n .entries)) _ _ (λ l b. ap (λ v. eqb (target-at n l) u && not v) (near-is l b))
-        ∙ sym (loose u)
+        ∙ sym (others u)
 
-    some-added : {sets sets′ : List ℕ} → Joined mask more sets sets′ → Added R m n sets sets′
-    some-added {sets} {sets′} w =
+    -- the cut is not empty; what was done between touched no set of a target of m
+    pub parted-unfit : {sets sets′ sets″ : List ℕ} {b : Bool} → b ≡ eqb mask 0 → b ≡ false → ((i : ℕ) → i < length (m .entries) → row-of sets′ i ≡ row-of sets i)
+        → SetsJoined mask more sets′ sets″ → Parted R m n false sets sets″
+    parted-unfit {sets} v f kept w =
         record {
-          join = λ i b u.
-              w .join i u
-              ∙ ap (λ v. v || member (row-of sets i) u) (ap₂ _&&_ (sym (c .smallest i b)) (sym (more-is u)) ∙ sym (apart-same code i u));
+          fit = sym f ∙ v ∙ cut-fits R m n code c;
+          added = λ _. record {
+            join = λ i b u.
+                w .join i u
+                ∙ ap₂ _||_ (ap₂ _&&_ (sym (c .smallest i b)) (sym (more-is u)) ∙ sym (apart-same code i u)) (ap (λ (y : ℕ). member y u) (kept i b));
+          };
         }
 
-    -- the cut is not empty
-    pub parted-unfit : {sets sets′ : List ℕ} {b : Bool} → b ≡ eqb mask 0 → b ≡ false → Joined mask more sets sets′ → Parted R m n false sets sets′
-    parted-unfit v f w = record { fit = sym f ∙ v ∙ fits-same code c; added = λ _. some-added w }
+-- ---- the sets, and after them the rows of a relation, which were lent and came back
+
+-- the words of each half
+abbrev pub half : ℕ
+half = most-states * words
+
+module _ (rel sets : List ℕ) (room : 2 * most-states ≤ height sets) (size : length rel ≡ length (rows-in most-states most-states sets)) where
+  rel-size : length rel ≡ half
+  rel-size = size ∙ part-size half half sets (omega arith)
+
+  pub lent-height : height (with-part half half rel sets) ≡ height sets
+  lent-height = ap (λ (n : ℕ). n / words) (part-length half half rel sets rel-size (omega arith))
+
+  pub lent-rows : rows-in most-states most-states (with-part half half rel sets) ≡ rel
+  lent-rows = part-is half half rel sets rel-size (omega arith)
+
+  pub lent-sets : (i : ℕ) → i < most-states → row-of (with-part half half rel sets) i ≡ row-of sets i
+  lent-sets i lt =
+      let l = with-part half half rel sets in
+      ap (row-of l) (sym (zero-add i)) ∙ sym (part-row 0 most-states l i lt) ∙ ap (λ (z : List ℕ). row-of z i) (part-before half half rel sets rel-size (omega arith) 0 half (omega arith))
+      ∙ part-row 0 most-states sets i lt ∙ ap (row-of sets) (zero-add i)
 
 -- ---- the transitions of a state, by number
 
@@ -255,104 +234,107 @@ pub record Scan (f : List ℕ) (t : ℕ) (test : Transition → Bool) (k : ℕ) 
   pub none : (l : ℕ) → start-of f t ≤ l → l < k → test (transition-at f l) ≡ false
 
 module _ (f : List ℕ) (l : Loaded f) (t : ℕ) (b : t < states-of (table-of f)) where
-  abbrev N : Table
-  N = table-of f
-
   pub number-of : (k : ℕ) → start-of f t ≤ k → k < start-of f (t + 1) → k < transitions-of f
   number-of k a h = omega (arith, start-bound f l (t + 1) (omega arith))
-
-  place-of : (k : ℕ) → start-of f t ≤ k → k < start-of f (t + 1) → k - start-of f t < length (steps N t)
-  place-of k a h = omega (arith, counts f l t b)
 
   module _ (test : Transition → Bool) where
     pub scan-start : Scan f t test (start-of f t)
     scan-start = record { low = omega arith; high = starts-ascend f l t (t + 1) (omega arith) (omega arith); none = λ k a h. absurd (omega arith) }
 
     pub scan-next : {k : ℕ} → Scan f t test k → k < start-of f (t + 1) → test (transition-at f k) ≡ false → Scan f t test (k + 1)
-    scan-next {k} s h e = record { low = omega (arith, s .low); high = omega arith; none = λ i a c. at i a c (ℕ-discrete i k) }
-      where
-        at : (i : ℕ) → start-of f t ≤ i → i < k + 1 → Dec (i ≡ k) → test (transition-at f i) ≡ false
-        at i a c (yes p) = ap (λ (i : ℕ). test (transition-at f i)) p ∙ e
-        at i a c (no p) = s .none i a (omega (arith, p))
+    scan-next {k} s h e =
+        record {
+          low = omega (arith, s .low);
+          high = omega arith;
+          none = upto-next (λ (i : ℕ). test (transition-at f i)) false (start-of f t) k (s .none) refl e;
+        }
 
-    pub one-passes : {k : ℕ} → start-of f t ≤ k → k < start-of f (t + 1) → test (transition-at f k) ≡ true → any-of test (steps N t) ≡ true
-    one-passes {k} a h e =
-        is-true (any-of test (steps N t)) (any-of-by test no-transition (steps N t) (k - start-of f t) (place-of k a h)
-        (subst T (sym e ∙ ap test (transition-numbered f l t k b a h)) tt))
+    pub scan-end : {k : ℕ} → Scan f t test k → start-of f (t + 1) ≤ k → any-of test (steps (table-of f) t) ≡ false
+    scan-end s h = sym (none-passes f l t b test (λ i a c. s .none i a (omega arith)))
 
-    pub none-passes : {k : ℕ} → Scan f t test k → start-of f (t + 1) ≤ k → any-of test (steps N t) ≡ false
-    none-passes {k} s h = is-false (any-of test (steps N t)) (λ x.
-        let w = any-of-at test no-transition (steps N t) x in
-        subst T (ap test (sym (transition-of f l t (w .0) b (w .1))) ∙ s .none (start-of f t + w .0) (omega arith) (omega (arith, counts f l t b, w .1))) (w .2))
+-- ---- a pair that is not kept, with its rank
+
+pub record LostPair (tables ranks : List ℕ) (s t r : ℕ) : Type 0 where
+  pub ranked : Ranked tables ranks
+  pub lost : Lost tables s t
+  pub its-rank : r ≡ rank (first-table tables) (second-table tables) s t
+
+-- a transition of the first table and one of t are compared in the round before its rank
+pub lost-compared : {tables ranks : List ℕ} {s t r : ℕ} → LostPair tables ranks s t r → (j l : ℕ) (amounts : List ℕ) → j < transitions-of (first-form tables)
+    → start-of (second-form tables) t ≤ l → l < start-of (second-form tables) (t + 1) → most-pairs ≤ length amounts → InRound tables ranks r j l amounts
+lost-compared {tables} {t = t} p j l amounts b low high room =
+    record {
+      ranked = p .ranked;
+      later = omega (arith, p .its-rank, p .lost .fell);
+      from-first = b;
+      from-second = number-of (second-form tables) (p .ranked .loaded .second) t (p .lost .right) l low high;
+      amounts-room = room;
+    }
 
 -- ---- the first transition that fits none
 
-module _ (first second : List ℕ) (s t : ℕ) where
+module _ (tables : List ℕ) (s t : ℕ) where
   -- m fits some transition of t in the round before the pair's rank
   abbrev pub matches : Transition → Bool
-  matches m = any-of (fits-step (before (table-of first) (table-of second) s t) m) (steps (table-of second) t)
+  matches m = any-of (fits-step (before (first-table tables) (second-table tables) s t) m) (steps (second-table tables) t)
 
   -- those of s before number j do
   pub record Trying (j : ℕ) : Type 0 where
-    pub low : start-of first s ≤ j
-    pub high : j < start-of first (s + 1)
-    pub all : (l : ℕ) → start-of first s ≤ l → l < j → T (matches (transition-at first l))
+    pub low : start-of (first-form tables) s ≤ j
+    pub high : j < start-of (first-form tables) (s + 1)
+    pub all : (l : ℕ) → start-of (first-form tables) s ≤ l → l < j → T (matches (first-step tables l))
 
-  module _ (l : Loaded first) (p : Lost first second s t) where
-    abbrev some-fails : Chosen (table-of first) (table-of second) s t (chosen (table-of first) (table-of second) s t)
-    some-fails = chosen-law (table-of first) (table-of second) s t (p .left) (p .right) (p .fell)
+  module _ (l : Loaded (first-form tables)) (p : Lost tables s t) where
+    abbrev some-fails : Chosen (first-table tables) (second-table tables) s t (chosen (first-table tables) (second-table tables) s t)
+    some-fails = chosen-law (first-table tables) (second-table tables) s t (p .left) (p .right) (p .fell)
 
     -- the chosen one fits none
-    chosen-unfit : {j r : ℕ} → r ≡ rank (table-of first) (table-of second) s t → Choice first second s t j
-        → fits-some first second t r j ≡ true → ⊥
+    chosen-unfit : {j r : ℕ} → r ≡ rank (first-table tables) (second-table tables) s t → Choice tables s t j
+        → round-fits-some tables t r j ≡ true → ⊥
     chosen-unfit {j} {r} e c h =
-        let q = any-of-at (fits-step (round (table-of first) (table-of second) (pred r)) (transition-at first j)) no-transition (steps (table-of second) t) (subst T (sym h) tt) in
+        let q = any-of-at (fits-step (round (first-table tables) (second-table tables) (pred r)) (first-step tables j)) no-transition (steps (second-table tables) t) (subst T (sym h) tt) in
         some-fails .unfit (q .0) (q .1)
-        (subst₂ (λ (r : ℕ) (m : Transition). T (fits-step (round (table-of first) (table-of second) (pred r)) m (transition (table-of second) t (q .0)))) e (c .is) (q .2))
+        (subst₂ (λ (r : ℕ) (m : Transition). T (fits-step (round (first-table tables) (second-table tables) (pred r)) m (transition (second-table tables) t (q .0)))) e (c .is) (q .2))
 
     -- l is one that j fits, so j is not the chosen one
-    pub tested-one : {r j l : ℕ} {sets : List ℕ} → r ≡ rank (table-of first) (table-of second) s t → start-of second t ≤ l → l < start-of second (t + 1)
-        → fits-some first second t r j ≡ true → Tested first second s t r j l sets
+    pub tested-one : {r j l : ℕ} {sets : List ℕ} → r ≡ rank (first-table tables) (second-table tables) s t → start-of (second-form tables) t ≤ l → l < start-of (second-form tables) (t + 1)
+        → round-fits-some tables t r j ≡ true → Tested tables s t r j l sets
     tested-one e a h f = record { low = a; high = omega arith; one = λ _. f; none = λ q. absurd (omega (arith, q)); found = λ w. absurd (chosen-unfit e w f) }
 
     -- not all of them do
-    not-all : (j : ℕ) → ((l : ℕ) → start-of first s ≤ l → l < j → T (matches (transition-at first l))) → j < start-of first (s + 1)
+    not-all : (j : ℕ) → ((l : ℕ) → start-of (first-form tables) s ≤ l → l < j → T (matches (first-step tables l))) → j < start-of (first-form tables) (s + 1)
     not-all j h =
         let w = some-fails in
         let k = w .place in
-        let here = transition-of first l s k (p .left) (w .here) in
-        go k (decLt j (start-of first (s + 1))) (λ b.
-        let q = any-of-at (fits-step (before (table-of first) (table-of second) s t) (transition (table-of first) s k)) no-transition (steps (table-of second) t)
-        (subst (λ (m : Transition). T (matches m)) here (h (start-of first s + k) (omega arith) b)) in
-        w .unfit (q .0) (q .1) (subst (λ (m : Transition). T (fits-step (before (table-of first) (table-of second) s t) m (transition (table-of second) t (q .0)))) (w .same) (q .2)))
-        (omega (arith, counts first l s (p .left), w .here))
+        let here = transition-of (first-form tables) l s k (p .left) (w .here) in
+        go k (decLt j (start-of (first-form tables) (s + 1))) (λ b.
+        let q = any-of-at (fits-step (before (first-table tables) (second-table tables) s t) (transition (first-table tables) s k)) no-transition (steps (second-table tables) t)
+        (subst (λ (m : Transition). T (matches m)) here (h (start-of (first-form tables) s + k) (omega arith) b)) in
+        w .unfit (q .0) (q .1) (subst (λ (m : Transition). T (fits-step (before (first-table tables) (second-table tables) s t) m (transition (second-table tables) t (q .0)))) (w .same) (q .2)))
+        (omega (arith, counts (first-form tables) l s (p .left), w .here))
       where
-        go : (k : ℕ) → Dec (j < start-of first (s + 1)) → (start-of first s + k < j → ⊥) → start-of first s + k < start-of first (s + 1) → j < start-of first (s + 1)
+        go : (k : ℕ) → Dec (j < start-of (first-form tables) (s + 1)) → (start-of (first-form tables) s + k < j → ⊥) → start-of (first-form tables) s + k < start-of (first-form tables) (s + 1) → j < start-of (first-form tables) (s + 1)
         go k (yes b) f c = b
         go k (no b) f c = absurd (f (omega (arith, b)))
 
-    pub trying-start : Trying (start-of first s)
-    trying-start = record { low = omega arith; high = not-all (start-of first s) (λ l a h. absurd (omega arith)); all = λ l a h. absurd (omega arith) }
+    pub trying-start : Trying (start-of (first-form tables) s)
+    trying-start = record { low = omega arith; high = not-all (start-of (first-form tables) s) (λ l a h. absurd (omega arith)); all = λ l a h. absurd (omega arith) }
 
-    pub trying-next : {j : ℕ} → Trying j → matches (transition-at first j) ≡ true → Trying (j + 1)
+    pub trying-next : {j : ℕ} → Trying j → matches (first-step tables j) ≡ true → Trying (j + 1)
     trying-next {j} w e = record { low = omega (arith, w .low); high = not-all (j + 1) more; all = more }
       where
-        at : (i : ℕ) → start-of first s ≤ i → i < j + 1 → Dec (i ≡ j) → T (matches (transition-at first i))
-        at i a c (yes q) = subst T (sym (ap (λ (i : ℕ). matches (transition-at first i)) q ∙ e)) tt
-        at i a c (no q) = w .all i a (omega (arith, q))
+        more : (i : ℕ) → start-of (first-form tables) s ≤ i → i < j + 1 → T (matches (first-step tables i))
+        more i a c = ⊎-elim (λ q. subst T (sym (ap (λ (i : ℕ). matches (first-step tables i)) q ∙ e)) tt) (w .all i a) (last-or-below i j (omega arith))
 
-        more : (i : ℕ) → start-of first s ≤ i → i < j + 1 → T (matches (transition-at first i))
-        more i a c = at i a c (ℕ-discrete i j)
-
-    pub trying-end : {j : ℕ} → Trying j → matches (transition-at first j) ≡ false → Choice first second s t j
+    pub trying-end : {j : ℕ} → Trying j → matches (first-step tables j) ≡ false → Choice tables s t j
     trying-end {j} w e =
-        let here = transition-numbered first l s j (p .left) (w .low) (w .high) in
+        let here = transition-numbered (first-form tables) l s j (p .left) (w .low) (w .high) in
         record {
           low = w .low;
           high = w .high;
-          is = here ∙ sym (chosen-at (table-of first) (table-of second) s t (j - start-of first s) (omega (arith, counts first l s (p .left), w .low, w .high))
-              (λ i c. subst (λ (m : Transition). T (matches m)) (transition-of first l s i (p .left) (omega (arith, counts first l s (p .left), w .high)))
-              (w .all (start-of first s + i) (omega arith) (omega (arith, w .low))))
+          is = here ∙ sym (chosen-at (first-table tables) (second-table tables) s t (j - start-of (first-form tables) s) (omega (arith, counts (first-form tables) l s (p .left), w .low, w .high))
+              (λ i c. subst (λ (m : Transition). T (matches m)) (transition-of (first-form tables) l s i (p .left) (omega (arith, counts (first-form tables) l s (p .left), w .high)))
+              (w .all (start-of (first-form tables) s + i) (omega arith) (omega (arith, w .low))))
               (λ x. subst T (ap matches (sym here) ∙ e) x));
         }
 
@@ -379,39 +361,39 @@ unfolding apart
 apart-is R m ns i u = refl
 
 -- m fits none of the transitions of t before number k, and the sets hold what those add
-pub record Gathering (R : Relation) (m : Transition) (second : List ℕ) (t k : ℕ) (sets : List ℕ) : Type 0 where
-  pub scan : Scan second t (fits-step R m) k
+pub record Gathering (R : Relation) (m : Transition) (tables : List ℕ) (t k : ℕ) (sets : List ℕ) : Type 0 where
+  pub scan : Scan (second-form tables) t (fits-step R m) k
   pub gathered : (i : ℕ) → i < length (m .entries) → (u : ℕ)
-      → member (row-of sets i) u ≡ any-of (λ n. apart-by R m i n u) (take (k - start-of second t) (steps (table-of second) t))
+      → member (row-of sets i) u ≡ any-of (λ n. apart-by R m i n u) (take (k - start-of (second-form tables) t) (steps (second-table tables) t))
 
-module _ (R : Relation) (m : Transition) (second : List ℕ) (l : Loaded second) (t : ℕ) (b : t < states-of (table-of second)) where
-  pub gathering-start : (sets : List ℕ) → ((i : ℕ) → i < length (m .entries) → row-of sets i ≡ 0) → Gathering R m second t (start-of second t) sets
+module _ (R : Relation) (m : Transition) (tables : List ℕ) (l : Loaded (second-form tables)) (t : ℕ) (b : t < states-of (second-table tables)) where
+  pub gathering-start : (sets : List ℕ) → ((i : ℕ) → i < length (m .entries) → row-of sets i ≡ 0) → Gathering R m tables t (start-of (second-form tables) t) sets
   gathering-start sets z =
       record {
-        scan = scan-start second l t b (fits-step R m);
+        scan = scan-start (second-form tables) l t b (fits-step R m);
         gathered = λ i a u.
             ap (λ (y : ℕ). member y u) (z i a) ∙ member-none u
-            ∙ sym (ap (λ (c : ℕ). any-of (λ n. apart-by R m i n u) (take c (steps (table-of second) t))) (sub-self (start-of second t)) ∙ any-of-nothing (λ n. apart-by R m i n u));
+            ∙ sym (ap (λ (c : ℕ). any-of (λ n. apart-by R m i n u) (take c (steps (second-table tables) t))) (sub-self (start-of (second-form tables) t)) ∙ any-of-nothing (λ n. apart-by R m i n u));
       }
 
-  pub gathering-next : {k : ℕ} {v : Bool} {sets sets′ : List ℕ} → Gathering R m second t k sets → k < start-of second (t + 1)
-      → Parted R m (transition-at second k) v sets sets′ → v ≡ false → Gathering R m second t (k + 1) sets′
+  pub gathering-next : {k : ℕ} {v : Bool} {sets sets′ : List ℕ} → Gathering R m tables t k sets → k < start-of (second-form tables) (t + 1)
+      → Parted R m (second-step tables k) v sets sets′ → v ≡ false → Gathering R m tables t (k + 1) sets′
   gathering-next {k} {v} {sets} {sets′} g h a f =
-      let c = k - start-of second t in
-      let e : k + 1 - start-of second t ≡ suc c = let q = g .scan .low in omega arith in
+      let c = k - start-of (second-form tables) t in
+      let e : k + 1 - start-of (second-form tables) t ≡ suc c = let q = g .scan .low in omega arith in
       record {
-        scan = scan-next second l t b (fits-step R m) (g .scan) h (sym (a .fit) ∙ f);
+        scan = scan-next (second-form tables) l t b (fits-step R m) (g .scan) h (sym (a .fit) ∙ f);
         gathered = λ i lt u.
             a .added f .join i lt u
-            ∙ ap₂ (λ (n : Transition) (v : Bool). apart-by R m i n u || v) (transition-numbered second l t k b (g .scan .low) h) (g .gathered i lt u)
-            ∙ sym (ap (λ (c : ℕ). any-of (λ n. apart-by R m i n u) (take c (steps (table-of second) t))) e
-            ∙ any-of-take (λ n. apart-by R m i n u) (steps (table-of second) t) c (omega (arith, counts second l t b, g .scan .low)));
+            ∙ ap₂ (λ (n : Transition) (v : Bool). apart-by R m i n u || v) (transition-numbered (second-form tables) l t k b (g .scan .low) h) (g .gathered i lt u)
+            ∙ sym (ap (λ (c : ℕ). any-of (λ n. apart-by R m i n u) (take c (steps (second-table tables) t))) e
+            ∙ any-of-take (λ n. apart-by R m i n u) (steps (second-table tables) t) c (omega (arith, counts (second-form tables) l t b, g .scan .low)));
       }
 
-  pub gathering-end : {k : ℕ} {sets : List ℕ} → Gathering R m second t k sets → start-of second (t + 1) ≤ k → (i : ℕ) → i < length (m .entries)
-      → member (row-of sets i) ≡ apart R m (steps (table-of second) t) i
+  pub gathering-end : {k : ℕ} {sets : List ℕ} → Gathering R m tables t k sets → start-of (second-form tables) (t + 1) ≤ k → (i : ℕ) → i < length (m .entries)
+      → member (row-of sets i) ≡ apart R m (steps (second-table tables) t) i
   gathering-end {k} g h i lt =
       fun-ext (λ u.
       g .gathered i lt u
-      ∙ ap (any-of (λ n. apart-by R m i n u)) (take-all (k - start-of second t) (steps (table-of second) t) (omega (arith, counts second l t b, g .scan .high)))
-      ∙ apart-is R m (steps (table-of second) t) i u)
+      ∙ ap (any-of (λ n. apart-by R m i n u)) (take-all (k - start-of (second-form tables) t) (steps (second-table tables) t) (omega (arith, counts (second-form tables) l t b, g .scan .high)))
+      ∙ apart-is R m (steps (second-table tables) t) i u)

@@ -1,4 +1,9 @@
 // The transition of a pair that is not kept, which fits no like-coded transition of the other state, and the sets of its targets.
+use fit::ranked;
+use form::Form;
+use form::tables;
+use relation::Relation;
+use relation::Word;
 use relation::rows;
 use relation::set;
 use relation::set::Set;
@@ -8,30 +13,32 @@ ghost use mathlib.Core.Bool.{true, not, _&&_};
 ghost use Prim.Native.Nat.{ℕ, pred, _+_, _*_, _≤_, _<_};
 ghost use lib.Dec.{eqb};
 ghost use lib.ListN.{length, getD};
-ghost use Rattle.simulation.specs.Limits.{most-states};
+ghost use Rattle.simulation.specs.Limits.{most-pairs, most-states};
 ghost use Rattle.simulation.specs.Sum.{any};
 ghost use Rattle.simulation.specs.Fit.{touched};
 ghost use Rattle.simulation.specs.Table.{target-at, states-of};
 ghost use Rattle.simulation.specs.Round.{round, rank};
-ghost use Rattle.form.specs.Form.{Loaded, transitions-of, transition-at, table-of, start-of};
 ghost use Rattle.relation.specs.Mask.{member};
-ghost use Rattle.relation.specs.Words.{mask, row-of, height};
-ghost use Rattle.matrix.specs.Problem.{relates};
-ghost use Rattle.relate.specs.Ranked.{Ranked, Lent};
-ghost use Rattle.choice.specs.Choice.{Compared, Cut, Names, Joined, Parted, Lost, Choice, Sets, fits-some, Tested};
+ghost use Rattle.relation.specs.Words.{mask, height};
+ghost use Rattle.relation.specs.Related.{holds};
+ghost use Rattle.form.specs.Form.{transitions-of, start-of};
+ghost use Rattle.form.specs.Tables.{first-form, second-form, first-table, second-table, first-step, second-step, BothLoaded};
+ghost use Rattle.relate.specs.Ranked.{Ranked};
+ghost use Rattle.fit.specs.Ranked.{InRound};
+ghost use Rattle.choice.specs.Choice.{Names, SetsJoined, Parted, Lost, Choice, Sets, round-fits-some, Tested};
 
 // The rank of the pair (s, t).
-pub fn rank_at(second: &[u16], ranks: &[u16], s: usize, t: usize) -> u16
-    requires { ⌜ Loaded (now second) × (s < most-states) × (t < most-states) × (s * states-of (table-of (now second)) + t < length (now ranks)) ⌝ }
-    ensures { λ r. ⌜ r ≡ getD (now (ranks .entry)) (s * states-of (table-of (now (second .entry))) + t) 0 ⌝ }
+pub fn rank_at(tables: &[u16], ranks: &[u16], s: usize, t: usize) -> u16
+    requires { ⌜ BothLoaded (now tables) × (s < most-states) × (t < most-states) × (s * states-of (second-table (now tables)) + t < length (now ranks)) ⌝ }
+    ensures { λ r. ⌜ r ≡ getD (now (ranks .entry)) (s * states-of (second-table (now (tables .entry))) + t) 0 ⌝ }
 {
-    ranks[s * form::states(second) + t]
+    ranks[s * tables::states(tables, Form::SECOND) + t]
 }
 
 // What some row that the set names is related to.
-fn touch(rel: &[u64], named: Set) -> Set
+fn reached(rel: &[Word], named: Set) -> Set
     requires { ⌜ Names (mask named) (height (now rel)) ⌝ }
-    ensures { λ r. ⌜ ((k : ℕ) → member (mask r) k ≡ touched (height (now (rel .entry))) (relates (now (rel .entry))) (member (mask named)) k) ⌝ }
+    ensures { λ r. ⌜ ((k : ℕ) → member (mask r) k ≡ touched (height (now (rel .entry))) (holds (now (rel .entry))) (member (mask named)) k) ⌝ }
 {
     let mut near = set::empty();
     for w in 0..Set::WORDS {
@@ -45,13 +52,13 @@ fn touch(rel: &[u64], named: Set) -> Set
     near
 }
 
-// The targets of the transition k at the positions that the set doesn't name.
-fn loose(second: &[u16], k: usize, named: Set) -> Set
-    requires { ⌜ Loaded (now second) × (k < transitions-of (now second)) ⌝ }
-    ensures { λ r. ⌜ ((u : ℕ) → member (mask r) u
-        ≡ any (length (transition-at (now (second .entry)) k .entries)) (λ j. eqb (target-at (transition-at (now (second .entry)) k) j) u && not (member (mask named) j))) ⌝ }
+// The targets of the transition k of the second table at the positions that the set doesn't name.
+fn other_targets(tables: &[u16], k: usize, named: Set) -> Set
+    requires { ⌜ BothLoaded (now tables) × (k < transitions-of (second-form (now tables))) ⌝ }
+    ensures { λ r. ⌜ ((u : ℕ) → member (mask r) u ≡ any (length (second-step (now (tables .entry)) k .entries))
+        (λ j. eqb (target-at (second-step (now (tables .entry)) k) j) u && not (member (mask named) j))) ⌝ }
 {
-    let targets = form::targets(second, k);
+    let targets = tables::targets(tables, Form::SECOND, k);
     let mut states = set::empty();
     let other = set::difference(set::below(targets.len()), named);
     for w in 0..Set::WORDS {
@@ -67,9 +74,9 @@ fn loose(second: &[u16], k: usize, named: Set) -> Set
 }
 
 // Joins a set to each of those that another names.
-fn spread(sets: &mut [u64], named: Set, more: Set)
+fn join_sets(sets: &mut [Word], named: Set, more: Set)
     requires { ⌜ Names (mask named) (height (now sets)) ⌝ }
-    ensures { λ _. ⌜ Joined (mask named) (mask more) (now (sets .entry)) (now (sets .exit)) ⌝ }
+    ensures { λ _. ⌜ SetsJoined (mask named) (mask more) (now (sets .entry)) (now (sets .exit)) ⌝ }
 {
     for w in 0..Set::WORDS {
         let mut left = named.words[w];
@@ -82,110 +89,57 @@ fn spread(sets: &mut [u64], named: Set, more: Set)
     }
 }
 
-// The cut of the transitions j and k in the round before round r, with the rows of that round between their targets.
-fn cut(
-    first: &[u16],
-    second: &[u16],
-    ranks: &[u16],
-    r: u16,
-    j: usize,
-    k: usize,
-    rel: &mut [u64],
-    x: &mut [u32],
-) -> Set
-    requires { ⌜ Compared (now first) (now second) (now ranks) r j k (now rel) (now x) ⌝ }
-    ensures { λ found. ⌜ Cut (round (table-of (now (first .entry))) (table-of (now (second .entry))) (pred r))
-        (transition-at (now (first .entry)) j) (transition-at (now (second .entry)) k) (now (rel .exit)) (mask found) ⌝ }
-{
-    relate::rows(first, second, ranks, r, j, k, rel);
-    let ws = form::weights(first, j);
-    let vs = form::weights(second, k);
-    cut::cut(ws, vs, rel, x)
-}
-
-// Whether j fits k, which has the same code. If not, adds to the sets of the targets of j what they must be told apart from among the targets of k.
+// Whether j fits k. If not, adds to the sets of the targets of j what they must be told apart from among the targets of k: one with another
+// code adds nothing. The sets have half of the rows; the other half is room for the rows of a relation.
 fn part_sets(
-    first: &[u16],
-    second: &[u16],
+    tables: &[u16],
     ranks: &[u16],
     r: u16,
     j: usize,
     k: usize,
-    sets: &mut [u64],
-    rel: &mut [u64],
-    x: &mut [u32],
+    sets: &mut [Word],
+    amounts: &mut [u32],
 ) -> bool
-    requires { ⌜ Compared (now first) (now second) (now ranks) r j k (now rel) (now x) × (length (transition-at (now first) j .entries) ≤ height (now sets))
-        × (transition-at (now first) j .code ≡ transition-at (now second) k .code) ⌝ }
-    ensures { λ b. ⌜ Parted (round (table-of (now (first .entry))) (table-of (now (second .entry))) (pred r))
-        (transition-at (now (first .entry)) j) (transition-at (now (second .entry)) k) b (now (sets .entry)) (now (sets .exit)) ⌝ }
+    requires { ⌜ InRound (now tables) (now ranks) r j k (now amounts) × (2 * most-states ≤ height (now sets)) ⌝ }
+    ensures { λ b. ⌜ Parted (round (first-table (now (tables .entry))) (second-table (now (tables .entry))) (pred r))
+        (first-step (now (tables .entry)) j) (second-step (now (tables .entry)) k) b (now (sets .entry)) (now (sets .exit)) ⌝ }
 {
-    let named = cut(first, second, ranks, r, j, k, rel, x);
+    if tables::code(tables, Form::FIRST, j) != tables::code(tables, Form::SECOND, k) {
+        return false;
+    }
+    let rel = &mut sets[Relation::WORDS..2 * Relation::WORDS];
+    let named = ranked::round_cut(tables, ranks, r, j, k, rel, amounts);
     if set::is_empty(named) {
         return true;
     }
-    let near = touch(rel, named);
-    let more = loose(second, k, near);
-    spread(sets, named, more);
+    let near = reached(&sets[Relation::WORDS..2 * Relation::WORDS], named);
+    let more = other_targets(tables, k, near);
+    join_sets(sets, named, more);
     false
-}
-
-// The same for any k: j doesn't fit one with another code, which adds nothing.
-fn add_sets(
-    first: &[u16],
-    second: &[u16],
-    ranks: &[u16],
-    r: u16,
-    j: usize,
-    k: usize,
-    sets: &mut [u64],
-    rel: &mut [u64],
-    x: &mut [u32],
-) -> bool
-    requires { ⌜ Compared (now first) (now second) (now ranks) r j k (now rel) (now x) × (length (transition-at (now first) j .entries) ≤ height (now sets)) ⌝ }
-    ensures { λ b. ⌜ Parted (round (table-of (now (first .entry))) (table-of (now (second .entry))) (pred r))
-        (transition-at (now (first .entry)) j) (transition-at (now (second .entry)) k) b (now (sets .entry)) (now (sets .exit)) ⌝ }
-{
-    if form::code(first, j) != form::code(second, k) {
-        return false;
-    }
-    part_sets(first, second, ranks, r, j, k, sets, rel, x)
-}
-
-// Empties the first n sets.
-fn clear(sets: &mut [u64], n: usize)
-    requires { ⌜ (n ≤ most-states) × (n ≤ height (now sets)) ⌝ }
-    ensures { λ _. ⌜ ((i : ℕ) → i < n → row-of (now (sets .exit)) i ≡ 0) ⌝ }
-{
-    for i in 0..n {
-        rows::put(sets, i, set::empty());
-    }
 }
 
 // The first transition of t that the transition j of s fits in the round before the pair's rank r, or the end of t's transitions if there is
 // none. If j is the one chosen, the sets are those of its targets.
 pub fn find_sets(
-    first: &[u16],
-    second: &[u16],
+    tables: &[u16],
     ranks: &[u16],
     s: usize,
     t: usize,
     r: u16,
     j: usize,
-    sets: &mut [u64],
-    rel: &mut [u64],
-    x: &mut [u32],
+    sets: &mut [Word],
+    amounts: &mut [u32],
 ) -> usize
-    requires { ⌜ Ranked (now first) (now second) (now ranks) × Lost (now first) (now second) s t
-        × (r ≡ rank (table-of (now first)) (table-of (now second)) s t) × (start-of (now first) s ≤ j) × (j < start-of (now first) (s + 1))
-        × Lent (now rel) (now x) × (length (transition-at (now first) j .entries) ≤ height (now sets)) ⌝ }
-    ensures { λ l. ⌜ Tested (now (first .entry)) (now (second .entry)) s t r j l (now (sets .exit)) ⌝ }
+    requires { ⌜ Ranked (now tables) (now ranks) × Lost (now tables) s t × (r ≡ rank (first-table (now tables)) (second-table (now tables)) s t)
+        × (start-of (first-form (now tables)) s ≤ j) × (j < start-of (first-form (now tables)) (s + 1))
+        × (2 * most-states ≤ height (now sets)) × (most-pairs ≤ length (now amounts)) ⌝ }
+    ensures { λ l. ⌜ Tested (now (tables .entry)) s t r j l (now (sets .exit)) ⌝ }
 {
-    clear(sets, form::targets(first, j).len());
-    let last = form::first(second, t + 1);
-    let mut l = form::first(second, t);
+    rows::clear(sets, tables::targets(tables, Form::FIRST, j).len());
+    let last = tables::start_of(tables, Form::SECOND, t + 1);
+    let mut l = tables::start_of(tables, Form::SECOND, t);
     while l < last {
-        if add_sets(first, second, ranks, r, j, l, sets, rel, x) {
+        if part_sets(tables, ranks, r, j, l, sets, amounts) {
             return l;
         }
         l += 1;
@@ -193,57 +147,51 @@ pub fn find_sets(
     l
 }
 
-// Where a state has more transitions than this, a guess comes first: the one that the last was found to fit.
-const PARTNERS: usize = 16;
-
-// Whether t has many transitions and j fits l, one of them, in the round before round r. Where there are few, trying them in turn costs less.
+// Whether t has many transitions and j fits l, one of them, in the round before round r, in room for rows of a relation. Where there are few,
+// trying them in turn costs less.
 fn guessed(
-    first: &[u16],
-    second: &[u16],
+    tables: &[u16],
     ranks: &[u16],
     t: usize,
     r: u16,
     j: usize,
     l: usize,
-    rel: &mut [u64],
-    x: &mut [u32],
+    rel: &mut [Word],
+    amounts: &mut [u32],
 ) -> bool
-    requires { ⌜ Compared (now first) (now second) (now ranks) r j l (now rel) (now x) × (t < states-of (table-of (now second)))
-        × (start-of (now second) t ≤ l) × (l < start-of (now second) (t + 1)) ⌝ }
-    ensures { λ b. ⌜ (b ≡ true → fits-some (now (first .entry)) (now (second .entry)) t r j ≡ true) ⌝ }
+    requires { ⌜ InRound (now tables) (now ranks) r j l (now amounts) × (most-states ≤ height (now rel)) × (t < states-of (second-table (now tables)))
+        × (start-of (second-form (now tables)) t ≤ l) × (l < start-of (second-form (now tables)) (t + 1)) ⌝ }
+    ensures { λ b. ⌜ (b ≡ true → round-fits-some (now (tables .entry)) t r j ≡ true) ⌝ }
 {
-    if form::first(second, t + 1) - form::first(second, t) <= PARTNERS {
+    if tables::start_of(tables, Form::SECOND, t + 1) - tables::start_of(tables, Form::SECOND, t)
+        <= fit::PARTNERS
+    {
         return false;
     }
-    if form::code(first, j) != form::code(second, l) {
-        return false;
-    }
-    set::is_empty(cut(first, second, ranks, r, j, l, rel, x))
+    ranked::fits(tables, ranks, r, j, l, rel, amounts)
 }
 
 // The number of the first transition of s that fits none of t with its code, in the round before the pair's rank r, with the sets of its targets.
 pub fn choose(
-    first: &[u16],
-    second: &[u16],
+    tables: &[u16],
     ranks: &[u16],
     s: usize,
     t: usize,
     r: u16,
-    sets: &mut [u64],
-    rel: &mut [u64],
-    x: &mut [u32],
+    sets: &mut [Word],
+    amounts: &mut [u32],
 ) -> usize
-    requires { ⌜ Ranked (now first) (now second) (now ranks) × Lost (now first) (now second) s t
-        × (r ≡ rank (table-of (now first)) (table-of (now second)) s t) × (most-states ≤ height (now sets)) × Lent (now rel) (now x) ⌝ }
-    ensures { λ j. ⌜ Choice (now (first .entry)) (now (second .entry)) s t j × Sets (now (first .entry)) (now (second .entry)) s t (now (sets .exit)) ⌝ }
+    requires { ⌜ Ranked (now tables) (now ranks) × Lost (now tables) s t × (r ≡ rank (first-table (now tables)) (second-table (now tables)) s t)
+        × (2 * most-states ≤ height (now sets)) × (most-pairs ≤ length (now amounts)) ⌝ }
+    ensures { λ j. ⌜ Choice (now (tables .entry)) s t j × Sets (now (tables .entry)) s t (now (sets .exit)) ⌝ }
 {
-    let last = form::first(second, t + 1);
-    let mut j = form::first(first, s);
-    let mut l = find_sets(first, second, ranks, s, t, r, j, sets, rel, x);
+    let last = tables::start_of(tables, Form::SECOND, t + 1);
+    let mut j = tables::start_of(tables, Form::FIRST, s);
+    let mut l = find_sets(tables, ranks, s, t, r, j, sets, amounts);
     while l < last {
         j += 1;
-        if !guessed(first, second, ranks, t, r, j, l, rel, x) {
-            l = find_sets(first, second, ranks, s, t, r, j, sets, rel, x);
+        if !guessed(tables, ranks, t, r, j, l, sets, amounts) {
+            l = find_sets(tables, ranks, s, t, r, j, sets, amounts);
         }
     }
     j

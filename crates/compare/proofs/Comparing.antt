@@ -1,7 +1,7 @@
 -- From what the functions below give to what a call on two accepted tables does.
 -- Assumes nothing.
-use mathlib.Core.Path.{_≡_, sym, ap, ap₂, _∙_, subst}
-use mathlib.Core.Bool.{Bool, true, false, cond, _||_}
+use mathlib.Core.Path.{_≡_, refl, sym, ap, ap₂, _∙_, subst}
+use mathlib.Core.Bool.{Bool, true, false, cond, _||_, _&&_}
 use mathlib.Core.List.{List}
 use mathlib.Core.Logic.{_≢_, ⊎-elim}
 use Prim.Native.Nat.{ℕ, _+_, _*_, _≤_, _<_}
@@ -9,7 +9,7 @@ use native.Mathlib.Nat.{zero-mul}
 use native.Mathlib.Omega.{arith}
 use native.Mathlib.Decide.{decLt, ℕ-discrete}
 use lib.Dec.{T, not-T, leb, ltb, eqb, leb→le, nleb→lt}
-use borrow.Author.Tests.{ltb-false}
+use borrow.Author.Tests.{ltb-false, lt-ltb}
 use lib.ListN.{length, getD, drop, length-append, List·getD-append}
 use Rattle.simulation.specs.Fit.{Amounts}
 use Rattle.simulation.specs.Table.{Table, states-of}
@@ -17,12 +17,18 @@ use Rattle.simulation.specs.Round.{pairs, rank, rank-list, maximum, zeros}
 use Rattle.simulation.specs.Demands.{Kept}
 use Rattle.simulation.proofs.Finite.Tests.{or-cases, or-left, or-right}
 use Rattle.simulation.proofs.Simulation.RankList.{rank-list-length, rank-list-at}
-use Rattle.form.specs.Form.{table-of, Loaded}
-use Rattle.simulation.specs.Limits.{most-pairs}
+use Rattle.form.specs.Tables.{first-form, second-form, first-table, second-table, BothLoaded}
+use Rattle.simulation.specs.Limits.{most-pairs, most-states}
 use Rattle.witness.proofs.Showing.{count-small}
 use Rattle.flows.specs.Flow.{Right, flow-bytes, flow-room}
-use Rattle.ranking.specs.Rows.{Filled as RanksFilled}
+use Rattle.ranking.specs.Rows.{Open, RanksFilled}
+use Rattle.relation.specs.Mask.{Test}
+use Rattle.relation.specs.Words.{height}
+use Rattle.relation.specs.Related.{related, all-below}
+use Rattle.relation.specs.declared.Relation.{Relation}
 use Rattle.relate.specs.Ranked.{Ranked}
+use Rattle.choice.specs.Choice.{Lost}
+use Rattle.flows.specs.FlowSteps.{Chosen}
 use Rattle.flows.proofs.FlowPlace.{right-amounts}
 use Rattle.buffer.specs.Buffer.{over}
 use Rattle.counting.specs.Count.{longest}
@@ -123,22 +129,34 @@ module _ (M N : Table) (s t : ℕ) where
               by-condition (tree-fits ready k (omega arith) (omega arith)) nothing fair (ap₂ at (w .0 ∙ done (length (tree-bytes M N s t))) (w .1))
 
 -- the places of pairs are small
-module _ (f g : List ℕ) (lf : Loaded f) (lg : Loaded g) {p q : ℕ} (ep : p ≡ states-of (table-of f)) (eq : q ≡ states-of (table-of g)) where
-  pub place-small : (s t : ℕ) → s < p → t < q → s * q + t < most-pairs
-  place-small s t a b = omega (arith, place-below s t p q a b, count-small f g lf lg ep eq)
+pub place-small : (tables : List ℕ) → BothLoaded tables → {q : ℕ} → q ≡ states-of (second-table tables) → (s t : ℕ) → s < states-of (first-table tables)
+    → t < states-of (second-table tables) → s * q + t < most-pairs
+place-small tables l {q} e s t a b =
+    let p = states-of (first-table tables) in
+    omega (arith, place-below s t p q a (omega arith), count-small (first-form tables) (second-form tables) (l .first) (l .second) {p = p} refl e)
+
+-- the rows of the full relation have every pair
+pub all-open : (r : Relation) → related r ≡ all-below most-states most-states → most-states ≤ height (r .rows) → Open (r .rows)
+unfolding related
+all-open r e room =
+    record {
+      room = room;
+      all = λ s t a b. ap (λ (R : ℕ → Test). R s t) e ∙ ap₂ _&&_ (lt-ltb s most-states a) (lt-ltb t most-states b);
+    }
 
 -- an accepted call's answer by its parts; z is the rank of (0, 0)
 abbrev answer-of : (rounds kept z rank written : ℕ) → Answer
 answer-of r k z p n = record { number = 0; table = 0; needed = 0; rounds = r; kept = k; verdict = cond (eqb z 0) 1 0; rank = p; written = n }
 
 -- once the ranks are there
-module _ (f g : List ℕ) (lf : Loaded f) (lg : Loaded g) (s t : ℕ) (left-in : s < states-of (table-of f)) (right-in : t < states-of (table-of g))
-    {old new : List ℕ} {rounds kept : ℕ} (room : pairs (table-of f) (table-of g) ≤ length old) (found : RanksFilled (table-of f) (table-of g) old new rounds kept) where
+module _ (tables : List ℕ) (loaded : BothLoaded tables) (s t : ℕ) (left-in : s < states-of (first-table tables)) (right-in : t < states-of (second-table tables))
+    {old new rows : List ℕ} {rounds kept : ℕ} (room : pairs (first-table tables) (second-table tables) ≤ length old)
+    (found : RanksFilled tables old new rows rounds kept) where
   abbrev M : Table
-  M = table-of f
+  M = first-table tables
 
   abbrev N : Table
-  N = table-of g
+  N = second-table tables
 
   long-enough : pairs M N ≤ length new
   long-enough = subst (λ (l : List ℕ). pairs M N ≤ length l) (sym (found .ranks-are)) (omega (arith, rank-list-length M N, length-append (rank-list M N) (drop (length (rank-list M N)) old)))
@@ -149,8 +167,8 @@ module _ (f g : List ℕ) (lf : Loaded f) (lg : Loaded g) (s t : ℕ) (left-in :
       ∙ List·getD-append (rank-list M N) _ 0 (u * states-of N + v) (omega (arith, rank-list-length M N, place-below u v (states-of M) (states-of N) a c))
       ∙ rank-list-at M N u v a c
 
-  pub ranked-after : Ranked f g new
-  ranked-after = record { first-loaded = lf; second-loaded = lg; enough = long-enough; ranked = here }
+  pub ranked-after : Ranked tables new
+  ranked-after = record { loaded = loaded; enough = long-enough; ranked = here }
 
   module _ {w : ℕ} (width : w ≡ states-of N) where
     pub place-after : s * w + t < length new
@@ -158,6 +176,22 @@ module _ (f g : List ℕ) (lf : Loaded f) (lg : Loaded g) (s t : ℕ) (left-in :
 
     pub rank-after : getD new (s * w + t) 0 ≡ rank M N s t
     rank-after = ap (λ (v : ℕ). getD new (s * v + t) 0) width ∙ here s t left-in right-in
+
+    -- the pair, kept or not
+    pub chosen-after : {amounts : List ℕ} → most-states ≤ height rows → most-pairs ≤ length amounts → getD new (s * w + t) 0 ≡ 0 → Chosen tables rows amounts s t
+    chosen-after a b z =
+        record {
+          loaded = loaded;
+          rows-room = a;
+          rows-kept = found .rows-are;
+          amounts-room = b;
+          first = left-in;
+          second = right-in;
+          kept = sym rank-after ∙ z;
+        }
+
+    pub lost-after : getD new (s * w + t) 0 ≢ 0 → Lost tables s t
+    lost-after z = record { left = left-in; right = right-in; fell = omega (arith, rank-after, z) }
 
     module _ {a : Answer} (is : a ≡ found-answer new (s * w + t) rounds kept) where
       done-after : (n : ℕ) → with-written n a ≡ success M N s t n

@@ -1,7 +1,10 @@
 // The check of two loaded tables: ranks for all pairs, then a flow or a tree for the chosen one.
 // What the array lent as room holds is free. It is made of ones, which the compiler writes in words, where zeros become a call of memset.
 use answer::Answer;
+use form::Form;
+use form::tables;
 use ranking;
+use relation::Relation;
 use relation::ranks;
 use simulation::Table;
 ghost use mathlib.Core.Path.{_≡_};
@@ -11,7 +14,7 @@ ghost use lib.Dec.{leb};
 ghost use lib.ListN.{length};
 ghost use Rattle.simulation.specs.Table.{states-of};
 ghost use Rattle.simulation.specs.Round.{pairs};
-ghost use Rattle.form.specs.Form.{table-of, Loaded};
+ghost use Rattle.form.specs.Tables.{first-table, second-table, BothLoaded};
 ghost use Rattle.compare.specs.Outcome.{lent, left};
 ghost use Rattle.compare.specs.Steps.{found-answer, Compared};
 
@@ -36,27 +39,28 @@ fn found(ranks: &[u16], place: usize, rounds: u16, kept: u16) -> Answer
 
 // Ranks for all pairs, then what there is to show of (s, t).
 fn show(
-    first: &[u16],
-    second: &[u16],
+    tables: &[u16],
     s: usize,
     t: usize,
     ranks: &mut [u16],
     flow: &mut [u8],
     tree: &mut [u8],
 ) -> Answer
-    requires { ⌜ Loaded (now first) × Loaded (now second) × (s < states-of (table-of (now first))) × (t < states-of (table-of (now second)))
-        × (pairs (table-of (now first)) (table-of (now second)) ≤ length (now ranks)) ⌝ }
-    ensures { λ r. ⌜ Compared (table-of (now (first .entry))) (table-of (now (second .entry))) s t
+    requires { ⌜ BothLoaded (now tables) × (s < states-of (first-table (now tables))) × (t < states-of (second-table (now tables)))
+        × (pairs (first-table (now tables)) (second-table (now tables)) ≤ length (now ranks)) ⌝ }
+    ensures { λ r. ⌜ Compared (first-table (now (tables .entry))) (second-table (now (tables .entry))) s t
         (lent (now (ranks .entry)) (now (flow .entry)) (now (tree .entry))) (left r (lent (now (ranks .exit)) (now (flow .exit)) (now (tree .exit)))) ⌝ }
 {
-    let mut x = [1u32; Table::PAIRS];
-    let r = ranking::rank(first, second, ranks, &mut x);
-    let place = s * form::states(second) + t;
+    let mut amounts = [1u32; Table::PAIRS];
+    let all = Relation::full();
+    let mut rows = all.rows;
+    let r = ranking::rank(tables, ranks, &mut rows, &mut amounts);
+    let place = s * tables::states(tables, Form::SECOND) + t;
     let a = found(ranks, place, r.rounds, r.kept);
     if ranks[place] == 0 {
-        return witness::show_flow(first, second, ranks, s, t, a, &mut x, flow);
+        return witness::show_flow(tables, &rows, s, t, a, &mut amounts, flow);
     }
-    witness::show_tree(first, second, ranks, s, t, a, &mut x, tree)
+    witness::show_tree(tables, ranks, s, t, a, &mut amounts, tree)
 }
 
 // Whether the pair lies outside the p × q pairs.
@@ -68,20 +72,19 @@ fn is_outside(s: usize, t: usize, p: usize, q: usize) -> bool
 
 // The check of two loaded tables. A pair outside is refused before short ranks.
 pub fn compare_tables(
-    first: &[u16],
-    second: &[u16],
+    tables: &[u16],
     s: usize,
     t: usize,
     ranks: &mut [u16],
     flow: &mut [u8],
     tree: &mut [u8],
 ) -> Answer
-    requires { ⌜ Loaded (now first) × Loaded (now second) ⌝ }
-    ensures { λ r. ⌜ Compared (table-of (now (first .entry))) (table-of (now (second .entry))) s t
+    requires { ⌜ BothLoaded (now tables) ⌝ }
+    ensures { λ r. ⌜ Compared (first-table (now (tables .entry))) (second-table (now (tables .entry))) s t
         (lent (now (ranks .entry)) (now (flow .entry)) (now (tree .entry))) (left r (lent (now (ranks .exit)) (now (flow .exit)) (now (tree .exit)))) ⌝ }
 {
-    let p = form::states(first);
-    let q = form::states(second);
+    let p = tables::states(tables, Form::FIRST);
+    let q = tables::states(tables, Form::SECOND);
     let pairs = p * q;
     let needed = pairs as u32;
     let outside = is_outside(s, t, p, q);
@@ -92,5 +95,5 @@ pub fn compare_tables(
     if short {
         return Answer::refused(20, 0, needed);
     }
-    show(first, second, s, t, ranks, flow, tree)
+    show(tables, s, t, ranks, flow, tree)
 }

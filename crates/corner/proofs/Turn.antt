@@ -11,6 +11,7 @@ use native.Mathlib.Omega.{arith}
 use lib.Bits.{bitAnd, and-le-l, and-le-r}
 use lib.Dec.{T}
 use lib.ListN.{length}
+use Rattle.simulation.specs.Limits.{most-total}
 use Rattle.simulation.specs.Sum.{when}
 use Rattle.simulation.specs.Fit.{weight, total, fits?, Positive}
 use Rattle.simulation.proofs.Finite.Sums.{one-same, when-most}
@@ -86,10 +87,10 @@ module _ {R : ℕ → ℕ → Bool} {ws vs : List ℕ} where
     all-passed h e = shares-out ws vs R (λ k l hk hl n. s .passed e .related k l hk hl (inl (omega arith)) n)
 
     -- a share more still fits 32 bits
-    pub row-fits : total ws < 65536 → total vs < 65536 → i < length ws → a + weight ws i * total vs < 2 ^ 32
+    pub row-fits : total ws ≤ most-total → total vs ≤ most-total → i < length ws → a + weight ws i * total vs < 2 ^ 32
     row-fits p q h = omega (arith, s .row-start, end-next (total vs) ws i, row-within ws vs i h, supply-fits (total ws) (total vs) p q)
 
-    pub column-fits : total ws < 65536 → total vs < 65536 → i < length ws → b + weight vs j * total ws < 2 ^ 32
+    pub column-fits : total ws ≤ most-total → total vs ≤ most-total → i < length ws → b + weight vs j * total ws < 2 ^ 32
     column-fits p q h = omega (arith, s .column-start, end-next (total ws) vs j, column-within ws vs j (s .column h), supply-fits (total ws) (total vs) p q)
 
     pub turn : i < length ws → {x y d : ℕ} → x ≡ a + weight ws i * total vs → y ≡ b + weight vs j * total ws → d ≡ when (R i j) 1 → Turn R ws vs i j x y (bitAnd g d)

@@ -2,7 +2,7 @@
 // It takes no memory and at most one step for each target. It shares two distributions out if it meets related pairs alone; near copies
 // mostly pass.
 use greedy::total_weight;
-use matrix::wide;
+use relation::Word;
 use relation::rows;
 ghost use mathlib.Core.Path.{_≡_};
 ghost use mathlib.Core.Bool.{true};
@@ -11,7 +11,7 @@ ghost use Rattle.matrix.specs.Problem.{Sides, joins};
 
 // Whether the rule meets related pairs alone: then m fits n. The shares of the first i targets of m end at a, of the first j of n at b.
 // Pairs that aren't related are no reason to stop: nothing branches on whether a pair is related.
-pub fn corner(from: &[u16], m: &[u16], to: &[u16], n: &[u16], rows: &[u64]) -> bool
+pub fn corner(from: &[u16], m: &[u16], to: &[u16], n: &[u16], rows: &[Word]) -> bool
     requires { ⌜ Sides (now from) (now m) (now to) (now n) (now rows) ⌝ }
     ensures { λ r. ⌜ (r ≡ true → fits? (joins (now (rows .entry)) (now (from .entry)) (now (to .entry))) (now (m .entry)) (now (n .entry)) ≡ true) ⌝ }
 {
@@ -21,11 +21,11 @@ pub fn corner(from: &[u16], m: &[u16], to: &[u16], n: &[u16], rows: &[u64]) -> b
     let mut j = 0;
     let mut a = 0u32;
     let mut b = 0u32;
-    let mut related = 1u64;
+    let mut related: Word = 1;
     while i < m.len() {
         related = related & rows::bit(rows, from[i] as usize, to[j] as usize);
-        let x = a + wide(m[i]) * u;
-        let y = b + wide(n[j]) * t;
+        let x = a + m[i] as u32 * u;
+        let y = b + n[j] as u32 * t;
         if x == y {
             i += 1;
             j += 1;

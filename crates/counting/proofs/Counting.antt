@@ -12,12 +12,12 @@ use lib.ListN.{length, getD, set, length-set}
 use lib.Seq.{getD-set-same, getD-set-other}
 use borrow.Author.Tests.{eq-eqb, ne-eqb}
 use Rattle.simulation.specs.Limits.{most-states, most-pairs}
+use Rattle.form.specs.Tables.{first-form, second-form, first-table, second-table, first-step}
 use Rattle.simulation.specs.Sum.{sum, when}
 use Rattle.simulation.specs.Table.{Table, targets, states-of}
 use Rattle.simulation.specs.Round.{pairs}
 use Rattle.simulation.specs.Length.{pair-length}
 use Rattle.simulation.proofs.Finite.Sums.{sum-bound, sum-none, sum-more, when-most}
-use Rattle.form.specs.Form.{table-of, transition-at}
 use Rattle.form.proofs.FormLaws.{limits, few-pairs}
 use Rattle.relation.specs.Mask.{Test, member, without-member, Lowest}
 use Rattle.relation.specs.Words.{row-of}
@@ -50,7 +50,7 @@ row-start width s members c counts = record { size = refl; due = λ u v _. refl;
 module _ {width s members c : ℕ} {counts₀ counts : List ℕ} {left : ℕ} (w : Within counts₀ width s members c) (l : RowLoop width s members c counts₀ counts left)
     {t : ℕ} (low : Lowest (member left) t) where
   -- the lowest member left is inside the row, has its place, and its count can be raised
-  pub member-inside : t < width
+  member-inside : t < width
   member-inside = w .inside t (l .kept t (member-holds low))
 
   pub member-place : s * width + t < length counts
@@ -183,28 +183,28 @@ counts-end {targets} {sets} {width} {c} {counts₀} {counts} {i} l h =
 -- ---- transitions counted one after another
 
 -- what a walk keeps of the counts
-pub record Counted (first second counts₀ : List ℕ) (bytes₀ : ℕ) (counts : List ℕ) (bytes : ℕ) : Type 0 where
-  pub tallied : Tallied first second counts₀ bytes₀ counts bytes
+pub record Counted (tables counts₀ : List ℕ) (bytes₀ : ℕ) (counts : List ℕ) (bytes : ℕ) : Type 0 where
+  pub tallied : Tallied tables counts₀ bytes₀ counts bytes
   pub same-counts : length counts ≡ length counts₀
 
 -- at first no transition is counted
-pub counted-start : {first second counts : List ℕ} {bytes : ℕ} → Tally first second counts bytes → Counted first second counts bytes counts bytes
+pub counted-start : {tables counts : List ℕ} {bytes : ℕ} → Tally tables counts bytes → Counted tables counts bytes counts bytes
 counted-start t = record { tallied = record { tally = t; total = refl }; same-counts = refl }
 
 -- some more are counted
-pub counted-next : {first second counts₀ : List ℕ} {bytes₀ : ℕ} {counts : List ℕ} {bytes : ℕ} {counts′ : List ℕ} {bytes′ : ℕ}
-    → Counted first second counts₀ bytes₀ counts bytes → length counts′ ≡ length counts → Tallied first second counts bytes counts′ bytes′
-    → Counted first second counts₀ bytes₀ counts′ bytes′
+pub counted-next : {tables counts₀ : List ℕ} {bytes₀ : ℕ} {counts : List ℕ} {bytes : ℕ} {counts′ : List ℕ} {bytes′ : ℕ}
+    → Counted tables counts₀ bytes₀ counts bytes → length counts′ ≡ length counts → Tallied tables counts bytes counts′ bytes′
+    → Counted tables counts₀ bytes₀ counts′ bytes′
 counted-next p e q = record { tallied = record { tally = q .tally; total = q .total ∙ p .tallied .total }; same-counts = e ∙ p .same-counts }
 
 -- ---- a pair hands on its count
 
-module _ {first second : List ℕ} {s t j : ℕ} {sets counts : List ℕ} {bytes : ℕ} (g : HandGiven first second s t j sets counts bytes) where
+module _ {tables : List ℕ} {s t j : ℕ} {sets counts : List ℕ} {bytes : ℕ} (g : HandGiven tables s t j sets counts bytes) where
   abbrev M : Table
-  M = table-of first
+  M = first-table tables
 
   abbrev N : Table
-  N = table-of second
+  N = second-table tables
 
   abbrev due : ℕ
   due = getD counts (s * states-of N + t) 0
@@ -213,15 +213,15 @@ module _ {first second : List ℕ} {s t j : ℕ} {sets counts : List ℕ} {bytes
   cleared = set counts (s * states-of N + t) 0
 
   -- the pair with its transition
-  pub hand-choice : ChoiceGiven first second s t j
-  hand-choice = record { first-loaded = g .first-loaded; second-loaded = g .second-loaded; lost = g .lost; choice = g .choice }
+  pub hand-choice : ChoiceGiven tables s t j
+  hand-choice = record { loaded = g .loaded; lost = g .lost; choice = g .choice }
 
   -- the same by a width that is the number of states of the second table
   pub hand-place : (width : ℕ) → width ≡ states-of N → s * width + t < length counts
   hand-place width e = omega (arith, ap (λ (n : ℕ). s * n + t) e, lost-place (g .lost), g .tally .room)
 
   pub hand-low : (width : ℕ) → width ≡ states-of N → s * width + t < most-pairs
-  hand-low width e = omega (arith, ap (λ (n : ℕ). s * n + t) e, lost-place (g .lost), few-pairs first second (g .first-loaded) (g .second-loaded))
+  hand-low width e = omega (arith, ap (λ (n : ℕ). s * n + t) e, lost-place (g .lost), few-pairs (first-form tables) (second-form tables) (g .loaded .first) (g .loaded .second))
 
   due-small : due ≤ bytes
   due-small = g .tally .few s t (g .lost .left) (g .lost .right)
@@ -237,13 +237,13 @@ module _ {first second : List ℕ} {s t j : ℕ} {sets counts : List ℕ} {bytes
       at (yes e) = omega (arith, ap (λ (k : ℕ). getD cleared k 0) e ∙ getD-set-same counts (s * states-of N + t) 0 0 (hand-place (states-of N) refl))
       at (no d) = omega (arith, getD-set-other counts (s * states-of N + t) (u * states-of N + v) 0 0 d, g .tally .few u v a b)
 
-  module _ {ts : List ℕ} (et : ts ≡ targets (transition-at first j)) where
+  module _ {ts : List ℕ} (et : ts ≡ targets (first-step tables j)) where
     fits : bytes ≤ longest → bytes + due * (2 + 4 * length ts) < 2 ^ 30
     fits under =
         omega (
           arith,
           few-targets hand-choice et,
-          mul-le-mul-right (2 + 4 * length ts) (let h : due ≤ 65535 = omega (arith, due-small) in h),
+          mul-le-mul-right (2 + 4 * length ts) (let h : due ≤ longest = omega (arith, due-small) in h),
         )
 
     raised : bytes ≤ longest → CountsGiven ts sets (states-of N) due cleared
@@ -251,7 +251,7 @@ module _ {first second : List ℕ} {s t j : ℕ} {sets counts : List ℕ} {bytes
         record {
           few = few-targets hand-choice et;
           words = omega (arith, few-targets hand-choice et, g .words);
-          narrow = limits second (g .second-loaded) .states-few;
+          narrow = limits (second-form tables) (g .loaded .second) .states-few;
           low = state-low hand-choice et;
           room = λ i b. omega (arith, state-row hand-choice et i b, g .tally .room, length-set counts (s * states-of N + t) 0);
           inside = λ i u b h. child-lost hand-choice et (g .told) i u b h .0 .right;
@@ -265,7 +265,7 @@ module _ {first second : List ℕ} {s t j : ℕ} {sets counts : List ℕ} {bytes
         length-parts hand-choice et (g .told) ∙ ap (_+_ 2) (sum-fours (length ts) (λ i. sum (states-of N) (λ u. when (member (row-of sets i) u) (pair-length M N (getD ts i 0) u))))
 
     handed : bytes ≤ longest → {counts′ : List ℕ} → length counts′ ≡ length counts → CountsAdded ts sets (states-of N) due (length ts) cleared counts′
-        → Tallied first second counts bytes counts′ (bytes + due * (2 + 4 * length ts))
+        → Tallied tables counts bytes counts′ (bytes + due * (2 + 4 * length ts))
     handed under {counts′} e a =
         record {
           tally = record {
@@ -281,8 +281,8 @@ module _ {first second : List ℕ} {s t j : ℕ} {sets counts : List ℕ} {bytes
           total = omega (arith, owed-less, owed-children M N ts sets due (length ts) cleared counts′ (state-at hand-choice et) (a .at), ap (λ (n : ℕ). due * n) split-length);
         }
 
-module _ {first second : List ℕ} {s t j : ℕ} {sets counts : List ℕ} {bytes : ℕ} (g : HandGiven first second s t j sets counts bytes) (under : bytes ≤ longest)
-    {ts : List ℕ} (et : ts ≡ targets (transition-at first j)) (width : ℕ) (e : width ≡ states-of (table-of second)) where
+module _ {tables : List ℕ} {s t j : ℕ} {sets counts : List ℕ} {bytes : ℕ} (g : HandGiven tables s t j sets counts bytes) (under : bytes ≤ longest)
+    {ts : List ℕ} (et : ts ≡ targets (first-step tables j)) (width : ℕ) (e : width ≡ states-of (second-table tables)) where
   -- the bytes stay small, the counts below can be raised, and what is owed goes down by what is counted
   pub hand-fits : bytes + getD counts (s * width + t) 0 * (2 + 4 * length ts) < 2 ^ 30
   hand-fits = subst (λ (n : ℕ). bytes + getD counts (s * n + t) 0 * (2 + 4 * length ts) < 2 ^ 30) (sym e) (fits g et under)
@@ -292,24 +292,24 @@ module _ {first second : List ℕ} {s t j : ℕ} {sets counts : List ℕ} {bytes
 
   pub handed-on : {counts′ : List ℕ} → length counts′ ≡ length counts
       → CountsAdded ts sets width (getD counts (s * width + t) 0) (length ts) (set counts (s * width + t) 0) counts′
-      → Tallied first second counts bytes counts′ (bytes + getD counts (s * width + t) 0 * (2 + 4 * length ts))
+      → Tallied tables counts bytes counts′ (bytes + getD counts (s * width + t) 0 * (2 + 4 * length ts))
   handed-on {counts′} same =
       subst (λ (n : ℕ). CountsAdded ts sets n (getD counts (s * n + t) 0) (length ts) (set counts (s * n + t) 0) counts′
-      → Tallied first second counts bytes counts′ (bytes + getD counts (s * n + t) 0 * (2 + 4 * length ts))) (sym e)
+      → Tallied tables counts bytes counts′ (bytes + getD counts (s * n + t) 0 * (2 + 4 * length ts))) (sym e)
       (handed g et under same)
 
 -- ---- the root
 
-module _ {first second : List ℕ} {s t : ℕ} (lost : Lost first second s t) (counts : List ℕ) (room : pairs (table-of first) (table-of second) ≤ length counts)
-    (none : (k : ℕ) → k < pairs (table-of first) (table-of second) → getD counts k 0 ≡ 0) where
+module _ {tables : List ℕ} {s t : ℕ} (lost : Lost tables s t) (counts : List ℕ) (room : pairs (first-table tables) (second-table tables) ≤ length counts)
+    (none : (k : ℕ) → k < pairs (first-table tables) (second-table tables) → getD counts k 0 ≡ 0) where
   -- the root's count has its place; set to 1 among zeros, it makes the root's length owed
-  pub root-in : s * states-of (table-of second) + t < length counts
+  pub root-in : s * states-of (second-table tables) + t < length counts
   root-in = omega (arith, lost-place lost)
 
-  pub one-counted : OneCounted first second s t (set counts (s * states-of (table-of second) + t) 1)
+  pub one-counted : OneCounted tables s t (set counts (s * states-of (second-table tables) + t) 1)
   one-counted =
-      let M = table-of first in
-      let N = table-of second in
+      let M = first-table tables in
+      let N = second-table tables in
       record {
         tally = record {
           room = omega (arith, length-set counts (s * states-of N + t) 1);
@@ -324,16 +324,16 @@ module _ {first second : List ℕ} {s t : ℕ} (lost : Lost first second s t) (c
         );
       }
     where
-      few : (u v : ℕ) → u < states-of (table-of first) → v < states-of (table-of second) → Dec (u * states-of (table-of second) + v ≡ s * states-of (table-of second) + t)
-          → getD (set counts (s * states-of (table-of second) + t) 1) (u * states-of (table-of second) + v) 0 ≤ 1
+      few : (u v : ℕ) → u < states-of (first-table tables) → v < states-of (second-table tables) → Dec (u * states-of (second-table tables) + v ≡ s * states-of (second-table tables) + t)
+          → getD (set counts (s * states-of (second-table tables) + t) 1) (u * states-of (second-table tables) + v) 0 ≤ 1
       few u v a b (yes e) =
           omega (
             arith,
-            ap (λ (k : ℕ). getD (set counts (s * states-of (table-of second) + t) 1) k 0) e ∙ getD-set-same counts (s * states-of (table-of second) + t) 1 0 root-in,
+            ap (λ (k : ℕ). getD (set counts (s * states-of (second-table tables) + t) 1) k 0) e ∙ getD-set-same counts (s * states-of (second-table tables) + t) 1 0 root-in,
           )
       few u v a b (no d) =
           omega (
             arith,
-            getD-set-other counts (s * states-of (table-of second) + t) (u * states-of (table-of second) + v) 1 0 d,
-            none (u * states-of (table-of second) + v) (place-below u v (states-of (table-of first)) (states-of (table-of second)) a b),
+            getD-set-other counts (s * states-of (second-table tables) + t) (u * states-of (second-table tables) + v) 1 0 d,
+            none (u * states-of (second-table tables) + v) (place-below u v (states-of (first-table tables)) (states-of (second-table tables)) a b),
           )

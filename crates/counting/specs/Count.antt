@@ -6,12 +6,12 @@ use mathlib.Core.List.{List}
 use Prim.Native.Nat.{ℕ, _+_, _*_, _^_, _≤_, _<_}
 use lib.Dec.{T, eqb}
 use lib.ListN.{length, getD}
-use Rattle.simulation.specs.Limits.{most-states}
+use Rattle.simulation.specs.Limits.{most-states, most-tree-bytes}
 use Rattle.simulation.specs.Sum.{sum, when}
 use Rattle.simulation.specs.Table.{Table, states-of}
 use Rattle.simulation.specs.Round.{pairs}
 use Rattle.simulation.specs.Length.{pair-length}
-use Rattle.form.specs.Form.{Loaded, table-of}
+use Rattle.form.specs.Tables.{first-table, second-table, BothLoaded}
 use Rattle.relation.specs.Mask.{member}
 use Rattle.relation.specs.Words.{row-of, height}
 use Rattle.choice.specs.Choice.{Lost, Choice, Sets}
@@ -52,31 +52,30 @@ pub record CountsAdded (targets sets : List ℕ) (width c n : ℕ) (counts count
 
 -- the most bytes that a tree may have
 abbrev pub longest : ℕ
-longest = 65535
+longest = most-tree-bytes
 
-module _ (first second : List ℕ) where
+module _ (tables : List ℕ) where
   -- a count for each pair, none above the bytes so far
   pub record Tally (counts : List ℕ) (bytes : ℕ) : Type 0 where
-    pub room : pairs (table-of first) (table-of second) ≤ length counts
-    pub few : (u v : ℕ) → u < states-of (table-of first) → v < states-of (table-of second) → getD counts (u * states-of (table-of second) + v) 0 ≤ bytes
+    pub room : pairs (first-table tables) (second-table tables) ≤ length counts
+    pub few : (u v : ℕ) → u < states-of (first-table tables) → v < states-of (second-table tables) → getD counts (u * states-of (second-table tables) + v) 0 ≤ bytes
     pub small : bytes < 2 ^ 30
 
   -- some transitions are counted: the bytes so far and those owed are as many as before
   pub record Tallied (counts : List ℕ) (bytes : ℕ) (counts′ : List ℕ) (bytes′ : ℕ) : Type 0 where
     pub tally : Tally counts′ bytes′
-    pub total : bytes′ + owed (table-of first) (table-of second) counts′ ≡ bytes + owed (table-of first) (table-of second) counts
+    pub total : bytes′ + owed (first-table tables) (second-table tables) counts′ ≡ bytes + owed (first-table tables) (second-table tables) counts
 
   -- every count is 0 but that of the pair (s, t), which is 1
   pub record OneCounted (s t : ℕ) (counts : List ℕ) : Type 0 where
     pub tally : Tally counts 1
-    pub total : owed (table-of first) (table-of second) counts ≡ pair-length (table-of first) (table-of second) s t
+    pub total : owed (first-table tables) (second-table tables) counts ≡ pair-length (first-table tables) (second-table tables) s t
 
   -- a pair that is not kept, with its transition and the sets of its targets
   pub record HandGiven (s t j : ℕ) (sets counts : List ℕ) (bytes : ℕ) : Type 0 where
-    pub first-loaded : Loaded first
-    pub second-loaded : Loaded second
-    pub lost : Lost first second s t
-    pub choice : Choice first second s t j
+    pub loaded : BothLoaded tables
+    pub lost : Lost tables s t
+    pub choice : Choice tables s t j
     pub words : most-states ≤ height sets
-    pub told : Sets first second s t sets
+    pub told : Sets tables s t sets
     pub tally : Tally counts bytes

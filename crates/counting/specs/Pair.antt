@@ -3,15 +3,15 @@
 use mathlib.Core.List.{List}
 use Prim.Native.Nat.{ℕ, _+_, _*_, _/_, _%_}
 use Rattle.simulation.specs.Table.{states-of}
-use Rattle.form.specs.Form.{table-of}
+use Rattle.form.specs.Tables.{second-table}
 
-module _ (second : List ℕ) where
+module _ (tables : List ℕ) where
   -- a pair's number, and the pair of a number
   abbrev pub number : ℕ → ℕ → ℕ
-  number s t = s * states-of (table-of second) + t
+  number s t = s * states-of (second-table tables) + t
 
   abbrev pub row : ℕ → ℕ
-  row p = p / states-of (table-of second)
+  row p = p / states-of (second-table tables)
 
   abbrev pub column : ℕ → ℕ
-  column p = p % states-of (table-of second)
+  column p = p % states-of (second-table tables)

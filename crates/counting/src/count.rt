@@ -1,8 +1,12 @@
 // How often the transition of each pair occurs in a tree, from the root down: a pair hands its count on to the pairs below it.
 // The bytes counted are never more than the tree's, so one that is too long shows before all its pairs are looked at.
+use form::Form;
+use form::tables;
+use relation::Word;
 use relation::rows;
 use relation::set::Set;
 use relation::walk;
+use simulation::Table;
 ghost use mathlib.Core.Path.{_≡_};
 ghost use Prim.Native.Nat.{ℕ, _≤_, _<_};
 ghost use lib.ListN.{length, getD};
@@ -11,7 +15,7 @@ ghost use Rattle.relation.specs.Words.{mask};
 ghost use Rattle.counting.specs.Count.{Within, RowAdded, CountsGiven, CountsAdded, HandGiven, Tallied};
 
 // The most bytes that a tree may have.
-pub const LONGEST: u32 = 65_535;
+pub const LONGEST: u32 = Table::TREE_BYTES;
 
 // The pairs of s and the members of a set are to be counted c times more.
 fn add_row(counts: &mut [u32], width: usize, s: usize, members: Set, c: u32)
@@ -31,9 +35,10 @@ fn add_row(counts: &mut [u32], width: usize, s: usize, members: Set, c: u32)
 }
 
 // The same for each target and its set.
-fn add_counts(targets: &[u16], sets: &[u64], width: usize, c: u32, counts: &mut [u32])
+fn add_counts(targets: &[u16], sets: &[Word], width: usize, c: u32, counts: &mut [u32])
     requires { ⌜ CountsGiven (now targets) (now sets) width c (now counts) ⌝ }
-    ensures { λ _. ⌜ CountsAdded (now (targets .entry)) (now (sets .entry)) width c (length (now (targets .entry))) (now (counts .entry)) (now (counts .exit)) ⌝ }
+    ensures { λ _. ⌜ CountsAdded (now (targets .entry)) (now (sets .entry)) width c (length (now (targets .entry)))
+        (now (counts .entry)) (now (counts .exit)) ⌝ }
 {
     for i in 0..targets.len() {
         let s = targets[i] as usize;
@@ -45,23 +50,22 @@ fn add_counts(targets: &[u16], sets: &[u64], width: usize, c: u32, counts: &mut 
 // Counts the transition j of the pair (s, t) as often as it is due, and hands its count on to the pairs below it. Returns the bytes counted.
 // Nothing is counted once they are too many.
 pub fn hand_on(
-    first: &[u16],
-    second: &[u16],
+    tables: &[u16],
     s: usize,
     t: usize,
     j: usize,
-    sets: &[u64],
+    sets: &[Word],
     counts: &mut [u32],
     bytes: u32,
 ) -> u32
-    requires { ⌜ HandGiven (now first) (now second) s t j (now sets) (now counts) bytes ⌝ }
-    ensures { λ r. ⌜ Tallied (now (first .entry)) (now (second .entry)) (now (counts .entry)) bytes (now (counts .exit)) r ⌝ }
+    requires { ⌜ HandGiven (now tables) s t j (now sets) (now counts) bytes ⌝ }
+    ensures { λ r. ⌜ Tallied (now (tables .entry)) (now (counts .entry)) bytes (now (counts .exit)) r ⌝ }
 {
     if LONGEST < bytes {
         return bytes;
     }
-    let width = form::states(second);
-    let targets = form::targets(first, j);
+    let width = tables::states(tables, Form::SECOND);
+    let targets = tables::targets(tables, Form::FIRST, j);
     let at = s * width + t;
     let c = counts[at];
     counts[at] = 0;

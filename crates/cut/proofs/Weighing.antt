@@ -4,18 +4,18 @@ use mathlib.Core.Path.{_≡_, refl, sym, ap, ap₂, _∙_}
 use mathlib.Core.Bool.{Bool, true, not, cond, _&&_, and-true, and-false}
 use mathlib.Core.List.{List}
 use Prim.Native.Nat.{ℕ, _+_, _*_, _^_, _≤_, _<_}
-use native.Mathlib.Nat.{mul-le-mul}
 use native.Mathlib.Omega.{arith}
 use borrow.Author.Tests.{eq-eqb, ne-eqb, lt-ltb, le-ltb}
 use lib.Dec.{ltb}
 use lib.ListN.{length}
-use Rattle.simulation.specs.Limits.{most-states}
+use Rattle.simulation.specs.Limits.{most-states, most-total}
 use Rattle.simulation.specs.Sum.{when}
 use Rattle.simulation.specs.Fit.{weight, weight-of, total}
 use Rattle.simulation.proofs.Finite.Sums.{sum-change, sum-term, sum-bound, when-most}
 use Rattle.simulation.proofs.Fit.Quick.{weight-none, weight-most}
 use Rattle.relation.specs.Mask.{Test, member, without-member, Lowest}
 use Rattle.cut.specs.Quick.{heavier}
+use Rattle.greedy.proofs.StartLaws.{supply-fits}
 use Rattle.matrix.proofs.MaskedLaws.{no-members, drop-at}
 
 -- s is the weight of the members that the walk has passed, and left has the others
@@ -50,22 +50,22 @@ module _ {w : List ℕ} {named s left t : ℕ} (h : Weighed w named s left) (low
       }
 
   -- the sum stays small
-  pub weighed-small : {v : ℕ} → length w ≤ most-states → ((i : ℕ) → weight w i < 65536) → v ≡ weight w t → s + v < 2 ^ 32
+  pub weighed-small : {v : ℕ} → length w ≤ most-states → ((i : ℕ) → weight w i < 2 ^ 16) → v ≡ weight w t → s + v < 2 ^ 32
   weighed-small few bound e =
       omega (
         arith,
         h .adds,
         sum-term (length w) (λ i. when (member left i) (weight w i)) t weighed-place,
         ap (λ (b : Bool). when b (weight w t)) (low .here),
-        sum-bound (length w) 65535 (λ i. when (member named i) (weight w i)) (λ i _. omega (arith, when-most (member named i) (weight w i), bound i)),
+        sum-bound (length w) (2 ^ 16) (λ i. when (member named i) (weight w i)) (λ i _. omega (arith, when-most (member named i) (weight w i), bound i)),
       )
 
 pub weighed-all : {w : List ℕ} {named s left : ℕ} → left ≡ 0 → Weighed w named s left → s ≡ weight-of w (member named)
 weighed-all {w} {left = left} z h = omega (arith, h .adds, weight-none w (member left) (λ i _. no-members z i))
 
 -- what a part of one weighs, by the total of the other, fits 32 bits
-pub weights-small : (ws vs : List ℕ) (S : Test) {a b : ℕ} → a ≡ weight-of ws S → b ≡ total vs → total ws < 65536 → total vs < 65536 → a * b < 2 ^ 32
-weights-small ws vs S {a} {b} e f l m = omega (arith, mul-le-mul {n₁ = a} {m₁ = b} {n₂ = 65535} {m₂ = 65535} (omega (arith, weight-most ws S)) (omega arith))
+pub weights-small : (ws vs : List ℕ) (S : Test) {a b : ℕ} → a ≡ weight-of ws S → b ≡ total vs → total ws ≤ most-total → total vs ≤ most-total → a * b < 2 ^ 32
+weights-small ws vs S {a} {b} e f l m = supply-fits a b (omega (arith, weight-most ws S)) (omega arith)
 
 -- the comparison, as the code makes it
 module _ (ws vs : List ℕ) (rows has : ℕ) {a b c d : ℕ} (ea : a ≡ weight-of vs (member has)) (eb : b ≡ total ws) (ec : c ≡ weight-of ws (member rows)) (ed : d ≡ total vs) where

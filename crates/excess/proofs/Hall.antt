@@ -8,6 +8,7 @@ use native.Mathlib.Nat.{mul-comm}
 use native.Mathlib.Omega.{arith}
 use lib.Dec.{T}
 use lib.ListN.{length, getD}
+use Rattle.simulation.specs.Limits.{most-total}
 use Rattle.simulation.specs.Sum.{sum, when}
 use Rattle.simulation.specs.Fit.{Set, Fits, weight, weight-of, total, touched, gain, fits?}
 use Rattle.simulation.proofs.Finite.Tests.{same-test, by-contradiction, is-true, is-false}
@@ -58,26 +59,31 @@ module _ (R : ℕ → ℕ → Bool) (ws vs sums : List ℕ) (small : length ws �
       same-test r (fits? R ws vs) (λ t. gain-fits R ws vs (gains-least (c .yes (is-true r t))))
       (λ t. by-contradiction r (λ n. let w = c .no (is-false r n) in omega (arith, w .2, gain-outside (w .0), fits-gain R ws vs t (outside (w .0)))))
 
-  pub decides : {r : Bool} {t : ℕ} → t ≡ total vs → Carries sums ws t r → r ≡ fits? R ws vs
-  decides {r} e c = verdict (subst (λ (t : ℕ). Carries sums ws t r) e c)
+-- the sums that the code gathers of the side with few targets, by its own lengths p and q and total t
+module _ (R : ℕ → ℕ → Bool) (ws vs : List ℕ) {sums : List ℕ} {p q t u : ℕ} (rows : p ≡ length ws) (columns : q ≡ length vs)
+    (total-rows : t ≡ total ws) (total-columns : u ≡ total vs) (small : length ws ≤ few) (s : BySets q (related-to p R) (λ j. weight vs j * t) sums) where
+  as-sides : BySets (length vs) (related-to (length ws) R) (demand ws vs) sums
+  as-sides =
+      subst (λ (k : ℕ). BySets (length vs) (related-to (length ws) R) (λ j. weight vs j * k) sums) total-rows
+      (subst (λ (k : ℕ). BySets k (related-to (length ws) R) (λ j. weight vs j * t) sums) columns (subst (λ (k : ℕ). BySets q (related-to k R) (λ j. weight vs j * t) sums) rows s))
 
-  -- the sums have room
-  pub sums-fit : total ws < 65536 → total vs < 65536 → sum sets (λ k. getD sums k 0) < 2 ^ 32
-  sums-fit h l =
-      omega (
-        arith,
-        all-is (length vs) (related-to (length ws) R) (demand ws vs) sums (λ j _. set-small (length ws) (λ i. R i j) small) s,
-        sum-weights vs (total ws),
-        supply-fits (total vs) (total ws) l h,
-      )
+  pub decides : {r : Bool} → Carries sums ws u r → r ≡ fits? R ws vs
+  decides {r} c = verdict R ws vs sums small as-sides (subst (λ (k : ℕ). Carries sums ws k r) total-columns c)
 
--- the lengths and the total as the code has them
-pub as-sides :
-    {p q n m t u : ℕ} (R : ℕ → ℕ → Bool) (vs : List ℕ) {l : List ℕ} → p ≡ q → n ≡ m → t ≡ u
-    → BySets n (related-to p R) (λ j. weight vs j * t) l → BySets m (related-to q R) (λ j. weight vs j * u) l
-as-sides {q = q} {n} {m} {t} {u} R vs {l} d e f s =
-    subst (λ (k : ℕ). BySets m (related-to q R) (λ j. weight vs j * k) l) f
-    (subst (λ (k : ℕ). BySets k (related-to q R) (λ j. weight vs j * t) l) e (subst (λ (k : ℕ). BySets n (related-to k R) (λ j. weight vs j * t) l) d s))
+  -- the sums and the shares have room
+  pub has-room : total ws ≤ most-total → total vs ≤ most-total
+      → (length sums ≡ sets) × (sum sets (λ k. getD sums k 0) < 2 ^ 32) × (length ws ≤ few) × (u * total ws < 2 ^ 32)
+  has-room h l = (
+    s .all,
+    omega (
+      arith,
+      all-is (length vs) (related-to (length ws) R) (demand ws vs) sums (λ j _. set-small (length ws) (λ i. R i j) small) as-sides,
+      sum-weights vs (total ws),
+      supply-fits (total vs) (total ws) l h,
+    ),
+    small,
+    supply-fits u (total ws) (omega arith) h,
+  )
 
 -- what the one sends the other takes, and the other way round
 turned : (R : ℕ → ℕ → Type 0) (ws vs : List ℕ) → Fits R ws vs → Fits (λ j i. R i j) vs ws

@@ -1,7 +1,7 @@
 // Whether one distribution fits another, decided by all sets of targets of a side that has few: no flow is needed.
 // A set of places is a number, and place i is a member if bit i is one.
 use greedy::total_weight;
-use matrix::wide;
+use relation::Word;
 use relation::rows;
 use relation::word;
 ghost use mathlib.Core.Path.{_≡_};
@@ -11,7 +11,7 @@ ghost use Rattle.simulation.specs.Limits.{most-states};
 ghost use Rattle.simulation.specs.Sum.{sum, when};
 ghost use Rattle.simulation.specs.Fit.{fits?, total, weight};
 ghost use Rattle.relation.specs.Mask.{member};
-ghost use Rattle.relation.specs.Words.{height};
+ghost use Rattle.relation.specs.Words.{word-bits, height};
 ghost use Rattle.relation.specs.Related.{holds};
 ghost use Rattle.matrix.specs.Problem.{Sides, joins};
 ghost use Rattle.excess.specs.Excess.{few, sets, joined, Joined, Summed, parts, AtMost, Carries, «set-of», «related-to», HasRows, AreStates, BySets};
@@ -33,11 +33,11 @@ fn no_sums() -> [u32; Few::SETS]
 }
 
 // The places of the targets of m that are related to t.
-fn column(from: &[u16], rows: &[u64], t: usize) -> u64
+fn column(from: &[u16], rows: &[Word], t: usize) -> Word
     requires { ⌜ HasRows (now rows) (now from) × (length (now from) ≤ few) × (t < most-states) ⌝ }
     ensures { λ r. ⌜ (r ≡ set-of (length (now (from .entry))) (λ i. holds (now (rows .entry)) (getD (now (from .entry)) i 0) t)) × (r < sets) ⌝ }
 {
-    let mut r = 0u64;
+    let mut r: Word = 0;
     let mut i = 0;
     while i < from.len() {
         r = word::with_bit(r, i, rows::bit(rows, from[i] as usize, t));
@@ -47,11 +47,11 @@ fn column(from: &[u16], rows: &[u64], t: usize) -> u64
 }
 
 // The places of the targets of n that s is related to.
-fn row(rows: &[u64], s: usize, to: &[u16]) -> u64
+fn row(rows: &[Word], s: usize, to: &[u16]) -> Word
     requires { ⌜ (s < height (now rows)) × AreStates (now to) × (length (now to) ≤ few) ⌝ }
     ensures { λ r. ⌜ (r ≡ set-of (length (now (to .entry))) (λ j. holds (now (rows .entry)) s (getD (now (to .entry)) j 0))) × (r < sets) ⌝ }
 {
-    let mut r = 0u64;
+    let mut r: Word = 0;
     let mut j = 0;
     while j < to.len() {
         r = word::with_bit(r, j, rows::bit(rows, s, to[j] as usize));
@@ -61,27 +61,33 @@ fn row(rows: &[u64], s: usize, to: &[u16]) -> u64
 }
 
 // What the targets of n weigh, times t, by the set of those of m that are related to them.
-fn column_sums(from: &[u16], to: &[u16], n: &[u16], t: u32, rows: &[u64], sums: &mut [u32])
-    requires { ⌜ HasRows (now rows) (now from) × AreStates (now to) × (length (now from) ≤ few) × (length (now to) ≡ length (now n)) × (total (now n) * t < 2 ^ 32) × (length (now sums) ≡ sets) × ((i : ℕ) → getD (now sums) i 0 ≡ 0) ⌝ }
-    ensures { λ r. ⌜ BySets (length (now (to .entry))) (related-to (length (now (from .entry))) (joins (now (rows .entry)) (now (from .entry)) (now (to .entry)))) (λ j. weight (now (n .entry)) j * t) (now (sums .exit)) ⌝ }
+fn column_sums(from: &[u16], to: &[u16], n: &[u16], t: u32, rows: &[Word], sums: &mut [u32])
+    requires { ⌜ HasRows (now rows) (now from) × AreStates (now to) × (length (now from) ≤ few) × (length (now to) ≡ length (now n))
+        × (total (now n) * t < 2 ^ 32) × (length (now sums) ≡ sets) × ((i : ℕ) → getD (now sums) i 0 ≡ 0) ⌝ }
+    ensures { λ r. ⌜ BySets (length (now (to .entry)))
+        (related-to (length (now (from .entry))) (joins (now (rows .entry)) (now (from .entry)) (now (to .entry))))
+        (λ j. weight (now (n .entry)) j * t) (now (sums .exit)) ⌝ }
 {
     let mut j = 0;
     while j < to.len() {
         let at = column(from, rows, to[j] as usize) as usize;
-        sums[at] = sums[at] + wide(n[j]) * t;
+        sums[at] = sums[at] + n[j] as u32 * t;
         j += 1;
     }
 }
 
 // What the targets of m weigh, times u, by the set of those of n that they are related to.
-fn row_sums(from: &[u16], m: &[u16], to: &[u16], u: u32, rows: &[u64], sums: &mut [u32])
-    requires { ⌜ HasRows (now rows) (now from) × AreStates (now to) × (length (now to) ≤ few) × (length (now from) ≡ length (now m)) × (total (now m) * u < 2 ^ 32) × (length (now sums) ≡ sets) × ((i : ℕ) → getD (now sums) i 0 ≡ 0) ⌝ }
-    ensures { λ r. ⌜ BySets (length (now (from .entry))) (λ i. set-of (length (now (to .entry))) (joins (now (rows .entry)) (now (from .entry)) (now (to .entry)) i)) (λ i. weight (now (m .entry)) i * u) (now (sums .exit)) ⌝ }
+fn row_sums(from: &[u16], m: &[u16], to: &[u16], u: u32, rows: &[Word], sums: &mut [u32])
+    requires { ⌜ HasRows (now rows) (now from) × AreStates (now to) × (length (now to) ≤ few) × (length (now from) ≡ length (now m))
+        × (total (now m) * u < 2 ^ 32) × (length (now sums) ≡ sets) × ((i : ℕ) → getD (now sums) i 0 ≡ 0) ⌝ }
+    ensures { λ r. ⌜ BySets (length (now (from .entry)))
+        (λ i. set-of (length (now (to .entry))) (joins (now (rows .entry)) (now (from .entry)) (now (to .entry)) i))
+        (λ i. weight (now (m .entry)) i * u) (now (sums .exit)) ⌝ }
 {
     let mut i = 0;
     while i < from.len() {
         let at = row(rows, from[i] as usize, to) as usize;
-        sums[at] = sums[at] + wide(m[i]) * u;
+        sums[at] = sums[at] + m[i] as u32 * u;
         i += 1;
     }
 }
@@ -124,17 +130,17 @@ fn share(w: &[u16], i: usize, t: u32) -> u32
     ensures { λ r. ⌜ r ≡ t * weight (now (w .entry)) i ⌝ }
 {
     if i < w.len() {
-        return t * wide(w[i]);
+        return t * w[i] as u32;
     }
     0
 }
 
 // d if place i is a member, else 0.
 fn if_member(set: usize, i: usize, d: u32) -> u32
-    requires { ⌜ i < 64 ⌝ }
+    requires { ⌜ i < word-bits ⌝ }
     ensures { λ r. ⌜ r ≡ when (member set i) d ⌝ }
 {
-    d * word::bit(set as u64, i) as u32
+    d * word::bit(set as Word, i) as u32
 }
 
 // No set has more than what its members have of a, b, c and d, each the amount of a place.
@@ -170,7 +176,7 @@ fn carries(sums: &mut [u32], w: &[u16], t: u32) -> bool
 }
 
 // Whether m, which has few targets, fits n.
-pub fn by_rows(from: &[u16], m: &[u16], to: &[u16], n: &[u16], rows: &[u64]) -> bool
+pub fn by_rows(from: &[u16], m: &[u16], to: &[u16], n: &[u16], rows: &[Word]) -> bool
     requires { ⌜ Sides (now from) (now m) (now to) (now n) (now rows) × (length (now m) ≤ few) ⌝ }
     ensures { λ r. ⌜ r ≡ fits? (joins (now (rows .entry)) (now (from .entry)) (now (to .entry))) (now (m .entry)) (now (n .entry)) ⌝ }
 {
@@ -180,7 +186,7 @@ pub fn by_rows(from: &[u16], m: &[u16], to: &[u16], n: &[u16], rows: &[u64]) -> 
 }
 
 // Whether m fits n, which has few targets.
-pub fn by_columns(from: &[u16], m: &[u16], to: &[u16], n: &[u16], rows: &[u64]) -> bool
+pub fn by_columns(from: &[u16], m: &[u16], to: &[u16], n: &[u16], rows: &[Word]) -> bool
     requires { ⌜ Sides (now from) (now m) (now to) (now n) (now rows) × (length (now n) ≤ few) ⌝ }
     ensures { λ r. ⌜ r ≡ fits? (joins (now (rows .entry)) (now (from .entry)) (now (to .entry))) (now (m .entry)) (now (n .entry)) ⌝ }
 {

@@ -12,7 +12,8 @@ use Rattle.simulation.specs.Table.{Table, states-of, steps, transition}
 use Rattle.simulation.proofs.Finite.Sums.{sum-mono}
 use Rattle.simulation.specs.Limits.{most-states, most-of-state, most-entries}
 use Rattle.form.specs.Items.{all-entries}
-use Rattle.form.specs.Form.{table-of, start-of}
+use Rattle.form.specs.Form.{start-of}
+use Rattle.form.specs.Tables.{first-form, first-table, second-table}
 use Rattle.form.proofs.Items.{entries-most}
 use Rattle.flows.specs.Flow.{step-room, most-flow, flow-bytes, flow-room}
 use Rattle.flows.specs.FlowSteps.{Chosen}
@@ -33,11 +34,13 @@ room-most M N s a b c =
     let few : 6 * sum (length (steps M s)) e ≤ 6 * most-entries = omega (arith, entries-most M s) in
     omega (arith, rooms (length (steps M s)) (states-of N) e, mul-le-mul few c)
 
-pub flow-within : {f g ranks x : List ℕ} {s t : ℕ} → Chosen f g ranks x s t → (xs : ℕ → Amounts) → length (flow-bytes (table-of f) (table-of g) s t xs) ≤ flow-room (table-of f) (table-of g) s
+pub flow-within : {tables rows x : List ℕ} {s t : ℕ} → Chosen tables rows x s t → (xs : ℕ → Amounts)
+    → length (flow-bytes (first-table tables) (second-table tables) s t xs) ≤ flow-room (first-table tables) (second-table tables) s
 unfolding flow-bytes flow-room
-flow-within {f} {g} {ranks} {x} {s} {t} q xs =
-    let p : Pair f g ranks x s t (start-of f s) = record { chosen = q; from = refl } in
-    let M = table-of f in
+flow-within {tables} {rows} {x} {s} {t} q xs =
+    let p : Pair tables rows x s t (start-of (first-form tables) s) = record { chosen = q; from = refl } in
+    let M = first-table tables in
+    let N = second-table tables in
     let n = length (steps M s) in
-    let one = flow-at M (table-of g) s t xs in
-    omega (arith, pieces-length one n, sum-mono n (λ k. length (one k)) (λ k. step-room (table-of g) (transition M s k)) (most p xs))
+    let one = flow-at M N s t xs in
+    omega (arith, pieces-length one n, sum-mono n (λ k. length (one k)) (λ k. step-room N (transition M s k)) (most p xs))

@@ -17,12 +17,14 @@ use Rattle.simulation.specs.Round.{fits-step, pairs}
 use Rattle.simulation.proofs.Simulation.Rounds.{in-matched}
 use Rattle.simulation.proofs.Simulation.Greatest.{kept-in}
 use Rattle.form.specs.Form.{table-of, start-of, transitions-of, transition-at}
+use Rattle.form.specs.Tables.{first-form, second-form, first-step}
 use Rattle.form.proofs.FormLaws.{limits, counts, transition-number, transition-of}
+use Rattle.fit.specs.Held.{relation-of}
+use Rattle.fit.specs.Partner.{SharesIn, Sought}
 use Rattle.matrix.specs.Matrix.{cell}
 use Rattle.buffer.specs.Buffer.{Filled}
-use Rattle.flows.specs.Flow.{count, one-flow, place-of, partner, step-room, Right, flow-bytes, flow-room}
-use Rattle.relate.specs.Ranked.{kept-relation}
-use Rattle.flows.specs.FlowSteps.{SharesKept, Sought, Searched, Shown, Chosen, Flowed}
+use Rattle.flows.specs.Flow.{kept-relation, one-flow, place-of, partner, step-room, Right, flow-bytes, flow-room}
+use Rattle.flows.specs.FlowSteps.{Shown, Chosen, Flowed}
 use Rattle.buffer.proofs.Buffer.{part, back}
 use Rattle.flows.proofs.Pieces.{Plan, Going, going-start, going-within, going-room, going-fits, going-next, going-end, going-ext, stored, stored-past}
 use Rattle.flows.proofs.FlowBytes.{flow-length}
@@ -39,7 +41,7 @@ head-at M s = length (steps M s) ∷ []
 -- the flows of the first k transitions are written, with amounts that are right
 pub record Flowing (M N : Table) (s t : ℕ) (old : List ℕ) (k at : ℕ) (now : List ℕ) : Type 0 where
   pub amounts : ℕ → Amounts
-  pub right : (l : ℕ) → l < k → SharesKept M N (transition M s l) (partner M N s t l) (amounts l)
+  pub right : (l : ℕ) → l < k → SharesIn (kept-relation M N) (transition M s l) (partner M N s t l) (amounts l)
   pub going : Going (head-at M s) (flow-at M N s t amounts) (length (steps M s)) old k at now
 
 -- amounts for one transition more
@@ -55,13 +57,19 @@ unfolding with-amounts
 with-other xs k x l d = ap (λ b. cond b x (xs l)) (ne-eqb l k d)
 
 -- a kept pair of two tables, and where the transitions of s start
-pub record Pair (f g ranks x : List ℕ) (s t start : ℕ) : Type 0 where
-  pub chosen : Chosen f g ranks x s t
-  pub from : start ≡ start-of f s
+pub record Pair (tables rows x : List ℕ) (s t start : ℕ) : Type 0 where
+  pub chosen : Chosen tables rows x s t
+  pub from : start ≡ start-of (first-form tables) s
 
-module _ {f g ranks x : List ℕ} {s t start : ℕ} (p : Pair f g ranks x s t start) where
-  abbrev q : Chosen f g ranks x s t
+module _ {tables rows x : List ℕ} {s t start : ℕ} (p : Pair tables rows x s t start) where
+  abbrev q : Chosen tables rows x s t
   q = p .chosen
+
+  abbrev f : List ℕ
+  f = first-form tables
+
+  abbrev g : List ℕ
+  g = second-form tables
 
   abbrev M : Table
   M = table-of f
@@ -74,37 +82,39 @@ module _ {f g ranks x : List ℕ} {s t start : ℕ} (p : Pair f g ranks x s t st
 
   -- the count of the transitions of s, and their numbers
   pub count-is : {end : ℕ} → end ≡ start-of f (s + 1) → end - start ≡ n
-  count-is e = omega (arith, counts f (q .ready .ranked .first-loaded) s (q .first), p .from)
+  count-is e = omega (arith, counts f (q .loaded .first) s (q .first), p .from)
 
   pub count-ordered : {end : ℕ} → end ≡ start-of f (s + 1) → start ≤ end
-  count-ordered e = omega (arith, counts f (q .ready .ranked .first-loaded) s (q .first), p .from)
+  count-ordered e = omega (arith, counts f (q .loaded .first) s (q .first), p .from)
 
   pub count-few : n ≤ most-of-state
-  count-few = omega (arith, q .ready .ranked .first-loaded .valid .few-each s (q .first))
+  count-few = omega (arith, q .loaded .first .valid .few-each s (q .first))
 
   number-below : (k : ℕ) → k < n → start + k < transitions-of f
-  number-below k lt = omega (arith, transition-number f (q .ready .ranked .first-loaded) s k (q .first) lt, p .from)
+  number-below k lt = omega (arith, transition-number f (q .loaded .first) s k (q .first) lt, p .from)
 
   pub number-fits : (k : ℕ) → k < n → start + k < most-transitions
-  number-fits k lt = omega (arith, number-below k lt, limits f (q .ready .ranked .first-loaded) .transitions-few)
+  number-fits k lt = omega (arith, number-below k lt, limits f (q .loaded .first) .transitions-few)
 
   step-is : (k : ℕ) → k < n → transition-at f (start + k) ≡ transition M s k
-  step-is k lt = ap (λ (i : ℕ). transition-at f (i + k)) (p .from) ∙ transition-of f (q .ready .ranked .first-loaded) s k (q .first) lt
+  step-is k lt = ap (λ (i : ℕ). transition-at f (i + k)) (p .from) ∙ transition-of f (q .loaded .first) s k (q .first) lt
 
-  -- each transition is fitted by some transition of t
-  sought-at : (k : ℕ) → k < n → Sought f g (start + k) t
-  sought-at k lt =
-      let r = in-matched M N (pairs M N) s t (kept-in M N (suc (pairs M N)) s t (q .first) (q .second) (q .kept)) k lt in
-      (r .0, r .1, subst (λ m. T (fits-step (kept-relation M N) m (transition N t (r .0)))) (sym (step-is k lt)) (r .2))
-
-  -- what is asked of its flow, for amounts of the same length
-  pub step-asked : (y : List ℕ) (k : ℕ) → k < n → length y ≡ length x → Searched f g ranks y (start + k) t
+  -- each transition fits some transition of t
+  pub step-asked : (y : List ℕ) (k : ℕ) → k < n → length y ≡ length x → Sought tables rows y (start + k) t
   step-asked y k lt e =
+      let r = in-matched M N (pairs M N) s t (kept-in M N (suc (pairs M N)) s t (q .first) (q .second) (q .kept)) k lt in
       record {
-        ready = record { ranked = q .ready .ranked; cells = omega (arith, q .ready .cells) };
-        first = number-below k lt;
-        second = q .second;
-        some = sought-at k lt;
+        loaded = q .loaded;
+        rows-room = q .rows-room;
+        amounts-room = omega (arith, q .amounts-room);
+        from-first = number-below k lt;
+        state = q .second;
+        some = (
+          r .0,
+          r .1,
+          subst (λ m. T (fits-step (relation-of tables rows) m (transition N t (r .0)))) (sym (step-is k lt))
+              (subst (λ R. T (fits-step R (transition M s k) (transition N t (r .0)))) (sym (q .rows-kept)) (r .2)),
+        );
       }
 
   -- the flow of a transition has room
@@ -112,9 +122,9 @@ module _ {f g ranks x : List ℕ} {s t start : ℕ} (p : Pair f g ranks x s t st
   most xs k lt =
       let r = partner-fits M N s t (q .first) (q .second) (q .kept) k lt in
       let few : length (targets (partner M N s t k)) ≤ states-of N =
-      subst (λ m. length (targets m) ≤ states-of N) (transition-of g (q .ready .ranked .second-loaded) t (place-of M N s t k) (q .second) (r .0))
-      (few-second g (q .ready .ranked .second-loaded) (start-of g t + place-of M N s t k)
-      (transition-number g (q .ready .ranked .second-loaded) t (place-of M N s t k) (q .second) (r .0))) in
+      subst (λ m. length (targets m) ≤ states-of N) (transition-of g (q .loaded .second) t (place-of M N s t k) (q .second) (r .0))
+      (few-second g (q .loaded .second) (start-of g t + place-of M N s t k)
+      (transition-number g (q .loaded .second) t (place-of M N s t k) (q .second) (r .0))) in
       omega (
         arith,
         flow-length (place-of M N s t k) (targets (transition M s k)) (targets (partner M N s t k)) (xs k),
@@ -137,16 +147,16 @@ module _ {f g ranks x : List ℕ} {s t start : ℕ} (p : Pair f g ranks x s t st
         pub flowing-room : step-room N (transition-at f (start + k)) ≤ length (part at now)
         flowing-room = subst (λ m. step-room N m ≤ length (part at now)) (sym (step-is k lt)) (going-room (flow-plan (w .amounts) old room) (w .going) lt)
 
-        module _ {r : ℕ} {y y′ ys : List ℕ} (d : Shown M N (transition-at f (start + k)) t r y y′ (part at now) ys) where
-          shown : Shown M N (transition M s k) t r y y′ (part at now) ys
-          shown = subst (λ m. Shown M N m t r y y′ (part at now) ys) (step-is k lt) d
+        module _ {r : ℕ} {y ys : List ℕ} (d : Shown M N (first-step tables (start + k)) t r y (part at now) ys) where
+          shown : Shown M N (transition M s k) t r y (part at now) ys
+          shown = subst (λ m. Shown M N m t r y (part at now) ys) (step-is k lt) d
 
           abbrev more : ℕ → Amounts
-          more = with-amounts (w .amounts) k (cell y′)
+          more = with-amounts (w .amounts) k (cell y)
 
           pub flowing-fits : at + r ≤ length old
           flowing-fits =
-              omega (arith, going-fits (flow-plan (w .amounts) old room) (w .going) lt, shown .filled .count, most (λ _. cell y′) k lt)
+              omega (arith, going-fits (flow-plan (w .amounts) old room) (w .going) lt, shown .filled .count, most (λ _. cell y) k lt)
 
           pub flowing-next : Flowing M N s t old (k + 1) (at + r) (back at now ys)
           flowing-next = record {
@@ -155,18 +165,18 @@ module _ {f g ranks x : List ℕ} {s t start : ℕ} (p : Pair f g ranks x s t st
             going =
                 going-next (flow-plan more old room)
                 (going-ext (flow-at M N s t more) (λ l lt. ap (λ z. one-flow (place-of M N s t l) (transition M s l) (partner M N s t l) z)
-                (sym (with-other (w .amounts) k (cell y′) l (λ e. omega arith)))) (w .going))
+                (sym (with-other (w .amounts) k (cell y) l (λ e. omega arith)))) (w .going))
                 lt
                 (subst (λ z. Filled (one-flow (place-of M N s t k) (transition M s k) (partner M N s t k) z) r (part at now) ys)
-                (sym (with-same (w .amounts) k (cell y′))) (shown .filled));
+                (sym (with-same (w .amounts) k (cell y))) (shown .filled));
           }
             where
-              at-place : (l : ℕ) → l < k + 1 → Dec (l ≡ k) → SharesKept M N (transition M s l) (partner M N s t l) (more l)
+              at-place : (l : ℕ) → l < k + 1 → Dec (l ≡ k) → SharesIn (kept-relation M N) (transition M s l) (partner M N s t l) (more l)
               at-place l lt (yes e) =
-                  subst (λ (i : ℕ). SharesKept M N (transition M s i) (partner M N s t i) (more i)) (sym e)
-                  (subst (λ z. SharesKept M N (transition M s k) (partner M N s t k) z) (sym (with-same (w .amounts) k (cell y′))) (shown .shares))
+                  subst (λ (i : ℕ). SharesIn (kept-relation M N) (transition M s i) (partner M N s t i) (more i)) (sym e)
+                  (subst (λ z. SharesIn (kept-relation M N) (transition M s k) (partner M N s t k) z) (sym (with-same (w .amounts) k (cell y))) (shown .shares))
               at-place l lt (no e) =
-                  subst (λ z. SharesKept M N (transition M s l) (partner M N s t l) z) (sym (with-other (w .amounts) k (cell y′) l e)) (w .right l (omega arith))
+                  subst (λ z. SharesIn (kept-relation M N) (transition M s l) (partner M N s t l) z) (sym (with-other (w .amounts) k (cell y) l e)) (w .right l (omega arith))
 
   -- the first byte is the count
   module _ (old : List ℕ) (room : flow-room M N s ≤ length old) {v : ℕ} (e : v ≡ n) where

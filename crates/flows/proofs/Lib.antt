@@ -5,9 +5,7 @@ pub mod Again
 pub mod RecordBytes
 pub mod FlowBytes
 pub mod FlowRow
-pub mod FlowFits
 pub mod FlowPlace
-pub mod FlowSearch
 pub mod FlowStep
 pub mod FlowWhole
 pub mod FlowRoom

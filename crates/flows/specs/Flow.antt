@@ -2,21 +2,19 @@
 -- Assumes nothing.
 use mathlib.Core.Bool.{cond, not}
 use mathlib.Core.List.{List, [], _∷_, _++_}
-use Prim.Native.Nat.{ℕ, suc, _+_, _*_, _/_, _%_, _<_}
+use Prim.Native.Nat.{ℕ, _+_, _*_, _/_, _%_, _<_}
 use lib.Dec.{T, eqb}
 use lib.ListN.{length, getD}
 use Rattle.simulation.specs.Sum.{sum, when, below, concat}
 use Rattle.simulation.specs.Fit.{Amounts, Shares}
 use Rattle.simulation.specs.Table.{Transition, Table, weights, targets, states-of, steps, transition}
-use Rattle.simulation.specs.Round.{Relation, between, fits-step, round}
+use Rattle.simulation.specs.Round.{Relation, between, round, pairs}
 use Rattle.simulation.specs.Limits.{most-states, most-of-state, most-entries}
-use Rattle.relate.specs.Ranked.{kept-relation}
+use Rattle.fit.specs.Partner.{place}
 
--- the place of the first like-coded transition that m fits in R
-unfoldable pub place : Relation → Transition → List Transition → ℕ
-unfolding fits-step
-place R m [] = 0
-place R m (n ∷ ns) = cond (fits-step R m n) 0 (suc (place R m ns))
+-- the pairs that every round keeps
+abbrev pub kept-relation : Table → Table → Relation
+kept-relation M N = round M N (pairs M N)
 
 abbrev pub two-bytes : ℕ → List ℕ
 two-bytes n = n % 256 ∷ n / 256 ∷ []

@@ -17,11 +17,11 @@ pub struct Record {
 }
 
 // The record of the amount for the target j of nt, in row i.
-fn record_at(s: u8, nt: &[u16], x: &[u32], i: usize, j: usize) -> Record
-    requires { ⌜ Row (now nt) (now x) i × (j < length (now nt)) ⌝ }
-    ensures { λ r. ⌜ r ≡ cell-record s (now (nt .entry)) (cell (now (x .entry)) i) j ⌝ }
+fn record_at(s: u8, nt: &[u16], amounts: &[u32], i: usize, j: usize) -> Record
+    requires { ⌜ Row (now nt) (now amounts) i × (j < length (now nt)) ⌝ }
+    ensures { λ r. ⌜ r ≡ cell-record s (now (nt .entry)) (cell (now (amounts .entry)) i) j ⌝ }
 {
-    let amount = x[i * Table::STATES + j];
+    let amount = amounts[i * Table::STATES + j];
     Record {
         from: s,
         to: nt[j] as u8,
@@ -37,13 +37,13 @@ fn kept(r: Record) -> bool
 }
 
 // The records of the amounts of row i that are not zero, in order, at the start of rs. Returns how many.
-pub fn gather(s: u8, nt: &[u16], x: &[u32], i: usize, rs: &mut [Record]) -> usize
-    requires { ⌜ Row (now nt) (now x) i × (length (now nt) ≤ length (now rs)) ⌝ }
-    ensures { λ r. ⌜ Gathered (row-records s (now (nt .entry)) (cell (now (x .entry)) i)) r (now (rs .exit)) ⌝ }
+pub fn gather(s: u8, nt: &[u16], amounts: &[u32], i: usize, rs: &mut [Record]) -> usize
+    requires { ⌜ Row (now nt) (now amounts) i × (length (now nt) ≤ length (now rs)) ⌝ }
+    ensures { λ r. ⌜ Gathered (row-records s (now (nt .entry)) (cell (now (amounts .entry)) i)) r (now (rs .exit)) ⌝ }
 {
     let mut n = 0;
     for j in 0..nt.len() {
-        let r = record_at(s, nt, x, i, j);
+        let r = record_at(s, nt, amounts, i, j);
         if kept(r) {
             rs[n] = r;
             n += 1;

@@ -5,3 +5,4 @@ pub mod Items
 pub mod Sound
 pub mod FormLists
 pub mod FormLaws
+pub mod TablesLaws

@@ -8,13 +8,12 @@ use native.Mathlib.Decide.{ℕ-discrete}
 use native.Mathlib.Omega.{arith}
 use lib.ListN.{length, getD, set}
 use lib.Seq.{getD-set-same, getD-set-other}
-use Rattle.simulation.specs.Limits.{most-states}
+use Rattle.simulation.specs.Limits.{most-states, most-total}
 use Rattle.simulation.specs.Fit.{weight, total}
 use Rattle.simulation.proofs.Finite.Sums.{sum-mono, sum-mul, sum-term}
 use Rattle.relation.specs.Words.{row-of, height}
-use Rattle.matrix.specs.Matrix.{cell}
+use Rattle.matrix.specs.Matrix.{cell, row-sum, column-sum}
 use Rattle.matrix.specs.Problem.{Given}
-use Rattle.matrix.specs.Matrix.{row-sum, column-sum}
 use Rattle.matrix.specs.Flow.{missing, Flow, Preserves}
 use Rattle.greedy.specs.Start.{Supplies, RowCleared, Cleared, Begun, Balanced}
 use Rattle.matrix.proofs.MatrixLaws.{row-none, column-none, outside-refl}
@@ -35,8 +34,8 @@ pub supplies-is : {ws a : List ℕ} {t t′ n n′ : ℕ} → t ≡ t′ → n �
 supplies-is {ws} {a} {t′ = t′} {n = n} e f s = subst (λ (m : ℕ). Supplies ws t′ m a) f (subst (λ (t : ℕ). Supplies ws t n a) e s)
 
 -- a supply fits 32 bits
-pub supply-fits : (v t : ℕ) → v < 65536 → t < 65536 → v * t < 2 ^ 32
-supply-fits v t h l = let h′ : v ≤ 65535 = omega arith in let l′ : t ≤ 65535 = omega arith in omega (arith, mul-le-mul-right t h′, mul-le-mul-left 65535 l′)
+pub supply-fits : (v t : ℕ) → v ≤ most-total → t ≤ most-total → v * t < 2 ^ 32
+supply-fits v t h l = omega (arith, mul-le-mul-right t h, mul-le-mul-left most-total l)
 
 pub weight-le : (ws : List ℕ) (i : ℕ) → i < length ws → weight ws i ≤ total ws
 unfolding total
@@ -84,9 +83,9 @@ module _ {ws vs x₀ x a b : List ℕ} (s : Begun ws vs x₀ x a b) where
   no-column j h = column-none (length ws) j x (λ i l. s .cleared .zero i j l h)
 
   -- nothing is sent
-  pub begun : {rel : List ℕ} (users : List ℕ) → Given ws vs rel x₀ → length x ≡ length x₀ → length ws ≤ length a → length vs ≤ length b → most-states ≤ height users
-      → ((j : ℕ) → row-of users j ≡ 0) → Flow (length ws) (length vs) rel x a b users
-  begun users g lx la lb lu u = record {
+  pub begun : {rel : List ℕ} (senders : List ℕ) → Given ws vs rel x₀ → length x ≡ length x₀ → length ws ≤ length a → length vs ≤ length b → most-states ≤ height senders
+      → ((j : ℕ) → row-of senders j ≡ 0) → Flow (length ws) (length vs) rel x a b senders
+  begun senders g lx la lb lu u = record {
     sized = record { few-rows = g .few-rows; few-columns = g .few-columns; masks = g .masks; cells = omega (arith, g .cells); supplies = la; demands = lb; columns = lu };
     supported = record { support = λ i j h l n. absurd (n (s .cleared .zero i j h l)) };
     small = record { fits = λ i h. omega (arith, no-row i h, s .supplies .supply i h, supply-fits (weight ws i) (total vs) (omega (arith, weight-le ws i h, g .total-ws)) (g .total-vs)) };

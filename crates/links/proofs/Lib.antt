@@ -2,3 +2,4 @@
 -- Assumes nothing.
 pub mod Walks
 pub mod Growing
+pub mod Doubting

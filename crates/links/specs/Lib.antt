@@ -1,3 +1,4 @@
 -- The definitions.
 -- Assumes nothing.
+pub mod Places
 pub mod Links

@@ -11,6 +11,7 @@ use Rattle.relation.specs.Mask.{member}
 use Rattle.form.specs.Form.{start-of, transition-at, table-of}
 use Rattle.relation.specs.Related.{holds}
 use Rattle.simulation.specs.Table.{targets, states-of}
+use Rattle.links.specs.Places.{before-in, behind-in, doubt-in, lost-in}
 
 -- the rows have no pair
 abbrev pub Empty : List ℕ → Type 0
@@ -44,8 +45,15 @@ pub record Joins (s : ℕ) (rows rows′ : List ℕ) : Type 0 where
   pub grown : Grown rows rows′
   pub within : (n : ℕ) → s < n → Within n rows → Within n rows′
 
--- a pair is in doubt, and its row doubtful, if a lost pair lies one transition behind it; a doubtful row is a state before some other; lost′ has no pair
-pub record Doubted (lost before behind : List ℕ) (doubtful : ℕ) (doubt lost′ : List ℕ) : Type 0 where
-  pub raised : (a s u t : ℕ) → holds before a s ≡ true → holds lost a u ≡ true → holds behind u t ≡ true → (member doubtful s ≡ true) × (holds doubt s t ≡ true)
-  pub within : (n : ℕ) → Within n before → (s : ℕ) → member doubtful s ≡ true → s < n
-  pub empty : Empty lost′
+-- each member of a set is in doubt in each row of another; the lost pairs stay
+pub record DoubtsAdded (rows more : ℕ) (marks marks′ : List ℕ) : Type 0 where
+  pub grown : Grown (doubt-in marks) (doubt-in marks′)
+  pub added : (s t : ℕ) → member rows s ≡ true → member more t ≡ true → holds (doubt-in marks′) s t ≡ true
+  pub same-lost : lost-in marks′ ≡ lost-in marks
+
+-- a pair is in doubt, and its row doubtful, if a lost pair lies one transition behind it; a doubtful row is a state before some other; no pair is lost any more
+pub record Doubted (sets : List ℕ) (doubtful : ℕ) (marks marks′ : List ℕ) : Type 0 where
+  pub raised : (a s u t : ℕ) → holds (before-in sets) a s ≡ true → holds (lost-in marks) a u ≡ true → holds (behind-in sets) u t ≡ true
+      → (member doubtful s ≡ true) × (holds (doubt-in marks′) s t ≡ true)
+  pub within : (n : ℕ) → Within n (before-in sets) → (s : ℕ) → member doubtful s ≡ true → s < n
+  pub empty : Empty (lost-in marks′)

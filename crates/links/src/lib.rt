@@ -1,77 +1,108 @@
 // Which states lead to which, and the doubts that lost pairs raise.
+use form::tables;
+use relation::Relation;
+use relation::Word;
 use relation::rows;
 use relation::set;
 use relation::set::Set;
 use relation::walk;
+use simulation::Table;
 ghost use mathlib.Core.Path.{_≡_};
 ghost use mathlib.Core.Bool.{true};
 ghost use Prim.Native.Nat.{ℕ, _<_, _≤_};
 ghost use lib.ListN.{length, getD};
 ghost use Rattle.simulation.specs.Limits.{most-states};
+ghost use Rattle.simulation.specs.Table.{states-of};
 ghost use Rattle.relation.specs.Mask.{member};
 ghost use Rattle.relation.specs.Words.{mask, height};
-ghost use Rattle.simulation.specs.Table.{states-of};
-ghost use Rattle.form.specs.Form.{Loaded, table-of};
 ghost use Rattle.relation.specs.Related.{holds};
-ghost use Rattle.matching.specs.Held.{Places};
-ghost use Rattle.links.specs.Links.{Empty, Linked, Covered, Links, Joins, Grown, Doubted};
+ghost use Rattle.form.specs.Form.{Loaded, table-of};
+ghost use Rattle.form.specs.Tables.{form-at};
+ghost use Rattle.fit.specs.Held.{Places};
+ghost use Rattle.links.specs.Places.{HasSets, HasMarks, behind-in, lost-in};
+ghost use Rattle.links.specs.Links.{Empty, Linked, Covered, Links, Joins, DoubtsAdded, Doubted};
 
-fn wide(t: u16) -> usize
-    ensures { λ r. ⌜ r ≡ t ⌝ }
-{
-    t as usize
+// Sets that are known before the rounds, in one lent slice: the states that lead to a state of the first table, and of the second, and the
+// targets of each transition of the second. Where each kind begins: the row of the first two, and the word of all.
+pub struct Sets {}
+
+impl Sets {
+    pub const BEFORE: usize = 0;
+
+    pub const BEHIND: usize = Table::STATES;
+
+    pub const BEFORE_AT: usize = Self::BEFORE * Set::WORDS;
+
+    pub const BEHIND_AT: usize = Self::BEHIND * Set::WORDS;
+
+    pub const TARGETS_AT: usize = 2 * Relation::WORDS;
+
+    pub const WORDS: usize = Self::TARGETS_AT + Table::TRANSITIONS * Set::WORDS;
+}
+
+// Sets that a round changes beside the pairs that are left, in one lent slice, a row to a state of the first table: the pairs in doubt, and
+// those lost. The row where each kind begins.
+pub struct Marks {}
+
+impl Marks {
+    pub const DOUBT: usize = 0;
+
+    pub const LOST: usize = Table::STATES;
+
+    pub const WORDS: usize = 2 * Relation::WORDS;
 }
 
 // The state s comes before each of its targets.
-fn link_targets(to: &[u16], s: usize, before: &mut [u64])
+fn link_targets(to: &[u16], s: usize, before: &mut [Word])
     requires { ⌜ Places (height (now before)) (now to) × (s < most-states) ⌝ }
-    ensures { λ r. ⌜ Joins s (now (before .entry)) (now (before .exit)) × ((i : ℕ) → i < length (now (to .entry)) → holds (now (before .exit)) (getD (now (to .entry)) i 0) s ≡ true) ⌝ }
+    ensures { λ r. ⌜ Joins s (now (before .entry)) (now (before .exit))
+        × ((i : ℕ) → i < length (now (to .entry)) → holds (now (before .exit)) (getD (now (to .entry)) i 0) s ≡ true) ⌝ }
 {
     let mut i = 0;
     while i < to.len() {
-        let t = wide(to[i]);
+        let t = to[i] as usize;
         rows::put(before, t, set::insert(rows::get(before, t), s));
         i += 1;
     }
 }
 
 // The state s comes before each target of its transitions.
-fn link_state(f: &[u16], s: usize, before: &mut [u64])
-    requires { ⌜ Loaded (now f) × (s < states-of (table-of (now f))) × (most-states ≤ height (now before)) ⌝ }
-    ensures { λ r. ⌜ Joins s (now (before .entry)) (now (before .exit)) × Links (now (f .entry)) s (now (before .exit)) ⌝ }
+fn link_state(tables: &[u16], which: usize, s: usize, before: &mut [Word])
+    requires { ⌜ Loaded (form-at (now tables) which) × (s < states-of (table-of (form-at (now tables) which))) × (most-states ≤ height (now before)) ⌝ }
+    ensures { λ r. ⌜ Joins s (now (before .entry)) (now (before .exit)) × Links (form-at (now (tables .entry)) which) s (now (before .exit)) ⌝ }
 {
-    let end = form::first(f, s + 1);
-    let mut j = form::first(f, s);
+    let end = tables::start_of(tables, which, s + 1);
+    let mut j = tables::start_of(tables, which, s);
     while j < end {
-        link_targets(form::targets(f, j), s, before);
+        link_targets(tables::targets(tables, which, j), s, before);
         j += 1;
     }
 }
 
-// For each state, those that have a transition to it. `before` is empty at first.
-pub fn link(f: &[u16], before: &mut [u64])
-    requires { ⌜ Loaded (now f) × (most-states ≤ height (now before)) × Empty (now before) ⌝ }
-    ensures { λ r. ⌜ Linked (now (f .entry)) (now (before .exit)) ⌝ }
+// For each state of a table, those that have a transition to it. `before` is empty at first.
+pub fn link(tables: &[u16], which: usize, before: &mut [Word])
+    requires { ⌜ Loaded (form-at (now tables) which) × (most-states ≤ height (now before)) × Empty (now before) ⌝ }
+    ensures { λ r. ⌜ Linked (form-at (now (tables .entry)) which) (now (before .exit)) ⌝ }
 {
-    let n = form::states(f);
+    let n = tables::states(tables, which);
     let mut s = 0;
     while s < n {
-        link_state(f, s, before);
+        link_state(tables, which, s, before);
         s += 1;
     }
 }
 
-// The states before a member of the set.
-fn before_all(set: Set, before: &[u64]) -> Set
-    requires { ⌜ most-states ≤ height (now before) ⌝ }
-    ensures { λ r. ⌜ ((u t : ℕ) → member (mask set) u ≡ true → holds (now (before .entry)) u t ≡ true → member (mask r) t ≡ true) ⌝ }
+// The states behind a member of the set, in the second table.
+fn behind_all(set: Set, sets: &[Word]) -> Set
+    requires { ⌜ HasSets (now sets) ⌝ }
+    ensures { λ r. ⌜ ((u t : ℕ) → member (mask set) u ≡ true → holds (behind-in (now (sets .entry))) u t ≡ true → member (mask r) t ≡ true) ⌝ }
 {
     let mut r = set::empty();
     for w in 0..Set::WORDS {
         let mut left = set.words[w];
         while left != 0 {
             let u = walk::lowest(set, w, left);
-            r = set::union(r, rows::get(before, u));
+            r = set::union(r, rows::get(sets, Sets::BEHIND + u));
             left = walk::without_lowest(set, w, left);
         }
     }
@@ -79,15 +110,16 @@ fn before_all(set: Set, before: &[u64]) -> Set
 }
 
 // More doubts in each row of the set.
-fn add_doubts(set: Set, more: Set, doubt: &mut [u64])
-    requires { ⌜ most-states ≤ height (now doubt) ⌝ }
-    ensures { λ r. ⌜ Grown (now (doubt .entry)) (now (doubt .exit)) × ((s t : ℕ) → member (mask set) s ≡ true → member (mask more) t ≡ true → holds (now (doubt .exit)) s t ≡ true) ⌝ }
+fn add_doubts(set: Set, more: Set, marks: &mut [Word])
+    requires { ⌜ HasMarks (now marks) ⌝ }
+    ensures { λ r. ⌜ DoubtsAdded (mask set) (mask more) (now (marks .entry)) (now (marks .exit)) ⌝ }
 {
     for w in 0..Set::WORDS {
         let mut left = set.words[w];
         while left != 0 {
             let s = walk::lowest(set, w, left);
-            rows::put(doubt, s, set::union(rows::get(doubt, s), more));
+            let doubt = rows::get(marks, Marks::DOUBT + s);
+            rows::put(marks, Marks::DOUBT + s, set::union(doubt, more));
             left = walk::without_lowest(set, w, left);
         }
     }
@@ -95,18 +127,19 @@ fn add_doubts(set: Set, more: Set, doubt: &mut [u64])
 
 // The pairs that may fall next: those with a lost pair one transition behind them. The lost pairs are forgotten.
 // Returns the rows that have such a pair.
-pub fn doubts(lost: &mut [u64], fell: Set, before: &[u64], behind: &[u64], doubt: &mut [u64]) -> Set
-    requires { ⌜ (most-states ≤ height (now lost)) × Covered (mask fell) (now lost) × (most-states ≤ height (now before)) × (most-states ≤ height (now behind)) × (most-states ≤ height (now doubt)) ⌝ }
-    ensures { λ r. ⌜ Doubted (now (lost .entry)) (now (before .entry)) (now (behind .entry)) (mask r) (now (doubt .exit)) (now (lost .exit)) ⌝ }
+pub fn doubts(marks: &mut [Word], fell: Set, sets: &[Word]) -> Set
+    requires { ⌜ HasMarks (now marks) × HasSets (now sets) × Covered (mask fell) (lost-in (now marks)) ⌝ }
+    ensures { λ r. ⌜ Doubted (now (sets .entry)) (mask r) (now (marks .entry)) (now (marks .exit)) ⌝ }
 {
     let mut doubtful = set::empty();
     for w in 0..Set::WORDS {
         let mut left = fell.words[w];
         while left != 0 {
-            let a = walk::lowest(fell, w, left);
-            let sources = rows::get(before, a);
-            add_doubts(sources, before_all(rows::get(lost, a), behind), doubt);
-            rows::put(lost, a, set::empty());
+            let u = walk::lowest(fell, w, left);
+            let sources = rows::get(sets, Sets::BEFORE + u);
+            let lost = rows::get(marks, Marks::LOST + u);
+            add_doubts(sources, behind_all(lost, sets), marks);
+            rows::put(marks, Marks::LOST + u, set::empty());
             doubtful = set::union(doubtful, sources);
             left = walk::without_lowest(fell, w, left);
         }

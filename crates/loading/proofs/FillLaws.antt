@@ -15,14 +15,14 @@ use Rattle.simulation.specs.Limits.{most-codes, most-states, most-transitions, 
 use Rattle.layout.specs.Bytes.{byte, half, Octets, actions, states-at, states, count, transitions-at, transitions, size, entries-at, entries, refusal}
 use Rattle.table.specs.Stages.{layout}
 use Rattle.form.specs.Form.{form-size, states-from, actions-from, starts-from, entry-starts-from, codes-from, targets-from, weights-from, listed-from, at, start-of, entry-start}
-use Rattle.loading.specs.Fill.{Filled, run, Heads, Columns, Between}
+use Rattle.loading.specs.Fill.{FormFilled, run, Heads, Columns, Between}
 use Rattle.layout.proofs.Bounds.{passes, accepted, actions-bytes}
 
-pub filled-none : (f : List ℕ) (from : ℕ) (g : ℕ → ℕ) → Filled f from 0 g f
+pub filled-none : (f : List ℕ) (from : ℕ) (g : ℕ → ℕ) → FormFilled f from 0 g f
 filled-none f from g = record { long = refl; filled = λ i l. absurd (omega arith); kept = λ i l. refl }
 
-pub filled-more : (f : List ℕ) (from i : ℕ) (g : ℕ → ℕ) {f′ : List ℕ} (v : ℕ) → Filled f from i g f′ → from + i < length f → v ≡ g i
-    → Filled f from (i + 1) g (set f′ (from + i) v)
+pub filled-more : (f : List ℕ) (from i : ℕ) (g : ℕ → ℕ) {f′ : List ℕ} (v : ℕ) → FormFilled f from i g f′ → from + i < length f → v ≡ g i
+    → FormFilled f from (i + 1) g (set f′ (from + i) v)
 filled-more f from i g {f′} v w l e =
     record {
       long = length-set f′ (from + i) v ∙ w .long;
@@ -36,13 +36,13 @@ filled-more f from i g {f′} v w l e =
         let q : k ≡ i = omega arith in
         rw q (getD-set-same f′ (from + i) v 0 (omega (arith, w .long)) ∙ e)
 
-pub filled-one : (f : List ℕ) (at v : ℕ) → at < length f → Filled f at 1 (λ i. v) (set f at v)
+pub filled-one : (f : List ℕ) (at v : ℕ) → at < length f → FormFilled f at 1 (λ i. v) (set f at v)
 filled-one f at v l =
     let e : at + 0 ≡ at = omega arith in
     rw e at (filled-more f at 0 (λ i. v) v (filled-none f at (λ i. v)) (omega arith) refl)
 
 -- what a column leaves alone
-pub filled-between : {f f′ : List ℕ} {from n : ℕ} {g : ℕ → ℕ} (a b : ℕ) → Filled f from n g f′ → a ≤ from → from + n ≤ b → Between a b f f′
+pub filled-between : {f f′ : List ℕ} {from n : ℕ} {g : ℕ → ℕ} (a b : ℕ) → FormFilled f from n g f′ → a ≤ from → from + n ≤ b → Between a b f f′
 filled-between a b w l m = record { long = w .long; kept = λ i h. w .kept i (⊎-elim (λ x. inl (omega arith)) (λ x. inr (omega arith)) h) }
 
 pub between-trans : {a b : ℕ} {f g h : List ℕ} → Between a b f g → Between a b g h → Between a b f h
@@ -98,10 +98,10 @@ parts s t octets e q =
 module _ (s : List ℕ) (t : Layout) (p : Parts s t) where
   -- the counts and the starts, written one after the other
   pub heads-by : {f f₁ f₂ f₃ f₄ : List ℕ}
-      → Filled f states-from 1 (λ i. t .states) f₁
-      → Filled f₁ actions-from 1 (λ i. t .actions) f₂
-      → Filled f₂ starts-from (t .states + 1) (λ i. sum i (run s (t .«counts_at») 1)) f₃
-      → Filled f₃ entry-starts-from (t .transitions + 1) (λ i. sum i (run s (t .«transitions_at» + 1) 2)) f₄
+      → FormFilled f states-from 1 (λ i. t .states) f₁
+      → FormFilled f₁ actions-from 1 (λ i. t .actions) f₂
+      → FormFilled f₂ starts-from (t .states + 1) (λ i. sum i (run s (t .«counts_at») 1)) f₃
+      → FormFilled f₃ entry-starts-from (t .transitions + 1) (λ i. sum i (run s (t .«transitions_at» + 1) 2)) f₄
       → Heads s f₄ × Between 0 codes-from f f₄
   unfolding start-of entry-start
   heads-by u v w x = (
@@ -121,10 +121,10 @@ module _ (s : List ℕ) (t : Layout) (p : Parts s t) where
 
   -- the columns, written one after the other
   pub columns-by : {f f₁ f₂ f₃ f₄ : List ℕ}
-      → Filled f codes-from (t .transitions) (run s (t .«transitions_at») 2) f₁
-      → Filled f₁ targets-from (t .entries) (run s (t .«entries_at») 3) f₂
-      → Filled f₂ weights-from (t .entries) (λ i. half s (t .«entries_at» + 1 + 3 * i)) f₃
-      → Filled f₃ listed-from (t .actions) (run s 1 1) f₄
+      → FormFilled f codes-from (t .transitions) (run s (t .«transitions_at») 2) f₁
+      → FormFilled f₁ targets-from (t .entries) (run s (t .«entries_at») 3) f₂
+      → FormFilled f₂ weights-from (t .entries) (λ i. half s (t .«entries_at» + 1 + 3 * i)) f₃
+      → FormFilled f₃ listed-from (t .actions) (run s 1 1) f₄
       → Columns s f₄ × Between codes-from form-size f f₄
   columns-by u v w x = (
     record {

@@ -9,7 +9,7 @@ use Rattle.layout.specs.Bytes.{byte, actions, code, states, transitions, label,
 use Rattle.form.specs.Form.{form-size, states-from, actions-from, codes-from, targets-from, weights-from, listed-from, at, start-of, entry-start, Loaded, table-of}
 
 -- f′ has the numbers g 0, …, g (n - 1) from a place on, and is f elsewhere
-pub record Filled (f : List ℕ) (from n : ℕ) (g : ℕ → ℕ) (f′ : List ℕ) : Type 0 where
+pub record FormFilled (f : List ℕ) (from n : ℕ) (g : ℕ → ℕ) (f′ : List ℕ) : Type 0 where
   pub long : length f′ ≡ length f
   pub filled : (i : ℕ) → i < n → at f′ (from + i) ≡ g i
   pub kept : (i : ℕ) → (i < from) ⊎ (from + n ≤ i) → at f′ i ≡ at f i

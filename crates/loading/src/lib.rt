@@ -12,12 +12,12 @@ ghost use Rattle.simulation.specs.Limits.{most-transitions};
 ghost use Rattle.layout.specs.Bytes.{half, refusal};
 ghost use Rattle.table.specs.Stages.{layout};
 ghost use Rattle.form.specs.Form.{form-size, codes-from};
-ghost use Rattle.loading.specs.Fill.{Filled, run, Runs, Heads, Columns, Between, Loads, Reads};
+ghost use Rattle.loading.specs.Fill.{FormFilled, run, Runs, Heads, Columns, Between, Loads, Reads};
 
 // A number at a place.
 fn put(form: &mut [u16], at: usize, v: u16)
     requires { ⌜ at < length (now form) ⌝ }
-    ensures { λ _. ⌜ Filled (now (form .entry)) at 1 (λ i. v) (now (form .exit)) ⌝ }
+    ensures { λ _. ⌜ FormFilled (now (form .entry)) at 1 (λ i. v) (now (form .exit)) ⌝ }
 {
     form[at] = v;
 }
@@ -25,7 +25,7 @@ fn put(form: &mut [u16], at: usize, v: u16)
 // A column of n bytes, each step after the one before.
 fn put_bytes(form: &mut [u16], to: usize, s: &[u8], from: usize, step: usize, n: usize)
     requires { ⌜ Runs (now s) from step n (now form) to ⌝ }
-    ensures { λ _. ⌜ Filled (now (form .entry)) to n (run (now (s .entry)) from step) (now (form .exit)) ⌝ }
+    ensures { λ _. ⌜ FormFilled (now (form .entry)) to n (run (now (s .entry)) from step) (now (form .exit)) ⌝ }
 {
     let mut i: usize = 0;
     while i < n {
@@ -37,7 +37,7 @@ fn put_bytes(form: &mut [u16], to: usize, s: &[u8], from: usize, step: usize, n:
 // The sums of the first 0, 1, .. n of these bytes.
 fn put_sums(form: &mut [u16], to: usize, s: &[u8], from: usize, step: usize, n: usize)
     requires { ⌜ Runs (now s) from step n (now form) to × (to + n < length (now form)) × (n ≤ most-transitions) ⌝ }
-    ensures { λ _. ⌜ Filled (now (form .entry)) to (n + 1) (λ i. sum i (run (now (s .entry)) from step)) (now (form .exit)) ⌝ }
+    ensures { λ _. ⌜ FormFilled (now (form .entry)) to (n + 1) (λ i. sum i (run (now (s .entry)) from step)) (now (form .exit)) ⌝ }
 {
     let mut sum: u16 = 0;
     let mut i: usize = 0;
@@ -52,7 +52,7 @@ fn put_sums(form: &mut [u16], to: usize, s: &[u8], from: usize, step: usize, n: 
 // A column of n fields of two bytes, each step after the one before.
 fn put_halves(form: &mut [u16], to: usize, s: &[u8], from: usize, step: usize, n: usize)
     requires { ⌜ Runs (now s) (from + 1) step n (now form) to ⌝ }
-    ensures { λ _. ⌜ Filled (now (form .entry)) to n (λ i. half (now (s .entry)) (from + step * i)) (now (form .exit)) ⌝ }
+    ensures { λ _. ⌜ FormFilled (now (form .entry)) to n (λ i. half (now (s .entry)) (from + step * i)) (now (form .exit)) ⌝ }
 {
     let mut i: usize = 0;
     while i < n {

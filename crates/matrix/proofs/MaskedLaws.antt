@@ -15,9 +15,8 @@ use Rattle.relation.specs.Words.{mask, row-of, height, put-row}
 use Rattle.relation.specs.declared.set.Set.{Set}
 use Rattle.relation.proofs.Mask.{member-none, lowest-of, below-or-not}
 use Rattle.relation.proofs.Sets.{row-put, row-put-other}
-use Rattle.matrix.specs.Matrix.{cell}
-use Rattle.matrix.specs.Problem.{relates}
-use Rattle.matrix.specs.Matrix.{Adds}
+use Rattle.relation.specs.Related.{holds}
+use Rattle.matrix.specs.Matrix.{cell, Adds}
 use Rattle.matrix.specs.Masks.{nonzero, put, MaskOf, Used, Noted}
 use Rattle.matrix.proofs.MatrixLaws.{adds-row, adds-column}
 
@@ -167,36 +166,36 @@ mask-zero z e = record {
   some = λ i t. absurd (neither t (no-members e i));
 }
 
--- one cell changes, and its column's users with it
-module _ {p q : ℕ} {x x′ users users′ : List ℕ} {i j : ℕ} (w : q ≤ most-states) (hi : i < p) (hj : j < q)
+-- one cell changes, and its column's senders with it
+module _ {p q : ℕ} {x x′ senders senders′ : List ℕ} {i j : ℕ} (w : q ≤ most-states) (hi : i < p) (hj : j < q)
     (row : (k l : ℕ) → l < most-states → i ≢ k → cell x′ k l ≡ cell x k l) (column : (k l : ℕ) → l < most-states → j ≢ l → cell x′ k l ≡ cell x k l) where
-  pub used-kept : Used p q x users → Noted x′ users users′ i j → Used p q x′ users′
+  pub used-kept : Used p q x senders → Noted x′ senders senders′ i j → Used p q x′ senders′
   used-kept u n = record {
     column = λ l h. elim (ℕ-discrete l j) [
-      | yes c ↦ subst⁻¹ (λ (l : ℕ). MaskOf p (λ k. cell x′ k l) (row-of users′ l)) c (mask-put (row-of users′ j) (u .column j hj) hi refl (λ k o. row k j (omega arith) (λ e. o (sym e))) (n .here))
+      | yes c ↦ subst⁻¹ (λ (l : ℕ). MaskOf p (λ k. cell x′ k l) (row-of senders′ l)) c (mask-put (row-of senders′ j) (u .column j hj) hi refl (λ k o. row k j (omega arith) (λ e. o (sym e))) (n .here))
       | no o ↦ mask-same (λ k. column k l (omega arith) (λ e. o (sym e))) (n .other l o) (u .column l h)
     ];
     none = λ l h. n .other l (λ c. omega arith) ∙ u .none l h;
   }
 
-pub used-adds : {p q : ℕ} {x x′ users users′ : List ℕ} {i j d : ℕ} → q ≤ most-states → i < p → j < q → Adds x x′ i j d → Used p q x users → Noted x′ users users′ i j → Used p q x′ users′
+pub used-adds : {p q : ℕ} {x x′ senders senders′ : List ℕ} {i j d : ℕ} → q ≤ most-states → i < p → j < q → Adds x x′ i j d → Used p q x senders → Noted x′ senders senders′ i j → Used p q x′ senders′
 used-adds w hi hj a = used-kept w hi hj (adds-row a) (adds-column a)
 
-pub used-takes : {p q : ℕ} {x x′ users users′ : List ℕ} {i j d : ℕ} → q ≤ most-states → i < p → j < q → Adds x′ x i j d → Used p q x users → Noted x′ users users′ i j → Used p q x′ users′
+pub used-takes : {p q : ℕ} {x x′ senders senders′ : List ℕ} {i j d : ℕ} → q ≤ most-states → i < p → j < q → Adds x′ x i j d → Used p q x senders → Noted x′ senders senders′ i j → Used p q x′ senders′
 used-takes w hi hj a = used-kept w hi hj (λ k l h o. sym (adds-row a k l h o)) (λ k l h o. sym (adds-column a k l h o))
 
--- a cell and its column's users are written: g is what the column had, m what it has now
-pub noted : {x : List ℕ} (users users′ : List ℕ) (g m : Set) {i j v : ℕ} → j < height users → cell x i j ≡ v → mask g ≡ row-of users j
-    → member (mask m) ≡ put i v (member (mask g)) → users′ ≡ put-row users j m → Noted x users users′ i j
-noted {x} users users′ g m {i} {j} {v} h e eg c eu = record {
-  here = ap (λ (u : List ℕ). member (row-of u j)) eu ∙ ap member (row-put users j m h) ∙ c ∙ ap (λ (n : ℕ). put i v (member n)) eg
-      ∙ ap (λ (n : ℕ). put i n (member (row-of users j))) (sym e);
-  other = λ k o. ap (λ (u : List ℕ). row-of u k) eu ∙ row-put-other users j k m o;
+-- a cell and its column's senders are written: g is what the column had, m what it has now
+pub noted : {x : List ℕ} (senders senders′ : List ℕ) (g m : Set) {i j v : ℕ} → j < height senders → cell x i j ≡ v → mask g ≡ row-of senders j
+    → member (mask m) ≡ put i v (member (mask g)) → senders′ ≡ put-row senders j m → Noted x senders senders′ i j
+noted {x} senders senders′ g m {i} {j} {v} h e eg c eu = record {
+  here = ap (λ (u : List ℕ). member (row-of u j)) eu ∙ ap member (row-put senders j m h) ∙ c ∙ ap (λ (n : ℕ). put i v (member n)) eg
+      ∙ ap (λ (n : ℕ). put i n (member (row-of senders j))) (sym e);
+  other = λ k o. ap (λ (u : List ℕ). row-of u k) eu ∙ row-put-other senders j k m o;
 }
 
--- a user is a row, and has a column
-pub user-column : {p q : ℕ} {x users : List ℕ} → Used p q x users → (i j : ℕ) → relates users j i ≡ true → j < q
+-- a sender is a row, and has a column
+pub user-column : {p q : ℕ} {x senders : List ℕ} → Used p q x senders → (i j : ℕ) → holds senders j i ≡ true → j < q
 user-column {q = q} u i j m = ⊎-elim (λ l. l) (λ l. absurd (neither m (no-members (u .none j l) i))) (below-or-not j q)
 
-pub user-row : {p q : ℕ} {x users : List ℕ} → Used p q x users → (i j : ℕ) → relates users j i ≡ true → i < p
+pub user-row : {p q : ℕ} {x senders : List ℕ} → Used p q x senders → (i j : ℕ) → holds senders j i ≡ true → i < p
 user-row u i j m = u .column j (user-column u i j m) .below i m

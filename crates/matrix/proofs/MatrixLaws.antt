@@ -1,9 +1,9 @@
 -- Laws of the delta, of one change of a matrix, and of the cells outside a block.
 -- Assumes nothing.
-use mathlib.Core.Path.{_≡_, refl, sym, ap, _∙_, subst}
+use mathlib.Core.Path.{_≡_, refl, sym, ap, _∙_, subst, subst₂}
 use mathlib.Core.Bool.{Bool}
 use mathlib.Core.List.{List}
-use mathlib.Core.Logic.{_≢_}
+use mathlib.Core.Logic.{_≢_, _⊎_, inl, inr, ⊎-elim}
 use Prim.Native.Nat.{ℕ, _+_, _*_, _≤_, _<_}
 use native.Mathlib.Nat.{add-comm}
 use native.Mathlib.Numerals.{add-one}
@@ -15,7 +15,7 @@ use borrow.Author.Tests.{eq-eqb, ne-eqb}
 use Rattle.simulation.specs.Limits.{most-states}
 use Rattle.simulation.specs.Sum.{sum, when}
 use Rattle.simulation.proofs.Finite.Sums.{sum-ext, sum-zero, sum-add, sum-term, sum-pick}
-use Rattle.matrix.specs.Matrix.{cell, Outside, delta, row-sum, column-sum, AddsAt, Adds}
+use Rattle.matrix.specs.Matrix.{cell, Outside, delta, row-sum, column-sum, Put, AddsAt, Adds}
 
 -- sums up to n + 1, as a loop makes them
 pub sum-next : (n : ℕ) (f : ℕ → ℕ) → sum (n + 1) f ≡ sum n f + f n
@@ -49,15 +49,7 @@ pub sum-delta : (n k d : ℕ) → k < n → sum n (λ l. delta k l d) ≡ d
 unfolding delta
 sum-delta n k d h = sum-pick n k (λ l. d) h
 
-pub set-adds-at : (x : List ℕ) (k v d : ℕ) → k < length x → v ≡ getD x k 0 + d → AddsAt x (set x k v) k d
-set-adds-at x k v d h e = record {
-  more = λ l. elim (ℕ-discrete k l) [
-    | yes s ↦ subst (λ (m : ℕ). getD (set x k v) m 0 ≡ getD x m 0 + delta k m d) s (omega (arith, getD-set-same x k v 0 h, delta-same k d))
-    | no o ↦ omega (arith, getD-set-other x k l v 0 (λ c. o (sym c)), delta-other d o)
-  ];
-}
-
--- d less is d more the other way round
+-- d less at a place
 pub set-takes-at : (x : List ℕ) (k v d : ℕ) → k < length x → v + d ≡ getD x k 0 → AddsAt (set x k v) x k d
 set-takes-at x k v d h e = record {
   more = λ l. elim (ℕ-discrete k l) [
@@ -66,21 +58,34 @@ set-takes-at x k v d h e = record {
   ];
 }
 
+pub adds-at-other : {x y : List ℕ} {k d : ℕ} → AddsAt x y k d → (l : ℕ) → k ≢ l → getD y l 0 ≡ getD x l 0
+adds-at-other {d = d} a l o = omega (arith, a .more l, delta-other d o)
+
 -- a place in a row of most-states has one row and one column
-delta-place : (i j i′ j′ d : ℕ) → j < most-states → j′ < most-states → delta (i * most-states + j) (i′ * most-states + j′) d ≡ delta i i′ (delta j j′ d)
-delta-place i j i′ j′ d h h′ = elim (ℕ-discrete i i′) [
-  | yes e ↦ elim (ℕ-discrete j j′) [
-    | yes f ↦ delta-eq d (omega arith) ∙ sym (delta-eq (delta j j′ d) e ∙ delta-eq d f)
-    | no f ↦ delta-other d (λ c. f (omega arith)) ∙ sym (delta-eq (delta j j′ d) e ∙ delta-other d f)
-  ]
-  | no e ↦ delta-other d (λ c. e (omega arith)) ∙ sym (delta-other (delta j j′ d) e)
-]
+pub put-set : (x : List ℕ) (i j v : ℕ) → j < most-states → i * most-states + j < length x → Put x (set x (i * most-states + j) v) i j v
+put-set x i j v h l = record {
+  here = getD-set-same x (i * most-states + j) v 0 l;
+  others = λ i′ j′ h′ o. getD-set-other x (i * most-states + j) (i′ * most-states + j′) v 0 (λ e. ⊎-elim (λ n. n (omega arith)) (λ n. n (omega arith)) o);
+}
 
-pub adds : {x y : List ℕ} (i j : ℕ) {d : ℕ} → j < most-states → AddsAt x y (i * most-states + j) d → Adds x y i j d
-adds {x} {y} i j {d} h a = record { more = λ i′ j′ h′. a .more (i′ * most-states + j′) ∙ ap (λ (m : ℕ). cell x i′ j′ + m) (delta-place i j i′ j′ d h h′) }
+-- only row i, column j changes, by d more
+adds-here : {x y : List ℕ} {i j d : ℕ} → cell y i j ≡ cell x i j + d → ((i′ j′ : ℕ) → j′ < most-states → (i′ ≢ i) ⊎ (j′ ≢ j) → cell y i′ j′ ≡ cell x i′ j′) → Adds x y i j d
+adds-here {x} {y} {i} {j} {d} e o = record {
+  more = λ i′ j′ h. elim (ℕ-discrete i i′) [
+    | yes s ↦ elim (ℕ-discrete j j′) [
+      | yes t ↦ subst₂ (λ (i′ j′ : ℕ). cell y i′ j′ ≡ cell x i′ j′ + delta i i′ (delta j j′ d)) s t (omega (arith, delta-same i (delta j j d), delta-same j d))
+      | no n ↦ omega (arith, o i′ j′ h (inr (λ c. n (sym c))), delta-eq (delta j j′ d) s, delta-other d n)
+    ]
+    | no n ↦ omega (arith, o i′ j′ h (inl (λ c. n (sym c))), delta-other (delta j j′ d) n)
+  ];
+}
 
-pub adds-is : {x y : List ℕ} {i j d d′ : ℕ} → d ≡ d′ → Adds x y i j d → Adds x y i j d′
-adds-is {x} {y} {i} {j} e a = subst (λ (d : ℕ). Adds x y i j d) e a
+pub put-adds : {x y : List ℕ} {i j v d : ℕ} → Put x y i j v → v ≡ cell x i j + d → Adds x y i j d
+put-adds s e = adds-here (s .here ∙ e) (s .others)
+
+-- d less is d more the other way round
+pub put-takes : {x y : List ℕ} {i j v d : ℕ} → Put x y i j v → v + d ≡ cell x i j → Adds y x i j d
+put-takes {d = d} s e = adds-here (sym e ∙ ap (λ (m : ℕ). m + d) (sym (s .here))) (λ i′ j′ h o. sym (s .others i′ j′ h o))
 
 module _ (p q : ℕ) {x y : List ℕ} {i j d : ℕ} (w : q ≤ most-states) (a : Adds x y i j d) where
   pub row-adds : j < q → (i′ : ℕ) → row-sum q y i′ ≡ row-sum q x i′ + delta i i′ d

@@ -23,12 +23,12 @@ pub record MaskOf (n : ℕ) (f : ℕ → ℕ) (m : ℕ) : Type 0 where
   pub below : (k : ℕ) → member m k ≡ true → k < n
   pub some : (k : ℕ) → member m k ≡ true → f k ≢ 0
 
--- the users of a column are the rows with an amount in it
-pub record Used (p q : ℕ) (x users : List ℕ) : Type 0 where
-  pub column : (j : ℕ) → j < q → MaskOf p (λ i. cell x i j) (row-of users j)
-  pub none : (j : ℕ) → q ≤ j → row-of users j ≡ 0
+-- the senders of a column are the rows with an amount in it
+pub record Used (p q : ℕ) (x senders : List ℕ) : Type 0 where
+  pub column : (j : ℕ) → j < q → MaskOf p (λ i. cell x i j) (row-of senders j)
+  pub none : (j : ℕ) → q ≤ j → row-of senders j ≡ 0
 
--- the users of column j say whether row i has an amount in it now; those of other columns stay
-pub record Noted (x users users′ : List ℕ) (i j : ℕ) : Type 0 where
-  pub here : member (row-of users′ j) ≡ put i (cell x i j) (member (row-of users j))
-  pub other : (k : ℕ) → k ≢ j → row-of users′ k ≡ row-of users k
+-- the senders of column j say whether row i has an amount in it now; those of other columns stay
+pub record Noted (x senders senders′ : List ℕ) (i j : ℕ) : Type 0 where
+  pub here : member (row-of senders′ j) ≡ put i (cell x i j) (member (row-of senders j))
+  pub other : (k : ℕ) → k ≢ j → row-of senders′ k ≡ row-of senders k

@@ -2,6 +2,7 @@
 -- Assumes nothing.
 use mathlib.Core.Path.{_≡_}
 use mathlib.Core.List.{List}
+use mathlib.Core.Logic.{_⊎_, _≢_}
 use Prim.Native.Nat.{ℕ, _+_, _*_, _≤_, _<_}
 use lib.Dec.{eqb}
 use lib.ListN.{getD}
@@ -28,6 +29,11 @@ row-sum q x i = sum q (λ j. cell x i j)
 unfoldable pub column-sum : ℕ → List ℕ → ℕ → ℕ
 unfolding sum
 column-sum p x j = sum p (λ i. cell x i j)
+
+-- y is x with v in row i, column j
+pub record Put (x y : List ℕ) (i j v : ℕ) : Type 0 where
+  pub here : cell y i j ≡ v
+  pub others : (i′ j′ : ℕ) → j′ < most-states → (i′ ≢ i) ⊎ (j′ ≢ j) → cell y i′ j′ ≡ cell x i′ j′
 
 -- y is x with d more at place k
 pub record AddsAt (x y : List ℕ) (k d : ℕ) : Type 0 where

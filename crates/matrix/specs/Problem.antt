@@ -6,23 +6,19 @@ use mathlib.Core.List.{List}
 use Prim.Native.Nat.{ℕ, _≤_, _<_}
 use mathlib.Core.Path.{_≡_}
 use lib.ListN.{length, getD}
-use Rattle.simulation.specs.Limits.{most-pairs, most-states}
+use Rattle.simulation.specs.Limits.{most-pairs, most-states, most-total}
 use Rattle.simulation.specs.Fit.{total, Positive}
-use Rattle.relation.specs.Mask.{member}
-use Rattle.relation.specs.Words.{row-of, height}
+use Rattle.relation.specs.Related.{holds}
+use Rattle.relation.specs.Words.{height}
 
--- row i is related to column j: bit j of the row's mask
-abbrev pub relates : List ℕ → ℕ → ℕ → Bool
-relates rel i j = member (row-of rel i) j
-
--- at most most-states targets on each side, totals below 2^16, a mask for each row and room for the amounts
+-- at most most-states targets on each side, totals within their limit, a mask for each row and room for the amounts
 pub record Given (ws vs rel x : List ℕ) : Type 0 where
   pub few-rows : length ws ≤ most-states
   pub few-columns : length vs ≤ most-states
   pub masks : length ws ≤ height rel
   pub cells : most-pairs ≤ length x
-  pub total-ws : total ws < 65536
-  pub total-vs : total vs < 65536
+  pub total-ws : total ws ≤ most-total
+  pub total-vs : total vs ≤ most-total
 
 -- the same over the states of two tables: weights ws at the targets ms and vs at the targets ts, and rows that relate states
 pub record Sides (ms ws ts vs rows : List ℕ) : Type 0 where
@@ -36,9 +32,9 @@ pub record Sides (ms ws ts vs rows : List ℕ) : Type 0 where
   pub column-states : (j : ℕ) → j < length ts → getD ts j 0 < most-states
   pub positive-ws : Positive ws
   pub positive-vs : Positive vs
-  pub total-ws : total ws < 65536
-  pub total-vs : total vs < 65536
+  pub total-ws : total ws ≤ most-total
+  pub total-vs : total vs ≤ most-total
 
 -- the target at place i of the one is related to that at place j of the other
 abbrev pub joins : (rows ms ts : List ℕ) → ℕ → ℕ → Bool
-joins rows ms ts i j = member (row-of rows (getD ms i 0)) (getD ts j 0)
+joins rows ms ts i j = holds rows (getD ms i 0) (getD ts j 0)

@@ -1,4 +1,5 @@
-// One cell of the matrix of amounts and the users of its column, and numbers in other widths.
+// One cell of the matrix of amounts and the senders of its column: the rows that have an amount in it.
+use relation::Word;
 use relation::rows;
 use relation::set;
 use relation::set::Set;
@@ -9,34 +10,14 @@ ghost use Prim.Native.Nat.{_+_, _^_, _≤_, _<_, min};
 ghost use lib.ListN.{length, getD};
 ghost use Rattle.simulation.specs.Limits.{most-pairs, most-states};
 ghost use Rattle.relation.specs.Mask.{member, part};
-ghost use Rattle.relation.specs.Words.{mask, height};
-ghost use Rattle.matrix.specs.Matrix.{cell};
-ghost use Rattle.matrix.specs.Matrix.{Adds};
+ghost use Rattle.relation.specs.Words.{word-bits, mask, height};
+ghost use Rattle.matrix.specs.Matrix.{cell, Put, AddsAt, Adds};
 ghost use Rattle.matrix.specs.Masks.{nonzero, put, MaskOf, Noted};
 
 pub fn smaller(x: u32, y: u32) -> u32
     ensures { λ r. ⌜ r ≡ min x y ⌝ }
 {
     if x < y { x } else { y }
-}
-
-pub fn wide(w: u16) -> u32
-    ensures { λ r. ⌜ r ≡ w ⌝ }
-{
-    w as u32
-}
-
-pub fn index(b: u8) -> usize
-    ensures { λ r. ⌜ r ≡ b ⌝ }
-{
-    b as usize
-}
-
-pub fn byte(i: usize) -> u8
-    requires { ⌜ i < most-states ⌝ }
-    ensures { λ r. ⌜ r ≡ i ⌝ }
-{
-    i as u8
 }
 
 // The set with k if v isn't 0, and else without.
@@ -50,59 +31,71 @@ pub fn marked(set: Set, k: usize, v: u32) -> Set
     set::insert(set, k)
 }
 
-// The places of a, at most 64, where it isn't 0.
-fn positive_word(a: &[u32]) -> u64
-    requires { ⌜ length (now a) ≤ 64 ⌝ }
-    ensures { λ r. ⌜ member r ≡ part (length (now (a .entry))) (λ i. nonzero (getD (now (a .entry)) i 0)) ⌝ }
+// The places, at most as many as a word has bits, where the number isn't 0.
+fn positive_word(numbers: &[u32]) -> Word
+    requires { ⌜ length (now numbers) ≤ word-bits ⌝ }
+    ensures { λ r. ⌜ member r ≡ part (length (now (numbers .entry))) (λ i. nonzero (getD (now (numbers .entry)) i 0)) ⌝ }
 {
-    let mut r = 0u64;
+    let mut r: Word = 0;
     let mut i = 0;
-    while i < a.len() {
-        r = word::with_bit(r, i, (a[i] != 0) as u64);
+    while i < numbers.len() {
+        r = word::with_bit(r, i, (numbers[i] != 0) as Word);
         i += 1;
     }
     r
 }
 
-// The places of a where it isn't 0, word by word: a set that grows by one place after the other goes through memory each time.
-fn positive_places(a: &[u32]) -> Set
-    requires { ⌜ length (now a) ≤ most-states ⌝ }
-    ensures { λ r. ⌜ member (mask r) ≡ part (length (now (a .entry))) (λ i. nonzero (getD (now (a .entry)) i 0)) ⌝ }
+// The places where the number isn't 0, word by word: a set that grows by one place after the other goes through memory each time.
+pub fn positive(numbers: &[u32]) -> Set
+    requires { ⌜ length (now numbers) ≤ most-states ⌝ }
+    ensures { λ r. ⌜ MaskOf (length (now (numbers .entry))) (λ i. getD (now (numbers .entry)) i 0) (mask r) ⌝ }
 {
-    let n = a.len();
+    let n = numbers.len();
     let mut r = set::empty();
     for w in 0..Set::WORDS {
-        r.words[w] = positive_word(&a[set::start(w, n)..set::start(w + 1, n)]);
+        r.words[w] = positive_word(&numbers[set::start(w, n)..set::start(w + 1, n)]);
     }
     r
 }
 
-// The places below n where a isn't 0.
-pub fn positive(a: &[u32], n: usize) -> Set
-    requires { ⌜ (n ≤ most-states) × (n ≤ length (now a)) ⌝ }
-    ensures { λ r. ⌜ MaskOf n (λ i. getD (now (a .entry)) i 0) (mask r) ⌝ }
+// d less for row i to send and for column j to take.
+pub fn deduct(supply: &mut [u32], demand: &mut [u32], i: usize, j: usize, d: u32)
+    requires { ⌜ (i < length (now supply)) × (j < length (now demand)) × (d ≤ getD (now supply) i 0) × (d ≤ getD (now demand) j 0) ⌝ }
+    ensures { λ r. ⌜ AddsAt (now (supply .exit)) (now (supply .entry)) i d × AddsAt (now (demand .exit)) (now (demand .entry)) j d ⌝ }
 {
-    positive_places(&a[..n])
+    supply[i] = supply[i] - d;
+    demand[j] = demand[j] - d;
+}
+
+// The amount v at row i, column j.
+pub fn put_cell(amounts: &mut [u32], senders: &mut [Word], i: usize, j: usize, v: u32)
+    requires { ⌜ (i < most-states) × (j < most-states) × (most-pairs ≤ length (now amounts)) × (most-states ≤ height (now senders)) ⌝ }
+    ensures { λ r. ⌜ Put (now (amounts .entry)) (now (amounts .exit)) i j v
+        × Noted (now (amounts .exit)) (now (senders .entry)) (now (senders .exit)) i j ⌝ }
+{
+    let at = i * Table::STATES + j;
+    amounts[at] = v;
+    rows::put(senders, j, marked(rows::get(senders, j), i, v));
 }
 
 // d more at row i, column j.
-pub fn place(x: &mut [u32], users: &mut [u64], i: usize, j: usize, d: u32)
-    requires { ⌜ (i < most-states) × (j < most-states) × (most-pairs ≤ length (now x)) × (most-states ≤ height (now users)) × (cell (now x) i j + d < 2 ^ 32) ⌝ }
-    ensures { λ r. ⌜ Adds (now (x .entry)) (now (x .exit)) i j d × Noted (now (x .exit)) (now (users .entry)) (now (users .exit)) i j ⌝ }
+pub fn add(amounts: &mut [u32], senders: &mut [Word], i: usize, j: usize, d: u32)
+    requires { ⌜ (i < most-states) × (j < most-states) × (most-pairs ≤ length (now amounts)) × (most-states ≤ height (now senders))
+        × (cell (now amounts) i j + d < 2 ^ 32) ⌝ }
+    ensures { λ r. ⌜ Adds (now (amounts .entry)) (now (amounts .exit)) i j d
+        × Noted (now (amounts .exit)) (now (senders .entry)) (now (senders .exit)) i j ⌝ }
 {
-    let at = i * Table::STATES + j;
-    let v = x[at] + d;
-    x[at] = v;
-    rows::put(users, j, marked(rows::get(users, j), i, v));
+    let v = amounts[i * Table::STATES + j] + d;
+    put_cell(amounts, senders, i, j, v);
 }
 
 // d less at row i, column j.
-pub fn take(x: &mut [u32], users: &mut [u64], i: usize, j: usize, d: u32)
-    requires { ⌜ (i < most-states) × (j < most-states) × (most-pairs ≤ length (now x)) × (most-states ≤ height (now users)) × (d ≤ cell (now x) i j) ⌝ }
-    ensures { λ r. ⌜ Adds (now (x .exit)) (now (x .entry)) i j d × Noted (now (x .exit)) (now (users .entry)) (now (users .exit)) i j ⌝ }
+pub fn subtract(amounts: &mut [u32], senders: &mut [Word], i: usize, j: usize, d: u32)
+    requires { ⌜ (i < most-states) × (j < most-states) × (most-pairs ≤ length (now amounts)) × (most-states ≤ height (now senders))
+        × (d ≤ cell (now amounts) i j) ⌝ }
+    ensures { λ r. ⌜ Adds (now (amounts .exit)) (now (amounts .entry)) i j d
+        × Noted (now (amounts .exit)) (now (senders .entry)) (now (senders .exit)) i j ⌝ }
 {
-    let at = i * Table::STATES + j;
-    let v = x[at] - d;
-    x[at] = v;
-    rows::put(users, j, marked(rows::get(users, j), i, v));
+    let v = amounts[i * Table::STATES + j] - d;
+    put_cell(amounts, senders, i, j, v);
 }

@@ -9,8 +9,8 @@ use native.Mathlib.Nat.{le-refl, mul-le-mul-right, div-add-mod'}
 use native.Mathlib.Omega.{arith}
 use native.Mathlib.Decide.{ℕ-discrete}
 use lib.Dec.{T, eqb, eqb→eq, ltb, ltb→lt, lt→ltb}
-use lib.ListN.{length, getD, set, length-set}
-use lib.Seq.{getD-set-same, getD-set-other}
+use lib.ListN.{length, getD, set, take, length-set}
+use lib.Seq.{getD-set-same, getD-set-other, getD-take, length-take-le}
 use Rattle.simulation.specs.Limits.{most-states, most-pairs}
 use Rattle.simulation.specs.Sum.{sum, any, when}
 use Rattle.simulation.specs.Table.{Table, targets, target-at, states-of}
@@ -20,20 +20,20 @@ use Rattle.simulation.specs.Length.{one-length, pair-length, tree-length}
 use Rattle.simulation.proofs.Finite.Sums.{sum-bound, sum-term, sum-none, sum-more, when-most}
 use Rattle.simulation.proofs.Finite.Tests.{and-left, and-right, both, same-eqb, any-some, some-any}
 use Rattle.simulation.proofs.Trees.Length.{pair-length-step}
-use Rattle.form.specs.Form.{Loaded, table-of, transition-at}
+use Rattle.form.specs.Tables.{first-form, second-form, first-table, second-table, first-step, BothLoaded}
 use Rattle.form.proofs.FormLaws.{limits, sound, few-pairs}
 use Rattle.relation.specs.Mask.{Test, member}
 use Rattle.relation.specs.Words.{row-of}
 use Rattle.relate.specs.Ranked.{Ranked}
 use Rattle.choice.specs.Choice.{Lost, Choice, Sets}
 use Rattle.choice.proofs.Choices.{below-lost}
-use Rattle.counting.proofs.Pairs.{from-number, lost-place, lost-low, number-place}
-use Rattle.counting.proofs.Targets.{ChoiceGiven, targets-are, count-is, few-targets, state-low, state-row, set-at, child-lost, length-parts}
-use Rattle.measure.specs.Lengths.{set-length, SumGiven, Measured, most, children-length, most-children, ChildrenGiven, Holds, MeasureGiven, PairGiven, AllHold, TreeMeasured}
 use Rattle.counting.specs.Count.{longest}
 use Rattle.counting.specs.Pair.{number, row, column}
-use Rattle.passing.specs.Passing.{Found, Later, Noted}
+use Rattle.counting.proofs.Pairs.{from-number, lost-place, lost-low, number-place}
+use Rattle.counting.proofs.Targets.{ChoiceGiven, targets-are, count-is, few-targets, state-low, state-row, set-at, child-lost, length-parts}
+use Rattle.passing.specs.Passing.{Found, Later, Above, Noted}
 use Rattle.order.specs.Order.{Ordered}
+use Rattle.measure.specs.Lengths.{set-length, SumGiven, Measured, most, children-length, most-children, ChildrenGiven, Holds, MeasureGiven, PairGiven, AllHold, TreeMeasured}
 
 -- ---- the loop over the children
 
@@ -47,20 +47,20 @@ set-small width lengths s X w h =
     )
 
 -- the length of the children before i
-pub record LengthLoop (second lengths targets sets : List ℕ) (len i : ℕ) : Type 0 where
-  pub is : len ≡ children-length (states-of (table-of second)) lengths targets sets i
+pub record LengthLoop (tables lengths targets sets : List ℕ) (len i : ℕ) : Type 0 where
+  pub is : len ≡ children-length (states-of (second-table tables)) lengths targets sets i
   pub inside : i ≤ length targets
 
 -- at first there is none
-pub length-start : (second lengths targets sets : List ℕ) → LengthLoop second lengths targets sets 0 0
-length-start second lengths targets sets = record { is = sum-none _; inside = zero-le }
+pub length-start : (tables lengths targets sets : List ℕ) → LengthLoop tables lengths targets sets 0 0
+length-start tables lengths targets sets = record { is = sum-none _; inside = zero-le }
 
-module _ {second lengths targets sets : List ℕ} (g : ChildrenGiven second lengths targets sets) (small : (i : ℕ) → getD lengths i 0 ≤ most) where
+module _ {tables lengths targets sets : List ℕ} (g : ChildrenGiven tables lengths targets sets) (small : (i : ℕ) → getD lengths i 0 ≤ most) where
   abbrev width : ℕ
-  width = states-of (table-of second)
+  width = states-of (second-table tables)
 
   node-small : (i : ℕ) → set-length width lengths (getD targets i 0) (member (row-of sets i)) ≤ most-states * most
-  node-small i = set-small width lengths (getD targets i 0) (member (row-of sets i)) (limits second (g .loaded) .states-few) small
+  node-small i = set-small width lengths (getD targets i 0) (member (row-of sets i)) (limits (second-form tables) (g .loaded .second) .states-few) small
 
   all-small : (n : ℕ) → n ≤ most-states → children-length width lengths targets sets n ≤ most-children
   all-small n h =
@@ -70,7 +70,7 @@ module _ {second lengths targets sets : List ℕ} (g : ChildrenGiven second leng
         mul-le-mul-right (4 + most-states * most) h,
       )
 
-  module _ {len i : ℕ} (l : LengthLoop second lengths targets sets len i) where
+  module _ {len i : ℕ} (l : LengthLoop tables lengths targets sets len i) where
     -- after the last child it is the length of all, and small
     pub length-end : length targets ≤ i → (len ≡ children-length width lengths targets sets (length targets)) × (len ≤ most-children)
     length-end h =
@@ -79,9 +79,9 @@ module _ {second lengths targets sets : List ℕ} (g : ChildrenGiven second leng
 
     module _ (lt : i < length targets) {m : ℕ} (em : m ≡ row-of sets i) where
       -- the next child's length can be added up, and fits
-      pub length-node : SumGiven second lengths (getD targets i 0) m
+      pub length-node : SumGiven tables lengths (getD targets i 0) m
       length-node =
-          subst (SumGiven second lengths (getD targets i 0)) (sym em)
+          subst (SumGiven tables lengths (getD targets i 0)) (sym em)
           (record { loaded = g .loaded; low = g .low i lt; inside = λ t h. g .inside i t lt h; room = g .room i lt; small = omega (arith, node-small i) })
 
       module _ (r : ℕ) (er : r ≡ 1 + set-length width lengths (getD targets i 0) (member m)) where
@@ -92,7 +92,7 @@ module _ {second lengths targets sets : List ℕ} (g : ChildrenGiven second leng
         length-fits = (omega (arith, by-row, node-small i), omega (arith, by-row, node-small i, l .is, all-small i (omega (arith, g .few))))
 
         -- it is added
-        pub length-next : LengthLoop second lengths targets sets (len + (3 + r)) (i + 1)
+        pub length-next : LengthLoop tables lengths targets sets (len + (3 + r)) (i + 1)
         length-next =
             record {
               is = omega (arith, by-row, l .is, sum-more i (λ i. 4 + set-length width lengths (getD targets i 0) (member (row-of sets i))) refl);
@@ -118,24 +118,24 @@ min-same c n = omega arith
 
 -- ---- a pair
 
-module _ {first second ranks lengths sets rel x : List ℕ} {s t : ℕ} (g : PairGiven first second ranks lengths sets rel x s t) where
+module _ {tables ranks lengths sets amounts : List ℕ} {s t : ℕ} (g : PairGiven tables ranks lengths sets amounts s t) where
   abbrev M : Table
-  M = table-of first
+  M = first-table tables
 
   abbrev N : Table
-  N = table-of second
+  N = second-table tables
 
-  module _ {j : ℕ} (w : Choice first second s t j) where
+  module _ {j : ℕ} (w : Choice tables s t j) where
     -- the pair with its transition
-    pub pair-choice : ChoiceGiven first second s t j
-    pair-choice = record { first-loaded = g .given .ranked .first-loaded; second-loaded = g .given .ranked .second-loaded; lost = g .lost; choice = w }
+    pub pair-choice : ChoiceGiven tables s t j
+    pair-choice = record { loaded = g .given .ranked .loaded; lost = g .lost; choice = w }
 
-    module _ {ts : List ℕ} (et : ts ≡ targets (transition-at first j)) {sets′ : List ℕ} (z : Sets first second s t sets′) where
+    module _ {ts : List ℕ} (et : ts ≡ targets (first-step tables j)) {sets′ : List ℕ} (z : Sets tables s t sets′) where
       -- what adding up its children's lengths rests on
-      pub pair-children : length sets′ ≡ length sets → ChildrenGiven second lengths ts sets′
+      pub pair-children : length sets′ ≡ length sets → ChildrenGiven tables lengths ts sets′
       pair-children words =
           record {
-            loaded = g .given .ranked .second-loaded;
+            loaded = g .given .ranked .loaded;
             few = few-targets pair-choice et;
             words = omega (arith, few-targets pair-choice et, words, g .given .words);
             low = state-low pair-choice et;
@@ -147,7 +147,7 @@ module _ {first second ranks lengths sets rel x : List ℕ} {s t : ℕ} (g : Pai
           ≡ min most (when (member (row-of sets′ i) v) (pair-length M N (getD ts i 0) v))
       same-child i v b =
           min-when most (member (row-of sets′ i) v) _ _ (λ h.
-          ap (min most) (subst (λ (u : ℕ). Holds first second lengths u v) (sym (targets-are pair-choice et i))
+          ap (min most) (subst (λ (u : ℕ). Holds tables lengths u v) (sym (targets-are pair-choice et i))
           (g .below i v (omega (arith, count-is pair-choice et)) (subst (λ (X : Test). T (X v)) (set-at pair-choice et z i b) h)))
           ∙ min-same most _)
 
@@ -167,36 +167,34 @@ module _ {first second ranks lengths sets rel x : List ℕ} {s t : ℕ} (g : Pai
 -- ---- the walk up the list
 
 -- what is lent keeps its lengths
-pub measure-still : {first second ranks lengths sets rel x lengths′ sets′ rel′ x′ : List ℕ} → MeasureGiven first second ranks lengths sets rel x
-    → length lengths′ ≡ length lengths → length sets′ ≡ length sets → length rel′ ≡ length rel → length x′ ≡ length x → MeasureGiven first second ranks lengths′ sets′ rel′ x′
-measure-still g e es er ex =
+measure-still : {tables ranks lengths sets amounts lengths′ sets′ amounts′ : List ℕ} → MeasureGiven tables ranks lengths sets amounts
+    → length lengths′ ≡ length lengths → length sets′ ≡ length sets → length amounts′ ≡ length amounts → MeasureGiven tables ranks lengths′ sets′ amounts′
+measure-still g e es ea =
     record {
       ranked = g .ranked;
       room = omega (arith, g .room, e);
       words = omega (arith, g .words, es);
-      lent = record { rows = omega (arith, g .lent .rows, er); amounts = omega (arith, g .lent .amounts, ex) };
+      amounts-room = omega (arith, g .amounts-room, ea);
     }
 
 -- the pairs from place i on are measured
-pub record MeasureLoop (first second ranks order : List ℕ) (n : ℕ) (lengths₀ sets₀ rel₀ x₀ lengths sets rel x : List ℕ) (i : ℕ) : Type 0 where
-  pub given : MeasureGiven first second ranks lengths sets rel x
+pub record MeasureLoop (tables ranks order : List ℕ) (n : ℕ) (lengths₀ sets₀ amounts₀ lengths sets amounts : List ℕ) (i : ℕ) : Type 0 where
+  pub given : MeasureGiven tables ranks lengths sets amounts
   pub inside : i ≤ n
-  pub done : (k : ℕ) → i ≤ k → k < n → Holds first second lengths (row second (getD order k 0)) (column second (getD order k 0))
+  pub done : (k : ℕ) → i ≤ k → k < n → Holds tables lengths (row tables (getD order k 0)) (column tables (getD order k 0))
   pub same-lengths : length lengths ≡ length lengths₀
   pub same-sets : length sets ≡ length sets₀
-  pub same-rel : length rel ≡ length rel₀
-  pub same-x : length x ≡ length x₀
+  pub same-amounts : length amounts ≡ length amounts₀
 
 -- at first none is measured
-pub measure-start : {first second ranks order lengths sets rel x : List ℕ} {n : ℕ} → MeasureGiven first second ranks lengths sets rel x
-    → MeasureLoop first second ranks order n lengths sets rel x lengths sets rel x n
-measure-start g =
-    record { given = g; inside = le-refl _; done = λ k a b. absurd (omega arith); same-lengths = refl; same-sets = refl; same-rel = refl; same-x = refl }
+pub measure-start : {tables ranks order lengths sets amounts : List ℕ} {n : ℕ} → MeasureGiven tables ranks lengths sets amounts
+    → MeasureLoop tables ranks order n lengths sets amounts lengths sets amounts n
+measure-start g = record { given = g; inside = le-refl _; done = λ k a b. absurd (omega arith); same-lengths = refl; same-sets = refl; same-amounts = refl }
 
-module _ {first second ranks order : List ℕ} {n : ℕ} {lengths₀ sets₀ rel₀ x₀ lengths sets rel x : List ℕ} {i : ℕ} (o : Ordered first second order n)
-    (l : MeasureLoop first second ranks order n lengths₀ sets₀ rel₀ x₀ lengths sets rel x i) where
+module _ {tables ranks order : List ℕ} {n : ℕ} {lengths₀ sets₀ amounts₀ lengths sets amounts : List ℕ} {i : ℕ} (o : Ordered tables order n)
+    (l : MeasureLoop tables ranks order n lengths₀ sets₀ amounts₀ lengths sets amounts i) where
   -- after the first place all are measured
-  pub measure-end : i ≤ 0 → AllHold first second order lengths n
+  pub measure-end : i ≤ 0 → AllHold tables order lengths n
   measure-end z = record { at = λ k b. l .done k (omega arith) b }
 
   module _ (pos : 0 < i) where
@@ -210,19 +208,19 @@ module _ {first second ranks order : List ℕ} {n : ℕ} {lengths₀ sets₀ rel
     pub place-known : (i - 1 < length order) × (i - 1 < most-pairs)
     place-known = (omega (arith, place, o .fits), omega (arith, place, o .few))
 
-    is-number : number second (row second p) (column second p) ≡ p
-    is-number = div-add-mod' p (states-of (table-of second))
+    is-number : number tables (row tables p) (column tables p) ≡ p
+    is-number = div-add-mod' p (states-of (second-table tables))
 
-    low : p < pairs (table-of first) (table-of second)
-    low = number-place first second p (o .at (i - 1) place .lost)
+    low : p < pairs (first-table tables) (second-table tables)
+    low = number-place tables p (o .at (i - 1) place .lost)
 
-    pub pair-noted : (choices : List ℕ) → pairs (table-of first) (table-of second) ≤ length choices → p < length choices
+    pub pair-noted : (choices : List ℕ) → pairs (first-table tables) (second-table tables) ≤ length choices → p < length choices
     pair-noted choices room = omega (arith, low)
 
     pub pair-in : (p < length lengths) × (p < most-pairs)
-    pair-in = (omega (arith, low, l .given .room), omega (arith, low, few-pairs first second (l .given .ranked .first-loaded) (l .given .ranked .second-loaded)))
+    pair-in = (omega (arith, low, l .given .room), omega (arith, low, few-pairs (first-form tables) (second-form tables) (l .given .ranked .loaded .first) (l .given .ranked .loaded .second)))
 
-    here-given : PairGiven first second ranks lengths sets rel x (row second p) (column second p)
+    here-given : PairGiven tables ranks lengths sets amounts (row tables p) (column tables p)
     here-given =
         let a = o .at (i - 1) place in
         record {
@@ -230,73 +228,107 @@ module _ {first second ranks order : List ℕ} {n : ℕ} {lengths₀ sets₀ rel
           lost = a .lost;
           below = λ j v b h.
               let q = a .below j v b h in
-              let c = below-lost first second (l .given .ranked .first-loaded) (l .given .ranked .second-loaded) (row second p) (column second p) (a .lost) j v b h .0 .right in
-              from-number first second (Holds first second lengths) _ v (getD order (q .0) 0) c (q .3) (l .done (q .0) (omega (arith, q .1)) (q .2));
+              let c = below-lost tables (l .given .ranked .loaded .first) (l .given .ranked .loaded .second) (row tables p) (column tables p) (a .lost) j v b h .0 .right in
+              from-number tables (Holds tables lengths) _ v (getD order (q .0) 0) c (q .3) (l .done (q .0) (omega (arith, q .1)) (q .2));
         }
 
     -- that pair can be measured
-    pub measure-pair : {choices : List ℕ} → Noted first second order n choices → (width : ℕ) → width ≡ states-of (table-of second)
-        → PairGiven first second ranks lengths sets rel x (p / width) (p % width) × Choice first second (p / width) (p % width) (getD choices p 0)
+    pub measure-pair : {choices : List ℕ} → Noted tables order n choices → (width : ℕ) → width ≡ states-of (second-table tables)
+        → PairGiven tables ranks lengths sets amounts (p / width) (p % width) × Choice tables (p / width) (p % width) (getD choices p 0)
     measure-pair {choices} c width e =
-        subst (λ (w : ℕ). PairGiven first second ranks lengths sets rel x (p / w) (p % w) × Choice first second (p / w) (p % w) (getD choices p 0)) (sym e) (here-given, c .at (i - 1) place)
+        subst (λ (w : ℕ). PairGiven tables ranks lengths sets amounts (p / w) (p % w) × Choice tables (p / w) (p % w) (getD choices p 0)) (sym e) (here-given, c .at (i - 1) place)
 
     -- its length is noted
-    pub measure-next : (width r : ℕ) → width ≡ states-of (table-of second) → r ≡ min most (pair-length (table-of first) (table-of second) (p / width) (p % width))
-        → {sets′ rel′ x′ : List ℕ} → length sets′ ≡ length sets → length rel′ ≡ length rel → length x′ ≡ length x
-        → MeasureLoop first second ranks order n lengths₀ sets₀ rel₀ x₀ (set lengths p r) sets′ rel′ x′ (i - 1)
-    measure-next width r e er es el ex =
+    pub measure-next : (width r : ℕ) → width ≡ states-of (second-table tables) → r ≡ min most (pair-length (first-table tables) (second-table tables) (p / width) (p % width))
+        → {sets′ amounts′ : List ℕ} → length sets′ ≡ length sets → length amounts′ ≡ length amounts
+        → MeasureLoop tables ranks order n lengths₀ sets₀ amounts₀ (set lengths p r) sets′ amounts′ (i - 1)
+    measure-next width r e er es ea =
         record {
-          given = measure-still (l .given) (length-set lengths p r) es el ex;
+          given = measure-still (l .given) (length-set lengths p r) es ea;
           inside = omega (arith, l .inside);
           done = λ k a b. at k a b (ℕ-discrete (getD order k 0) p);
           same-lengths = length-set lengths p r ∙ l .same-lengths;
           same-sets = es ∙ l .same-sets;
-          same-rel = el ∙ l .same-rel;
-          same-x = ex ∙ l .same-x;
+          same-amounts = ea ∙ l .same-amounts;
         }
       where
-        here : Holds first second (set lengths p r) (row second p) (column second p)
+        here : Holds tables (set lengths p r) (row tables p) (column tables p)
         here =
             ap (λ (k : ℕ). getD (set lengths p r) k 0) is-number
             ∙ getD-set-same lengths p r 0 (pair-in .0)
             ∙ er
-            ∙ ap (λ (w : ℕ). min most (pair-length (table-of first) (table-of second) (p / w) (p % w))) e
+            ∙ ap (λ (w : ℕ). min most (pair-length (first-table tables) (second-table tables) (p / w) (p % w))) e
 
-        at : (k : ℕ) → i - 1 ≤ k → k < n → Dec (getD order k 0 ≡ p) → Holds first second (set lengths p r) (row second (getD order k 0)) (column second (getD order k 0))
-        at k a b (yes q) = subst (λ (z : ℕ). Holds first second (set lengths p r) (row second z) (column second z)) (sym q) here
+        at : (k : ℕ) → i - 1 ≤ k → k < n → Dec (getD order k 0 ≡ p) → Holds tables (set lengths p r) (row tables (getD order k 0)) (column tables (getD order k 0))
+        at k a b (yes q) = subst (λ (z : ℕ). Holds tables (set lengths p r) (row tables z) (column tables z)) (sym q) here
         at k a b (no d) =
             let z = getD order k 0 in
             let later : i ≤ k = omega (arith, other k d) in
-            getD-set-other lengths p (number second (row second z) (column second z)) r 0 (λ q. d (sym (div-add-mod' z (states-of (table-of second))) ∙ q))
+            getD-set-other lengths p (number tables (row tables z) (column tables z)) r 0 (λ q. d (sym (div-add-mod' z (states-of (second-table tables))) ∙ q))
             ∙ l .done k later b
           where
             other : (k : ℕ) → (getD order k 0 ≡ p → ⊥) → k ≢ i - 1
             other k d q = d (ap (λ (j : ℕ). getD order j 0) q)
 
+-- ---- the list lent as a part
+
+-- the places of a part have what the list has there
+module _ {tables order : List ℕ} {n : ℕ} (o : Ordered tables order n) where
+  pub part-size : length (take n order) ≡ n
+  part-size = length-take-le n order (o .fits)
+
+  part-at : (k : ℕ) → k < length (take n order) → getD (take n order) k 0 ≡ getD order k 0
+  part-at k b = getD-take n order k 0 (omega (arith, part-size))
+
+  pub part-ordered : Ordered tables (take n order) (length (take n order))
+  part-ordered =
+      record {
+        fits = le-refl _;
+        few = omega (arith, part-size, o .few);
+        at = λ k b.
+            let a = o .at k (omega (arith, part-size)) in
+            subst (Above tables (λ u v. Later (take n order) (length (take n order)) k (number tables u v))) (sym (part-at k b))
+            (record { lost = a .lost; below = λ i v l h. later k (a .below i v l h) });
+      }
+    where
+      later : (k : ℕ) {p : ℕ} → Later order n k p → Later (take n order) (length (take n order)) k p
+      later k q = let l : q .0 < length (take n order) = omega (arith, part-size, q .2) in (q .0, q .1, l, part-at (q .0) l ∙ q .3)
+
+  pub part-noted : {choices : List ℕ} → Noted tables order n choices → Noted tables (take n order) (length (take n order)) choices
+  part-noted {choices} c =
+      record {
+        at = λ k b. subst (λ (p : ℕ). Choice tables (row tables p) (column tables p) (getD choices p 0)) (sym (part-at k b)) (c .at k (omega (arith, part-size)));
+      }
+
+  pub part-hold : {lengths : List ℕ} → AllHold tables (take n order) lengths (length (take n order)) → AllHold tables order lengths n
+  part-hold {lengths} a =
+      record {
+        at = λ k b.
+            let l : k < length (take n order) = omega (arith, part-size) in
+            subst (λ (p : ℕ). Holds tables lengths (row tables p) (column tables p)) (part-at k l) (a .at k l);
+      }
+
 -- ---- the root
 
-module _ {first second ranks lengths sets rel x : List ℕ} {s t : ℕ} (g : MeasureGiven first second ranks lengths sets rel x) (lost : Lost first second s t) where
-  -- what asking for the root's length rests on
-  pub root-low : Loaded second × (s < most-states) × (t < most-states)
-  root-low = let low = lost-low lost (g .ranked .first-loaded) (g .ranked .second-loaded) in (g .ranked .second-loaded, low .0, low .1)
-
-  pub root-place : number second s t < length lengths
-  root-place = omega (arith, lost-place lost, g .room)
+-- what asking for the root's length rests on
+pub root-asked : {tables : List ℕ} (lengths : List ℕ) {s t : ℕ} → BothLoaded tables → pairs (first-table tables) (second-table tables) ≤ length lengths → Lost tables s t
+    → BothLoaded tables × (s < most-states) × (t < most-states) × (number tables s t < length lengths)
+root-asked lengths l room lost = let low = lost-low lost l in (l, low .0, low .1, omega (arith, lost-place lost))
 
 -- a pair below a pair is not longer
-child-short : (first second : List ℕ) → Loaded first → Loaded second → (s t : ℕ) → Lost first second s t → (i v : ℕ)
-    → i < length (chosen (table-of first) (table-of second) s t .entries) → T (set-of (table-of first) (table-of second) s t i v)
-    → pair-length (table-of first) (table-of second) (target-at (chosen (table-of first) (table-of second) s t) i) v ≤ pair-length (table-of first) (table-of second) s t
+child-short : (tables : List ℕ) → BothLoaded tables → (s t : ℕ) → Lost tables s t → (i v : ℕ)
+    → i < length (chosen (first-table tables) (second-table tables) s t .entries) → T (set-of (first-table tables) (second-table tables) s t i v)
+    → pair-length (first-table tables) (second-table tables) (target-at (chosen (first-table tables) (second-table tables) s t) i) v ≤ pair-length (first-table tables) (second-table tables) s t
 unfolding one-length
-child-short first second l₁ l₂ s t p i v b h =
-    let M = table-of first in
-    let N = table-of second in
+child-short tables l s t p i v b h =
+    let M = first-table tables in
+    let N = second-table tables in
     let parts : ℕ → ℕ = λ i. 4 + sum (states-of N) (λ v. when (set-of M N s t i v) (pair-length M N (target-at (chosen M N s t) i) v)) in
     omega (
       arith,
-      pair-length-step M N (sound first l₁) s t (p .left) (p .right) (p .fell),
+      pair-length-step M N (sound (first-form tables) (l .first)) s t (p .left) (p .right) (p .fell),
       sum-term (length (chosen M N s t .entries)) parts i b,
-      sum-term (states-of N) (λ v. when (set-of M N s t i v) (pair-length M N (target-at (chosen M N s t) i) v)) v (below-lost first second l₁ l₂ s t p i v b h .0 .right),
+      sum-term (states-of N) (λ v. when (set-of M N s t i v) (pair-length M N (target-at (chosen M N s t) i) v)) v (below-lost tables (l .first) (l .second) s t p i v b h .0 .right),
       when-holds (set-of M N s t i v) (pair-length M N (target-at (chosen M N s t) i) v) h,
     )
   where
@@ -304,53 +336,53 @@ child-short first second l₁ l₂ s t p i v b h =
     when-holds true n h = refl
     when-holds false n h = absurd h
 
-module _ {first second ranks choices lengths order : List ℕ} {n : ℕ} (g : Ranked first second ranks) (o : Ordered first second order n) (c : Noted first second order n choices)
-    (a : AllHold first second order lengths n) (s t : ℕ) (lost : Lost first second s t) (f : Found order n (number second s t)) where
+module _ {tables ranks choices lengths order : List ℕ} {n : ℕ} (g : Ranked tables ranks) (o : Ordered tables order n) (c : Noted tables order n choices)
+    (a : AllHold tables order lengths n) (s t : ℕ) (lost : Lost tables s t) (f : Found order n (number tables s t)) where
   abbrev size-at : ℕ → ℕ → ℕ
-  size-at u v = getD lengths (number second u v) 0
+  size-at u v = getD lengths (number tables u v) 0
 
-  listed-lost : (u v k : ℕ) → k < n → getD order k 0 ≡ number second u v → v < states-of (table-of second) → Lost first second u v
-  listed-lost u v k b e c = from-number first second (Lost first second) u v (getD order k 0) c e (o .at k b .lost)
+  listed-lost : (u v k : ℕ) → k < n → getD order k 0 ≡ number tables u v → v < states-of (second-table tables) → Lost tables u v
+  listed-lost u v k b e c = from-number tables (Lost tables) u v (getD order k 0) c e (o .at k b .lost)
 
-  listed-holds : (u v k : ℕ) → k < n → getD order k 0 ≡ number second u v → v < states-of (table-of second) → Holds first second lengths u v
-  listed-holds u v k b e c = from-number first second (Holds first second lengths) u v (getD order k 0) c e (a .at k b)
+  listed-holds : (u v k : ℕ) → k < n → getD order k 0 ≡ number tables u v → v < states-of (second-table tables) → Holds tables lengths u v
+  listed-holds u v k b e c = from-number tables (Holds tables lengths) u v (getD order k 0) c e (a .at k b)
 
-  root-holds : Holds first second lengths s t
+  root-holds : Holds tables lengths s t
   root-holds = listed-holds s t (f .0) (f .1) (f .2) (lost .right)
 
   -- the pairs that are listed and short
   met : ℕ → ℕ → Bool
-  met u v = any n (λ k. eqb (getD order k 0) (number second u v)) && (ltb v (states-of (table-of second)) && ltb (size-at u v) 65536)
+  met u v = any n (λ k. eqb (getD order k 0) (number tables u v)) && (ltb v (states-of (second-table tables)) && ltb (size-at u v) longest)
 
   record Met (u v : ℕ) : Type 0 where
     place : ℕ
     listed : place < n
-    is : getD order place 0 ≡ number second u v
-    right : v < states-of (table-of second)
-    short : size-at u v < 65536
+    is : getD order place 0 ≡ number tables u v
+    right : v < states-of (second-table tables)
+    short : size-at u v < longest
 
   met-is : (u v : ℕ) → T (met u v) → Met u v
   unfolding met
   met-is u v h =
-      let all = any n (λ k. eqb (getD order k 0) (number second u v)) in
-      let q = any-some n (λ k. eqb (getD order k 0) (number second u v)) (and-left all _ h) in
+      let all = any n (λ k. eqb (getD order k 0) (number tables u v)) in
+      let q = any-some n (λ k. eqb (getD order k 0) (number tables u v)) (and-left all _ h) in
       let rest = and-right all _ h in
       record {
         place = q .0;
         listed = q .1;
-        is = eqb→eq (getD order (q .0) 0) (number second u v) (q .2);
-        right = ltb→lt v (states-of (table-of second)) (and-left (ltb v (states-of (table-of second))) _ rest);
-        short = ltb→lt (size-at u v) 65536 (and-right (ltb v (states-of (table-of second))) _ rest);
+        is = eqb→eq (getD order (q .0) 0) (number tables u v) (q .2);
+        right = ltb→lt v (states-of (second-table tables)) (and-left (ltb v (states-of (second-table tables))) _ rest);
+        short = ltb→lt (size-at u v) longest (and-right (ltb v (states-of (second-table tables))) _ rest);
       }
 
   is-met : (u v : ℕ) → Met u v → T (met u v)
   unfolding met
   is-met u v m =
-      both (any n (λ k. eqb (getD order k 0) (number second u v))) _
-      (some-any n (λ k. eqb (getD order k 0) (number second u v)) (m .place) (m .listed) (same-eqb (m .is)))
-      (both (ltb v (states-of (table-of second))) _ (lt→ltb v (states-of (table-of second)) (m .right)) (lt→ltb (size-at u v) 65536 (m .short)))
+      both (any n (λ k. eqb (getD order k 0) (number tables u v))) _
+      (some-any n (λ k. eqb (getD order k 0) (number tables u v)) (m .place) (m .listed) (same-eqb (m .is)))
+      (both (ltb v (states-of (second-table tables))) _ (lt→ltb v (states-of (second-table tables)) (m .right)) (lt→ltb (size-at u v) longest (m .short)))
 
-  measured : size-at s t < 65536 → Measured first second choices lengths s t
+  measured : size-at s t < longest → Measured tables choices lengths s t
   measured short =
       record {
         met = met;
@@ -358,20 +390,20 @@ module _ {first second ranks choices lengths order : List ℕ} {n : ℕ} (g : Ra
         lost = λ u v h. let m = met-is u v h in listed-lost u v (m .place) (m .listed) (m .is) (m .right);
         below = λ u v i w h b c. next u v (met-is u v h) i w b c;
         choice = λ u v h. let m = met-is u v h in
-            subst (λ (p : ℕ). Choice first second u v (getD choices p 0)) (m .is)
-            (from-number first second (λ u v. Choice first second u v (getD choices (getD order (m .place) 0) 0)) u v (getD order (m .place) 0) (m .right) (m .is) (c .at (m .place) (m .listed)));
+            subst (λ (p : ℕ). Choice tables u v (getD choices p 0)) (m .is)
+            (from-number tables (λ u v. Choice tables u v (getD choices (getD order (m .place) 0) 0)) u v (getD order (m .place) 0) (m .right) (m .is) (c .at (m .place) (m .listed)));
         right = λ u v h. let m = met-is u v h in omega (arith, listed-holds u v (m .place) (m .listed) (m .is) (m .right), m .short);
       }
     where
-      next : (u v : ℕ) → Met u v → (i w : ℕ) → i < length (chosen (table-of first) (table-of second) u v .entries) → T (set-of (table-of first) (table-of second) u v i w)
-          → T (met (target-at (chosen (table-of first) (table-of second) u v) i) w)
+      next : (u v : ℕ) → Met u v → (i w : ℕ) → i < length (chosen (first-table tables) (second-table tables) u v .entries) → T (set-of (first-table tables) (second-table tables) u v i w)
+          → T (met (target-at (chosen (first-table tables) (second-table tables) u v) i) w)
       next u v m i w b c =
-          let M = table-of first in
-          let N = table-of second in
+          let M = first-table tables in
+          let N = second-table tables in
           let p = listed-lost u v (m .place) (m .listed) (m .is) (m .right) in
-          let r = below-lost first second (g .first-loaded) (g .second-loaded) u v p i w b c .0 .right in
-          let P : ℕ → ℕ → Type 0 = λ u v. (i w : ℕ) → i < length (chosen M N u v .entries) → T (set-of M N u v i w) → Later order n (m .place) (number second (target-at (chosen M N u v) i) w) in
-          let q = from-number first second P u v (getD order (m .place) 0) (m .right) (m .is) (o .at (m .place) (m .listed) .below) i w b c in
+          let r = below-lost tables (g .loaded .first) (g .loaded .second) u v p i w b c .0 .right in
+          let P : ℕ → ℕ → Type 0 = λ u v. (i w : ℕ) → i < length (chosen M N u v .entries) → T (set-of M N u v i w) → Later order n (m .place) (number tables (target-at (chosen M N u v) i) w) in
+          let q = from-number tables P u v (getD order (m .place) 0) (m .right) (m .is) (o .at (m .place) (m .listed) .below) i w b c in
           let u′ = target-at (chosen M N u v) i in
           is-met u′ w (record {
             place = q .0;
@@ -383,15 +415,15 @@ module _ {first second ranks choices lengths order : List ℕ} {n : ℕ} (g : Ra
               listed-holds u′ w (q .0) (q .2) (q .3) r,
               listed-holds u v (m .place) (m .listed) (m .is) (m .right),
               m .short,
-              child-short first second (g .first-loaded) (g .second-loaded) u v p i w b c,
+              child-short tables (g .loaded) u v p i w b c,
             );
           })
 
   -- the tree's length is the root's and one byte more
-  pub tree-measured : {len : ℕ} → len ≡ min (longest + 1) (1 + size-at s t) → TreeMeasured first second choices lengths s t len
+  pub tree-measured : {len : ℕ} → len ≡ min (longest + 1) (1 + size-at s t) → TreeMeasured tables choices lengths s t len
   tree-measured e = record { length = omega (arith, root-holds); measured = λ k. measured (omega arith) }
 
 -- a tree that is too long is measured no further
-pub tree-long : {first second choices lengths : List ℕ} {s t : ℕ} → longest < tree-length (table-of first) (table-of second) s t
-    → TreeMeasured first second choices lengths s t (longest + 1)
+pub tree-long : {tables choices lengths : List ℕ} {s t : ℕ} → longest < tree-length (first-table tables) (second-table tables) s t
+    → TreeMeasured tables choices lengths s t (longest + 1)
 tree-long h = record { length = omega arith; measured = λ k. absurd (omega arith) }

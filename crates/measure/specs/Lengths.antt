@@ -6,16 +6,16 @@ use mathlib.Core.List.{List}
 use Prim.Native.Nat.{ℕ, _+_, _*_, _^_, _≤_, _<_, min}
 use lib.Dec.{T}
 use lib.ListN.{length, getD}
-use Rattle.simulation.specs.Limits.{most-states}
+use Rattle.simulation.specs.Limits.{most-pairs, most-states}
 use Rattle.simulation.specs.Sum.{sum, when}
 use Rattle.simulation.specs.Table.{target-at, states-of}
 use Rattle.simulation.specs.Round.{pairs}
 use Rattle.simulation.specs.Tree.{chosen, set-of}
 use Rattle.simulation.specs.Length.{pair-length, tree-length}
-use Rattle.form.specs.Form.{Loaded, table-of}
+use Rattle.form.specs.Tables.{first-table, second-table, BothLoaded}
 use Rattle.relation.specs.Mask.{member}
 use Rattle.relation.specs.Words.{row-of, height}
-use Rattle.relate.specs.Ranked.{Ranked, Lent}
+use Rattle.relate.specs.Ranked.{Ranked}
 use Rattle.choice.specs.Choice.{Lost, Choice}
 use Rattle.counting.specs.Count.{longest}
 use Rattle.counting.specs.Pair.{number, row, column}
@@ -29,12 +29,12 @@ abbrev pub set-length : (width : ℕ) (lengths : List ℕ) (s : ℕ) → (ℕ �
 set-length width lengths s X = sum width (λ t. when (X t) (getD lengths (s * width + t) 0))
 
 -- what adding them up rests on
-pub record SumGiven (second lengths : List ℕ) (s members : ℕ) : Type 0 where
-  pub loaded : Loaded second
+pub record SumGiven (tables lengths : List ℕ) (s members : ℕ) : Type 0 where
+  pub loaded : BothLoaded tables
   pub low : s < most-states
-  pub inside : (t : ℕ) → T (member members t) → t < states-of (table-of second)
-  pub room : s * states-of (table-of second) + states-of (table-of second) ≤ length lengths
-  pub small : 1 + set-length (states-of (table-of second)) lengths s (member members) < 2 ^ 64
+  pub inside : (t : ℕ) → T (member members t) → t < states-of (second-table tables)
+  pub room : s * states-of (second-table tables) + states-of (second-table tables) ≤ length lengths
+  pub small : 1 + set-length (states-of (second-table tables)) lengths s (member members) < 2 ^ 64
 
 -- the bytes of a transition's children, from the lengths of pairs
 abbrev pub children-length : (width : ℕ) (lengths targets sets : List ℕ) → ℕ → ℕ
@@ -45,48 +45,48 @@ abbrev pub most-children : ℕ
 most-children = most-states * (4 + most-states * most)
 
 -- what adding them up rests on
-pub record ChildrenGiven (second lengths targets sets : List ℕ) : Type 0 where
-  pub loaded : Loaded second
+pub record ChildrenGiven (tables lengths targets sets : List ℕ) : Type 0 where
+  pub loaded : BothLoaded tables
   pub few : length targets ≤ most-states
   pub words : length targets ≤ height sets
   pub low : (i : ℕ) → i < length targets → getD targets i 0 < most-states
-  pub inside : (i t : ℕ) → i < length targets → T (member (row-of sets i) t) → t < states-of (table-of second)
-  pub room : (i : ℕ) → i < length targets → getD targets i 0 * states-of (table-of second) + states-of (table-of second) ≤ length lengths
+  pub inside : (i t : ℕ) → i < length targets → T (member (row-of sets i) t) → t < states-of (second-table tables)
+  pub room : (i : ℕ) → i < length targets → getD targets i 0 * states-of (second-table tables) + states-of (second-table tables) ≤ length lengths
 
-module _ (first second : List ℕ) where
+module _ (tables : List ℕ) where
   -- the pair (s, t) is not kept, and the lists hold the transitions and the lengths of all pairs that its tree meets: a set of pairs that has with a pair all pairs below it
   pub record Measured (choices lengths : List ℕ) (s t : ℕ) : Type 0 where
     pub met : ℕ → ℕ → Bool
     pub here : T (met s t)
-    pub lost : (u v : ℕ) → T (met u v) → Lost first second u v
-    pub below : (u v i w : ℕ) → T (met u v) → i < length (chosen (table-of first) (table-of second) u v .entries) → T (set-of (table-of first) (table-of second) u v i w)
-        → T (met (target-at (chosen (table-of first) (table-of second) u v) i) w)
-    pub choice : (u v : ℕ) → T (met u v) → Choice first second u v (getD choices (u * states-of (table-of second) + v) 0)
-    pub right : (u v : ℕ) → T (met u v) → getD lengths (u * states-of (table-of second) + v) 0 ≡ pair-length (table-of first) (table-of second) u v
+    pub lost : (u v : ℕ) → T (met u v) → Lost tables u v
+    pub below : (u v i w : ℕ) → T (met u v) → i < length (chosen (first-table tables) (second-table tables) u v .entries) → T (set-of (first-table tables) (second-table tables) u v i w)
+        → T (met (target-at (chosen (first-table tables) (second-table tables) u v) i) w)
+    pub choice : (u v : ℕ) → T (met u v) → Choice tables u v (getD choices (u * states-of (second-table tables) + v) 0)
+    pub right : (u v : ℕ) → T (met u v) → getD lengths (u * states-of (second-table tables) + v) 0 ≡ pair-length (first-table tables) (second-table tables) u v
 
   -- the list holds the length of the pair (s, t)
   abbrev pub Holds : (lengths : List ℕ) (s t : ℕ) → Type 0
-  Holds lengths s t = getD lengths (number second s t) 0 ≡ min most (pair-length (table-of first) (table-of second) s t)
+  Holds lengths s t = getD lengths (number tables s t) 0 ≡ min most (pair-length (first-table tables) (second-table tables) s t)
 
   -- what measuring rests on: a length for each pair, a set for each target of a transition
-  pub record MeasureGiven (ranks lengths sets rel x : List ℕ) : Type 0 where
-    pub ranked : Ranked first second ranks
-    pub room : pairs (table-of first) (table-of second) ≤ length lengths
-    pub words : most-states ≤ height sets
-    pub lent : Lent rel x
+  pub record MeasureGiven (ranks lengths sets amounts : List ℕ) : Type 0 where
+    pub ranked : Ranked tables ranks
+    pub room : pairs (first-table tables) (second-table tables) ≤ length lengths
+    pub words : 2 * most-states ≤ height sets
+    pub amounts-room : most-pairs ≤ length amounts
 
   -- a pair that is not kept, and the lengths of the pairs below it
-  pub record PairGiven (ranks lengths sets rel x : List ℕ) (s t : ℕ) : Type 0 where
-    pub given : MeasureGiven ranks lengths sets rel x
-    pub lost : Lost first second s t
-    pub below : (i v : ℕ) → i < length (chosen (table-of first) (table-of second) s t .entries) → T (set-of (table-of first) (table-of second) s t i v)
-        → Holds lengths (target-at (chosen (table-of first) (table-of second) s t) i) v
+  pub record PairGiven (ranks lengths sets amounts : List ℕ) (s t : ℕ) : Type 0 where
+    pub given : MeasureGiven ranks lengths sets amounts
+    pub lost : Lost tables s t
+    pub below : (i v : ℕ) → i < length (chosen (first-table tables) (second-table tables) s t .entries) → T (set-of (first-table tables) (second-table tables) s t i v)
+        → Holds lengths (target-at (chosen (first-table tables) (second-table tables) s t) i) v
 
   -- the list holds the lengths of the listed pairs
   pub record AllHold (order lengths : List ℕ) (n : ℕ) : Type 0 where
-    pub at : (k : ℕ) → k < n → Holds lengths (row second (getD order k 0)) (column second (getD order k 0))
+    pub at : (k : ℕ) → k < n → Holds lengths (row tables (getD order k 0)) (column tables (getD order k 0))
 
   -- the tree's length, and the transitions and lengths of all pairs that it meets, if it is short enough
   pub record TreeMeasured (choices lengths : List ℕ) (s t len : ℕ) : Type 0 where
-    pub length : len ≡ min (longest + 1) (tree-length (table-of first) (table-of second) s t)
+    pub length : len ≡ min (longest + 1) (tree-length (first-table tables) (second-table tables) s t)
     pub measured : len ≤ longest → Measured choices lengths s t

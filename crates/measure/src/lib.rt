@@ -3,50 +3,55 @@ use choice::find_sets;
 use choice::rank_at;
 use counting::count::LONGEST;
 use counting::pair::number;
+use form::Form;
+use form::tables;
 use order::list;
 use relation::Relation;
+use relation::Word;
 use relation::rows;
 use relation::set::Set;
 use relation::walk;
 ghost use mathlib.Core.Path.{_≡_};
-ghost use Prim.Native.Nat.{_+_, _*_, _≤_, _<_, min};
+ghost use Prim.Native.Nat.{_+_, _≤_, _<_, min};
 ghost use lib.ListN.{length, getD};
-ghost use Rattle.simulation.specs.Limits.{most-states};
+ghost use Rattle.simulation.specs.Limits.{most-pairs, most-states};
 ghost use Rattle.simulation.specs.Table.{states-of};
 ghost use Rattle.simulation.specs.Round.{pairs};
 ghost use Rattle.simulation.specs.Length.{pair-length};
-ghost use Rattle.form.specs.Form.{Loaded, table-of};
 ghost use Rattle.relation.specs.Mask.{member};
 ghost use Rattle.relation.specs.Words.{mask};
-ghost use Rattle.relate.specs.Ranked.{Ranked, Lent};
+ghost use Rattle.form.specs.Tables.{first-table, second-table, BothLoaded};
+ghost use Rattle.relate.specs.Ranked.{Ranked};
 ghost use Rattle.choice.specs.Choice.{Lost, Choice};
+ghost use Rattle.counting.specs.Pair.{number};
 ghost use Rattle.counting.specs.Count.{longest};
-ghost use Rattle.passing.specs.Passing.{Noted};
+ghost use Rattle.passing.specs.Passing.{OrderGiven, Noted};
 ghost use Rattle.order.specs.Order.{Ordered};
-ghost use Rattle.measure.specs.Lengths.{most, set-length, SumGiven, children-length, most-children, ChildrenGiven, MeasureGiven, PairGiven, AllHold, TreeMeasured};
+ghost use Rattle.measure.specs.Lengths.{most, set-length, SumGiven, children-length, most-children, ChildrenGiven};
+ghost use Rattle.measure.specs.Lengths.{MeasureGiven, PairGiven, AllHold, TreeMeasured};
 
 // A longer length is given as this number.
 pub const MOST: u32 = 4_294_967_295;
 
 // How many bytes the transition of the pair (s, t) takes.
-pub fn pair_length(second: &[u16], lengths: &[u32], s: usize, t: usize) -> usize
-    requires { ⌜ Loaded (now second) × (s < most-states) × (t < most-states) × (s * states-of (table-of (now second)) + t < length (now lengths)) ⌝ }
-    ensures { λ r. ⌜ r ≡ getD (now (lengths .entry)) (s * states-of (table-of (now (second .entry))) + t) 0 ⌝ }
+pub fn pair_length(tables: &[u16], lengths: &[u32], s: usize, t: usize) -> usize
+    requires { ⌜ BothLoaded (now tables) × (s < most-states) × (t < most-states) × (number (now tables) s t < length (now lengths)) ⌝ }
+    ensures { λ r. ⌜ r ≡ getD (now (lengths .entry)) (number (now (tables .entry)) s t) 0 ⌝ }
 {
-    lengths[number(second, s, t)] as usize
+    lengths[number(tables, s, t)] as usize
 }
 
 // How many bytes the node of a state and a set takes.
-pub fn node_length(second: &[u16], lengths: &[u32], s: usize, members: Set) -> usize
-    requires { ⌜ SumGiven (now second) (now lengths) s (mask members) ⌝ }
-    ensures { λ r. ⌜ r ≡ 1 + set-length (states-of (table-of (now (second .entry)))) (now (lengths .entry)) s (member (mask members)) ⌝ }
+pub fn node_length(tables: &[u16], lengths: &[u32], s: usize, members: Set) -> usize
+    requires { ⌜ SumGiven (now tables) (now lengths) s (mask members) ⌝ }
+    ensures { λ r. ⌜ r ≡ 1 + set-length (states-of (second-table (now (tables .entry)))) (now (lengths .entry)) s (member (mask members)) ⌝ }
 {
     let mut len = 1;
     for w in 0..Set::WORDS {
         let mut left = members.words[w];
         while left != 0 {
             let t = walk::lowest(members, w, left);
-            len += pair_length(second, lengths, s, t);
+            len += pair_length(tables, lengths, s, t);
             left = walk::without_lowest(members, w, left);
         }
     }
@@ -54,177 +59,135 @@ pub fn node_length(second: &[u16], lengths: &[u32], s: usize, members: Set) -> u
 }
 
 // The bytes of a transition's children.
-fn children_length(second: &[u16], lengths: &[u32], targets: &[u16], sets: &[u64]) -> usize
-    requires { ⌜ ChildrenGiven (now second) (now lengths) (now targets) (now sets) ⌝ }
-    ensures { λ r. ⌜ (r ≡ children-length (states-of (table-of (now (second .entry)))) (now (lengths .entry)) (now (targets .entry)) (now (sets .entry)) (length (now (targets .entry))))
-        × (r ≤ most-children) ⌝ }
+fn children_length(tables: &[u16], lengths: &[u32], targets: &[u16], sets: &[Word]) -> usize
+    requires { ⌜ ChildrenGiven (now tables) (now lengths) (now targets) (now sets) ⌝ }
+    ensures { λ r. ⌜ (r ≡ children-length (states-of (second-table (now (tables .entry)))) (now (lengths .entry)) (now (targets .entry)) (now (sets .entry))
+        (length (now (targets .entry)))) × (r ≤ most-children) ⌝ }
 {
     let mut len = 0;
     for i in 0..targets.len() {
         let s = targets[i] as usize;
         let members = rows::get(sets, i);
-        len += 3 + node_length(second, lengths, s, members);
+        len += 3 + node_length(tables, lengths, s, members);
     }
     len
 }
 
 // The length of the pair (s, t), whose transition is j, from those of the pairs below it.
 fn measure_pair(
-    first: &[u16],
-    second: &[u16],
+    tables: &[u16],
     ranks: &[u16],
     s: usize,
     t: usize,
     j: usize,
     lengths: &[u32],
-    sets: &mut [u64],
-    rel: &mut [u64],
-    x: &mut [u32],
+    sets: &mut [Word],
+    amounts: &mut [u32],
 ) -> u32
-    requires { ⌜ PairGiven (now first) (now second) (now ranks) (now lengths) (now sets) (now rel) (now x) s t × Choice (now first) (now second) s t j ⌝ }
-    ensures { λ r. ⌜ r ≡ min most (pair-length (table-of (now (first .entry))) (table-of (now (second .entry))) s t) ⌝ }
+    requires { ⌜ PairGiven (now tables) (now ranks) (now lengths) (now sets) (now amounts) s t × Choice (now tables) s t j ⌝ }
+    ensures { λ r. ⌜ r ≡ min most (pair-length (first-table (now (tables .entry))) (second-table (now (tables .entry))) s t) ⌝ }
 {
-    let r = rank_at(second, ranks, s, t);
-    find_sets(first, second, ranks, s, t, r, j, sets, rel, x);
-    let len = 2 + children_length(second, lengths, form::targets(first, j), sets);
+    let r = rank_at(tables, ranks, s, t);
+    find_sets(tables, ranks, s, t, r, j, sets, amounts);
+    let len = 2
+        + children_length(
+            tables,
+            lengths,
+            tables::targets(tables, Form::FIRST, j),
+            sets,
+        );
     if (MOST as usize) < len {
         return MOST;
     }
     len as u32
 }
 
-// The lengths of the first n pairs of the list, in which each pair is before all pairs below it.
+// The lengths of the pairs of the list, in which each pair is before all pairs below it.
 fn measure(
-    first: &[u16],
-    second: &[u16],
+    tables: &[u16],
     ranks: &[u16],
     order: &[u16],
     choices: &[u8],
-    n: usize,
     lengths: &mut [u32],
-    sets: &mut [u64],
-    rel: &mut [u64],
-    x: &mut [u32],
+    sets: &mut [Word],
+    amounts: &mut [u32],
 )
-    requires { ⌜ MeasureGiven (now first) (now second) (now ranks) (now lengths) (now sets) (now rel) (now x)
-        × Ordered (now first) (now second) (now order) n × Noted (now first) (now second) (now order) n (now choices)
-        × (pairs (table-of (now first)) (table-of (now second)) ≤ length (now choices)) ⌝ }
-    ensures { λ _. ⌜ AllHold (now (first .entry)) (now (second .entry)) (now (order .entry)) (now (lengths .exit)) n ⌝ }
+    requires { ⌜ MeasureGiven (now tables) (now ranks) (now lengths) (now sets) (now amounts)
+        × Ordered (now tables) (now order) (length (now order)) × Noted (now tables) (now order) (length (now order)) (now choices)
+        × (pairs (first-table (now tables)) (second-table (now tables)) ≤ length (now choices)) ⌝ }
+    ensures { λ _. ⌜ AllHold (now (tables .entry)) (now (order .entry)) (now (lengths .exit)) (length (now (order .entry))) ⌝ }
 {
-    let width = form::states(second);
-    let mut i = n;
+    let width = tables::states(tables, Form::SECOND);
+    let mut i = order.len();
     while 0 < i {
         i -= 1;
         let p = order[i] as usize;
         let j = choices[p] as usize;
         let len = measure_pair(
-            first,
-            second,
+            tables,
             ranks,
             p / width,
             p % width,
             j,
             lengths,
             sets,
-            rel,
-            x,
+            amounts,
         );
         lengths[p] = len;
     }
 }
 
-// The bytes of the tree of the pair (s, t), a count and the pair's transition; LONGEST + 1 for any number above LONGEST.
-fn root_length(second: &[u16], lengths: &[u32], s: usize, t: usize) -> u32
-    requires { ⌜ Loaded (now second) × (s < most-states) × (t < most-states) × (s * states-of (table-of (now second)) + t < length (now lengths)) ⌝ }
-    ensures { λ r. ⌜ r ≡ min (longest + 1) (1 + getD (now (lengths .entry)) (s * states-of (table-of (now (second .entry))) + t) 0) ⌝ }
+// The same, with the sets made here: what lies in the frame of a function with one caller shares its place with what was there before.
+fn measure_all(
+    tables: &[u16],
+    ranks: &[u16],
+    order: &[u16],
+    choices: &[u8],
+    lengths: &mut [u32],
+    amounts: &mut [u32],
+)
+    requires { ⌜ Ranked (now tables) (now ranks) × (pairs (first-table (now tables)) (second-table (now tables)) ≤ length (now lengths))
+        × (most-pairs ≤ length (now amounts)) × Ordered (now tables) (now order) (length (now order))
+        × Noted (now tables) (now order) (length (now order)) (now choices)
+        × (pairs (first-table (now tables)) (second-table (now tables)) ≤ length (now choices)) ⌝ }
+    ensures { λ _. ⌜ AllHold (now (tables .entry)) (now (order .entry)) (now (lengths .exit)) (length (now (order .entry))) ⌝ }
 {
-    let len = lengths[number(second, s, t)];
+    let mut sets: [Word; 2 * Relation::WORDS] = [1; 2 * Relation::WORDS];
+    measure(tables, ranks, order, choices, lengths, &mut sets, amounts);
+}
+
+// The bytes of the tree of the pair (s, t), a count and the pair's transition; LONGEST + 1 for any number above LONGEST.
+fn root_length(tables: &[u16], lengths: &[u32], s: usize, t: usize) -> u32
+    requires { ⌜ BothLoaded (now tables) × (s < most-states) × (t < most-states) × (number (now tables) s t < length (now lengths)) ⌝ }
+    ensures { λ r. ⌜ r ≡ min (longest + 1) (1 + getD (now (lengths .entry)) (number (now (tables .entry)) s t) 0) ⌝ }
+{
+    let len = lengths[number(tables, s, t)];
     if LONGEST <= len {
         return LONGEST + 1;
     }
     len + 1
 }
 
-// How many bytes the tree of the pair (s, t) takes, in room for the list of the pairs that it meets and for sets.
-fn listed_length(
-    first: &[u16],
-    second: &[u16],
+// How many bytes the tree of the pair (s, t) takes, which is not kept; LONGEST + 1 for any number above LONGEST.
+// The transitions and the lengths of the pairs that it meets are noted for the writing of it.
+pub fn tree_length(
+    tables: &[u16],
     ranks: &[u16],
     s: usize,
     t: usize,
     order: &mut [u16],
     choices: &mut [u8],
     lengths: &mut [u32],
-    sets: &mut [u64],
-    rel: &mut [u64],
-    x: &mut [u32],
+    amounts: &mut [u32],
 ) -> u32
-    requires { ⌜ MeasureGiven (now first) (now second) (now ranks) (now lengths) (now sets) (now rel) (now x)
-        × (pairs (table-of (now first)) (table-of (now second)) ≤ length (now order))
-        × (pairs (table-of (now first)) (table-of (now second)) ≤ length (now choices)) × Lost (now first) (now second) s t ⌝ }
-    ensures { λ r. ⌜ TreeMeasured (now (first .entry)) (now (second .entry)) (now (choices .exit)) (now (lengths .exit)) s t r ⌝ }
+    requires { ⌜ OrderGiven (now tables) (now ranks) (now order) (now choices) (now amounts) × Lost (now tables) s t
+        × (pairs (first-table (now tables)) (second-table (now tables)) ≤ length (now lengths)) ⌝ }
+    ensures { λ r. ⌜ TreeMeasured (now (tables .entry)) (now (choices .exit)) (now (lengths .exit)) s t r ⌝ }
 {
-    let n = list(
-        first,
-        second,
-        ranks,
-        s,
-        t,
-        order,
-        choices,
-        lengths,
-        sets,
-        rel,
-        x,
-    );
+    let n = list(tables, ranks, s, t, order, choices, lengths, amounts);
     if n == 0 {
         return LONGEST + 1;
     }
-    measure(
-        first,
-        second,
-        ranks,
-        order,
-        choices,
-        n,
-        lengths,
-        sets,
-        rel,
-        x,
-    );
-    root_length(second, lengths, s, t)
-}
-
-// How many bytes the tree of the pair (s, t) takes, which is not kept; LONGEST + 1 for any number above LONGEST.
-// The transitions and the lengths of the pairs that it meets are noted for the writing of it; their sets live here only.
-pub fn tree_length(
-    first: &[u16],
-    second: &[u16],
-    ranks: &[u16],
-    s: usize,
-    t: usize,
-    order: &mut [u16],
-    choices: &mut [u8],
-    lengths: &mut [u32],
-    rel: &mut [u64],
-    x: &mut [u32],
-) -> u32
-    requires { ⌜ Ranked (now first) (now second) (now ranks) × Lost (now first) (now second) s t × Lent (now rel) (now x)
-        × (pairs (table-of (now first)) (table-of (now second)) ≤ length (now order)) × (pairs (table-of (now first)) (table-of (now second)) ≤ length (now choices)) × (pairs (table-of (now first)) (table-of (now second)) ≤ length (now lengths)) ⌝ }
-    ensures { λ r. ⌜ TreeMeasured (now (first .entry)) (now (second .entry)) (now (choices .exit)) (now (lengths .exit)) s t r ⌝ }
-{
-    let mut sets = [1u64; Relation::WORDS];
-    listed_length(
-        first,
-        second,
-        ranks,
-        s,
-        t,
-        order,
-        choices,
-        lengths,
-        &mut sets,
-        rel,
-        x,
-    )
+    measure_all(tables, ranks, &order[..n], choices, lengths, amounts);
+    root_length(tables, lengths, s, t)
 }

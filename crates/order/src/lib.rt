@@ -4,180 +4,150 @@ use choice::rank_at;
 use counting::count;
 use counting::count::LONGEST;
 use counting::pair::number;
-use passing::Progress;
+use form::Form;
+use form::tables;
+use passing::Room;
+use passing::Walk;
 use passing::pass_row;
-use relation::Relation;
+use relation::Word;
 use relation::rows;
 use relation::set;
 use relation::set::Set;
 use relation::walk;
+use simulation::Table;
 ghost use mathlib.Core.Path.{_≡_};
-ghost use Prim.Native.Nat.{ℕ, _*_, _≤_, _<_};
-ghost use lib.ListN.{length, set};
+ghost use Prim.Native.Nat.{_≤_, _<_};
+ghost use lib.ListN.{length};
 ghost use Rattle.simulation.specs.Limits.{most-states};
 ghost use Rattle.simulation.specs.Round.{pairs};
-ghost use Rattle.form.specs.Form.{Loaded, table-of};
-ghost use Rattle.relation.specs.Words.{mask, row-of, height};
+ghost use Rattle.form.specs.Tables.{first-table, second-table, BothLoaded};
+ghost use Rattle.relation.specs.Words.{mask};
 ghost use Rattle.choice.specs.Choice.{Lost};
 ghost use Rattle.counting.specs.Count.{longest, Tally, Tallied, OneCounted};
-ghost use Rattle.passing.specs.Passing.{OrderGiven, PassGiven, Noted, Passing};
+ghost use Rattle.passing.specs.Passing.{todo-in, OrderGiven, PassGiven, Noted, Passing};
 ghost use Rattle.order.specs.Order.{Listed, RankPassed, RanksPassed};
 
-// The pairs of rank r, where none of a higher rank is left.
+// The walk at another row.
+fn at_row(w: Walk, s: usize) -> Walk
+    requires { ⌜ s < most-states ⌝ }
+    ensures { λ v. ⌜ (v .s ≡ s) × (v .rank ≡ w .rank) × (v .bytes ≡ w .bytes) × (v .count ≡ w .count) × (v .rows ≡ w .rows) ⌝ }
+{
+    let mut v = w;
+    v.s = s as u8;
+    v
+}
+
+// The pairs of the walk's rank, where none of a higher rank is left.
 fn pass_rank(
-    first: &[u16],
-    second: &[u16],
+    tables: &[u16],
     ranks: &[u16],
-    r: u16,
     order: &mut [u16],
     choices: &mut [u8],
     counts: &mut [u32],
-    todo: &mut [u64],
-    sets: &mut [u64],
-    rel: &mut [u64],
-    x: &mut [u32],
-    p: Progress,
-) -> Progress
-    requires { ⌜ PassGiven (now first) (now second) (now ranks) (now order) (now choices) (now todo) (now sets) (now rel) (now x)
-        × Passing (now first) (now second) r (now order) (p .count) (now todo) (mask (p .rows))
-        × Noted (now first) (now second) (now order) (p .count) (now choices) × Tally (now first) (now second) (now counts) (p .bytes) ⌝ }
-    ensures { λ q. ⌜ RankPassed (now (first .entry)) (now (second .entry)) r (now (order .entry)) (p .count) (now (todo .entry))
-        (now (order .exit)) (q .count) (now (todo .exit)) (mask (q .rows))
-        × Noted (now (first .entry)) (now (second .entry)) (now (order .exit)) (q .count) (now (choices .exit))
-        × Tallied (now (first .entry)) (now (second .entry)) (now (counts .entry)) (p .bytes) (now (counts .exit)) (q .bytes) ⌝ }
+    room: &mut [Word],
+    amounts: &mut [u32],
+    w: Walk,
+) -> Walk
+    requires { ⌜ PassGiven (now tables) (now ranks) (now order) (now choices) (now room) (now amounts)
+        × Passing (now tables) (w .rank) (now order) (w .count) (todo-in (now room)) (mask (w .rows))
+        × Noted (now tables) (now order) (w .count) (now choices) × Tally (now tables) (now counts) (w .bytes) ⌝ }
+    ensures { λ v. ⌜ RankPassed (now (tables .entry)) (w .rank) (now (order .entry)) (w .count) (todo-in (now (room .entry)))
+        (now (order .exit)) (v .count) (todo-in (now (room .exit))) (mask (v .rows))
+        × Noted (now (tables .entry)) (now (order .exit)) (v .count) (now (choices .exit))
+        × Tallied (now (tables .entry)) (now (counts .entry)) (w .bytes) (now (counts .exit)) (v .bytes)
+        × (v .rank ≡ w .rank) ⌝ }
 {
-    let mut q = p;
-    let ahead = p.rows;
-    for w in 0..Set::WORDS {
-        let mut left = ahead.words[w];
+    let mut v = w;
+    let ahead = w.rows;
+    for k in 0..Set::WORDS {
+        let mut left = ahead.words[k];
         while left != 0 {
-            let s = walk::lowest(ahead, w, left);
-            q = pass_row(
-                first,
-                second,
+            let s = walk::lowest(ahead, k, left);
+            v = pass_row(
+                tables,
                 ranks,
-                s,
-                r,
                 order,
                 choices,
                 counts,
-                todo,
-                sets,
-                rel,
-                x,
-                q,
+                room,
+                amounts,
+                at_row(v, s),
             );
-            left = walk::without_lowest(ahead, w, left);
+            left = walk::without_lowest(ahead, k, left);
         }
     }
-    q
+    v
 }
 
-// All pairs, from rank `top` down, unless the bytes counted become too many.
+// All pairs, from the walk's rank down, unless the bytes counted become too many.
 fn pass_ranks(
-    first: &[u16],
-    second: &[u16],
+    tables: &[u16],
     ranks: &[u16],
-    top: u16,
     order: &mut [u16],
     choices: &mut [u8],
     counts: &mut [u32],
-    todo: &mut [u64],
-    sets: &mut [u64],
-    rel: &mut [u64],
-    x: &mut [u32],
-    p: Progress,
-) -> Progress
-    requires { ⌜ PassGiven (now first) (now second) (now ranks) (now order) (now choices) (now todo) (now sets) (now rel) (now x)
-        × Passing (now first) (now second) top (now order) (p .count) (now todo) (mask (p .rows))
-        × Noted (now first) (now second) (now order) (p .count) (now choices) × Tally (now first) (now second) (now counts) (p .bytes) ⌝ }
-    ensures { λ q. ⌜ (q .bytes ≤ longest → RanksPassed (now (first .entry)) (now (second .entry)) (now (order .entry)) (p .count) (now (todo .entry)) (now (order .exit)) (q .count)
-        × Noted (now (first .entry)) (now (second .entry)) (now (order .exit)) (q .count) (now (choices .exit)))
-        × Tallied (now (first .entry)) (now (second .entry)) (now (counts .entry)) (p .bytes) (now (counts .exit)) (q .bytes) ⌝ }
+    room: &mut [Word],
+    amounts: &mut [u32],
+    w: Walk,
+) -> Walk
+    requires { ⌜ PassGiven (now tables) (now ranks) (now order) (now choices) (now room) (now amounts)
+        × Passing (now tables) (w .rank) (now order) (w .count) (todo-in (now room)) (mask (w .rows))
+        × Noted (now tables) (now order) (w .count) (now choices) × Tally (now tables) (now counts) (w .bytes) ⌝ }
+    ensures { λ v. ⌜ (v .bytes ≤ longest → RanksPassed (now (tables .entry)) (now (order .entry)) (w .count) (todo-in (now (room .entry)))
+        (now (order .exit)) (v .count) × Noted (now (tables .entry)) (now (order .exit)) (v .count) (now (choices .exit)))
+        × Tallied (now (tables .entry)) (now (counts .entry)) (w .bytes) (now (counts .exit)) (v .bytes) ⌝ }
 {
-    let mut q = p;
-    let mut r = top;
-    while 0 < r {
-        q = pass_rank(
-            first,
-            second,
-            ranks,
-            r,
-            order,
-            choices,
-            counts,
-            todo,
-            sets,
-            rel,
-            x,
-            q,
-        );
-        if LONGEST < q.bytes {
-            return q;
+    let mut v = w;
+    while 0 < v.rank {
+        v = pass_rank(tables, ranks, order, choices, counts, room, amounts, v);
+        if LONGEST < v.bytes {
+            return v;
         }
-        r -= 1;
+        v.rank = v.rank - 1;
     }
-    q
-}
-
-fn no_pairs() -> [u64; Relation::WORDS]
-    ensures { λ b. ⌜ (most-states ≤ height b) × ((s : ℕ) → row-of b s ≡ 0) ⌝ }
-{
-    [0u64; Relation::WORDS]
+    v
 }
 
 // Every count is 0 but that of the pair (s, t), which is 1.
-fn count_one(first: &[u16], second: &[u16], s: usize, t: usize, counts: &mut [u32])
-    requires { ⌜ Loaded (now first) × Loaded (now second) × Lost (now first) (now second) s t × (pairs (table-of (now first)) (table-of (now second)) ≤ length (now counts)) ⌝ }
-    ensures { λ _. ⌜ OneCounted (now (first .entry)) (now (second .entry)) s t (now (counts .exit)) ⌝ }
+fn count_one(tables: &[u16], s: usize, t: usize, counts: &mut [u32])
+    requires { ⌜ BothLoaded (now tables) × Lost (now tables) s t × (pairs (first-table (now tables)) (second-table (now tables)) ≤ length (now counts)) ⌝ }
+    ensures { λ _. ⌜ OneCounted (now (tables .entry)) s t (now (counts .exit)) ⌝ }
 {
-    count::clear_counts(counts, form::states(first) * form::states(second));
-    let p = number(second, s, t);
+    let all = tables::states(tables, Form::FIRST) * tables::states(tables, Form::SECOND);
+    count::clear_counts(counts, all);
+    let p = number(tables, s, t);
     counts[p] = 1;
 }
 
 // Lists the pairs that the tree of (s, t) meets, which is not kept, each before all pairs below it, and notes their transitions.
 // Returns how many there are, or 0 if the tree is too long. What the counts hold at first and in the end is free.
 pub fn list(
-    first: &[u16],
-    second: &[u16],
+    tables: &[u16],
     ranks: &[u16],
     s: usize,
     t: usize,
     order: &mut [u16],
     choices: &mut [u8],
     counts: &mut [u32],
-    sets: &mut [u64],
-    rel: &mut [u64],
-    x: &mut [u32],
+    amounts: &mut [u32],
 ) -> usize
-    requires { ⌜ OrderGiven (now first) (now second) (now ranks) (now order) (now choices) (now sets) (now rel) (now x) × Lost (now first) (now second) s t
-        × (pairs (table-of (now first)) (table-of (now second)) ≤ length (now counts)) ⌝ }
-    ensures { λ n. ⌜ Listed (now (first .entry)) (now (second .entry)) s t (now (order .exit)) (now (choices .exit)) n ⌝ }
+    requires { ⌜ OrderGiven (now tables) (now ranks) (now order) (now choices) (now amounts) × Lost (now tables) s t
+        × (pairs (first-table (now tables)) (second-table (now tables)) ≤ length (now counts)) ⌝ }
+    ensures { λ n. ⌜ Listed (now (tables .entry)) s t (now (order .exit)) (now (choices .exit)) n ⌝ }
 {
-    let mut todo = no_pairs();
-    rows::put(&mut todo, s, set::single(t));
-    count_one(first, second, s, t, counts);
-    let top = rank_at(second, ranks, s, t);
-    let p = Progress {
+    let mut room: [Word; Room::WORDS] = [1; Room::WORDS];
+    rows::clear(&mut room, Table::STATES);
+    rows::put(&mut room, s, set::single(t));
+    count_one(tables, s, t, counts);
+    let w = Walk {
+        s: s as u8,
+        t: t as u8,
+        rank: rank_at(tables, ranks, s, t),
+        bytes: 1,
         count: 0,
         rows: set::single(s),
-        bytes: 1,
     };
-    let all = pass_ranks(
-        first,
-        second,
-        ranks,
-        top,
-        order,
-        choices,
-        counts,
-        &mut todo,
-        sets,
-        rel,
-        x,
-        p,
-    );
+    let all = pass_ranks(tables, ranks, order, choices, counts, &mut room, amounts, w);
     if LONGEST < all.bytes {
         return 0;
     }

@@ -10,8 +10,8 @@ use native.Mathlib.Decide.{ℕ-discrete}
 use lib.Dec.{eqb}
 use lib.ListN.{length, getD}
 use borrow.Author.Tests.{eq-eqb, ne-eqb}
+use Rattle.simulation.specs.Limits.{most-states}
 use Rattle.simulation.specs.Sum.{sum, any, when}
-use Rattle.simulation.specs.Table.{targets}
 use Rattle.simulation.proofs.Finite.Sums.{sum-ext, sum-one, sum-zero, sum-swap, sum-pick, sum-strict, one-most}
 use Rattle.simulation.proofs.Finite.Tests.{any-none}
 use Rattle.relation.specs.Mask.{Test, member, with-member, either}
@@ -19,7 +19,8 @@ use Rattle.relation.specs.Words.{mask, row-of, height, put-row}
 use Rattle.relation.specs.declared.set.Set.{Set}
 use Rattle.relation.proofs.Sets.{length-put, row-put, row-put-other}
 use Rattle.choice.proofs.Choosing.{eqb-flip}
-use Rattle.passing.specs.Passing.{Children, ChildrenAdded}
+use Rattle.passing.specs.Passing.{todo-in, sets-in, HasRoom, Children, ChildrenAdded}
+use Rattle.passing.proofs.Parts.{todo-row, sets-row, todo-put, sets-put, todo-height}
 use Rattle.counting.specs.Count.{child}
 
 -- ---- the targets of a transition
@@ -33,44 +34,62 @@ or-join true b c = refl
 or-join false b c = refl
 
 -- the pairs of the targets before i are added
-pub record ChildrenLoop (targets sets todo₀ : List ℕ) (rows₀ : ℕ) (todo : List ℕ) (rows i : ℕ) : Type 0 where
+pub record ChildrenLoop (targets room₀ : List ℕ) (rows₀ : ℕ) (room : List ℕ) (rows i : ℕ) : Type 0 where
   pub inside : i ≤ length targets
-  pub same-todo : length todo ≡ length todo₀
-  pub added : ChildrenAdded targets sets i todo₀ rows₀ todo rows
+  pub same-room : length room ≡ length room₀
+  pub same-sets : sets-in room ≡ sets-in room₀
+  pub added : ChildrenAdded targets (sets-in room₀) i (todo-in room₀) rows₀ (todo-in room) rows
 
 -- at first no pair is added
-pub children-start : (targets sets todo : List ℕ) (rows : ℕ) → ChildrenLoop targets sets todo rows todo rows 0
-children-start targets sets todo rows =
+pub children-start : (targets room : List ℕ) (rows : ℕ) → ChildrenLoop targets room rows room rows 0
+children-start targets room rows =
     record {
       inside = zero-le;
-      same-todo = refl;
+      same-room = refl;
+      same-sets = refl;
       added = record {
-        listed = λ u v. sym (ap (λ b. b || member (row-of todo u) v) (any-none (child targets sets u v)));
+        listed = λ u v. sym (ap (λ b. b || member (row-of (todo-in room) u) v) (any-none (child targets (sets-in room) u v)));
         opened = λ u. sym (ap (λ b. b || member rows u) (any-none (λ i. eqb (getD targets i 0) u)));
       };
     }
 
-module _ {targets sets todo₀ : List ℕ} {rows₀ : ℕ} {todo : List ℕ} {rows i : ℕ} (g : Children targets sets todo₀)
-    (l : ChildrenLoop targets sets todo₀ rows₀ todo rows i) (lt : i < length targets) where
-  -- the next target has a row
-  pub target-row : getD targets i 0 < height todo
-  target-row = omega (arith, g .low i lt, g .rows, l .same-todo)
+module _ {targets room₀ : List ℕ} {rows₀ : ℕ} {room : List ℕ} {rows i : ℕ} (g : Children targets room₀)
+    (l : ChildrenLoop targets room₀ rows₀ room rows i) (lt : i < length targets) where
+  abbrev sets : List ℕ
+  sets = sets-in room₀
+
+  abbrev todo : List ℕ
+  todo = todo-in room
+
+  enough : HasRoom room
+  enough = omega (arith, g .rows, l .same-room)
+
+  low : i < most-states
+  low = omega (arith, g .few)
+
+  -- the next target has a row, and its set too
+  pub target-row : getD targets i 0 < height room
+  target-row = omega (arith, g .low i lt, enough)
+
+  pub set-row : most-states + i < height room
+  set-row = omega (arith, low, enough)
 
   -- its pairs are added
-  pub children-next : (joined : Set) {todo′ : List ℕ} {rows′ : ℕ} → todo′ ≡ put-row todo (getD targets i 0) joined
-      → member (mask joined) ≡ either (member (row-of sets i)) (member (row-of todo (getD targets i 0)))
-      → member rows′ ≡ with-member (getD targets i 0) (member rows) → ChildrenLoop targets sets todo₀ rows₀ todo′ rows′ (i + 1)
-  children-next joined {todo′} {rows′} et ej er =
+  pub children-next : (joined : Set) {room′ : List ℕ} {rows′ : ℕ} → room′ ≡ put-row room (getD targets i 0) joined
+      → member (mask joined) ≡ either (member (row-of room (most-states + i))) (member (row-of room (getD targets i 0)))
+      → member rows′ ≡ with-member (getD targets i 0) (member rows) → ChildrenLoop targets room₀ rows₀ room′ rows′ (i + 1)
+  children-next joined {room′} {rows′} er ej ers =
       record {
         inside = omega arith;
-        same-todo = ap length et ∙ length-put todo s joined ∙ l .same-todo;
+        same-room = ap length er ∙ length-put room s joined ∙ l .same-room;
+        same-sets = ap (λ (r : List ℕ). sets-in r) er ∙ sets-put room s s-low joined ∙ l .same-sets;
         added = record {
           listed = λ u v.
               at u v (ℕ-discrete u s) ∙ ap (λ b. child targets sets u v i || b) (l .added .listed u v)
-              ∙ or-join (child targets sets u v i) (any i (child targets sets u v)) (member (row-of todo₀ u) v)
-              ∙ sym (ap (λ b. b || member (row-of todo₀ u) v) (any-next i (child targets sets u v)));
+              ∙ or-join (child targets sets u v i) (any i (child targets sets u v)) (member (row-of (todo-in room₀) u) v)
+              ∙ sym (ap (λ b. b || member (row-of (todo-in room₀) u) v) (any-next i (child targets sets u v)));
           opened = λ u.
-              ap (λ (X : Test). X u) er ∙ ap₂ _||_ (eqb-flip u s) (l .added .opened u) ∙ or-join (eqb s u) (any i (λ k. eqb (getD targets k 0) u)) (member rows₀ u)
+              ap (λ (X : Test). X u) ers ∙ ap₂ _||_ (eqb-flip u s) (l .added .opened u) ∙ or-join (eqb s u) (any i (λ k. eqb (getD targets k 0) u)) (member rows₀ u)
               ∙ sym (ap (λ b. b || member rows₀ u) (any-next i (λ k. eqb (getD targets k 0) u)));
         };
       }
@@ -78,20 +97,33 @@ module _ {targets sets todo₀ : List ℕ} {rows₀ : ℕ} {todo : List ℕ} {ro
       s : ℕ
       s = getD targets i 0
 
-      at : (u v : ℕ) → Dec (u ≡ s) → member (row-of todo′ u) v ≡ (child targets sets u v i || member (row-of todo u) v)
+      s-low : s < most-states
+      s-low = g .low i lt
+
+      -- the row that is put, in the terms of the parts
+      row-is : member (mask joined) ≡ either (member (row-of sets i)) (member (row-of todo s))
+      row-is =
+          ej ∙ ap₂ (λ (m n : ℕ). either (member m) (member n))
+          (sym (ap (λ (z : List ℕ). row-of z i) (sym (l .same-sets)) ∙ sets-row room i low)) (sym (todo-row room s s-low))
+
+      et : todo-in room′ ≡ put-row todo s joined
+      et = ap (λ (r : List ℕ). todo-in r) er ∙ todo-put room s s-low joined
+
+      at : (u v : ℕ) → Dec (u ≡ s) → member (row-of (todo-in room′) u) v ≡ (child targets sets u v i || member (row-of todo u) v)
       at u v (yes p) =
-          ap (λ (k : ℕ). member (row-of todo′ k) v) p ∙ ap (λ (k : ℕ). member k v) (ap (λ (l : List ℕ). row-of l s) et ∙ row-put todo s joined target-row)
-          ∙ ap (λ (X : Test). X v) ej
+          ap (λ (k : ℕ). member (row-of (todo-in room′) k) v) p
+          ∙ ap (λ (k : ℕ). member k v) (ap (λ (l : List ℕ). row-of l s) et ∙ row-put todo s joined (omega (arith, s-low, todo-height room enough)))
+          ∙ ap (λ (X : Test). X v) row-is
           ∙ ap₂ (λ b k. (b && member (row-of sets i) v) || member (row-of todo k) v) (sym (eq-eqb s u (sym p))) (sym p)
       at u v (no d) =
           ap (λ (k : ℕ). member k v) (ap (λ (l : List ℕ). row-of l u) et ∙ row-put-other todo s u joined d)
           ∙ ap (λ b. (b && member (row-of sets i) v) || member (row-of todo u) v) (sym (ne-eqb s u (λ k. d (sym k))))
 
 -- after the last target the pairs of all are added
-pub children-end : {targets sets todo₀ : List ℕ} {rows₀ : ℕ} {todo : List ℕ} {rows i : ℕ} → ChildrenLoop targets sets todo₀ rows₀ todo rows i → length targets ≤ i
-    → ChildrenAdded targets sets (length targets) todo₀ rows₀ todo rows
-children-end {targets} {sets} {todo₀} {rows₀} {todo} {rows} {i} l h =
-    subst (λ (n : ℕ). ChildrenAdded targets sets n todo₀ rows₀ todo rows) (let e : i ≡ length targets = omega (arith, l .inside) in e) (l .added)
+pub children-end : {targets room₀ : List ℕ} {rows₀ : ℕ} {room : List ℕ} {rows i : ℕ} → ChildrenLoop targets room₀ rows₀ room rows i → length targets ≤ i
+    → ChildrenAdded targets (sets-in room₀) (length targets) (todo-in room₀) rows₀ (todo-in room) rows
+children-end {targets} {room₀} {rows₀} {room} {rows} {i} l h =
+    subst (λ (n : ℕ). ChildrenAdded targets (sets-in room₀) n (todo-in room₀) rows₀ (todo-in room) rows) (let e : i ≡ length targets = omega (arith, l .inside) in e) (l .added)
 
 -- ---- numbers that are all different
 

@@ -1,7 +1,7 @@
 -- A pair is passed: it is listed, and the pairs below it are to be passed.
 -- Assumes nothing.
 use mathlib.Core.Path.{_≡_, refl, sym, ap, ap₂, _∙_, subst}
-use mathlib.Core.Bool.{not, _&&_, and-true}
+use mathlib.Core.Bool.{_&&_}
 use mathlib.Core.List.{List}
 use mathlib.Core.Logic.{_⊎_, inl, inr, ⊎-elim}
 use Prim.Native.Nat.{ℕ, _+_, _≤_, _<_}
@@ -11,176 +11,187 @@ use native.Mathlib.Decide.{ℕ-discrete}
 use lib.Dec.{T, T-not, not-T, eqb, eqb→eq}
 use lib.ListN.{length, getD, set, length-set}
 use lib.Seq.{getD-set-same, getD-set-other}
-use borrow.Author.Tests.{eq-eqb, ne-eqb}
 use Rattle.simulation.specs.Limits.{most-states, most-pairs}
+use Rattle.form.specs.Tables.{first-form, second-form, first-table, second-table, first-step}
 use Rattle.simulation.specs.Sum.{any}
 use Rattle.simulation.specs.Table.{Table, targets, target-at}
 use Rattle.simulation.specs.Round.{pairs, rank}
 use Rattle.simulation.specs.Tree.{chosen, set-of}
 use Rattle.simulation.proofs.Finite.Tests.{or-cases, or-left, or-right, and-left, and-right, both, same-eqb, any-some, some-any}
-use Rattle.form.specs.Form.{table-of, transition-at}
 use Rattle.form.proofs.FormLaws.{few-pairs}
-use Rattle.relation.specs.Mask.{Test, member, without-member}
-use Rattle.relation.specs.Words.{mask, row-of, height, put-row}
-use Rattle.relation.specs.declared.set.Set.{Set}
-use Rattle.relation.proofs.Sets.{length-put, row-put, row-put-other}
+use Rattle.relation.specs.Mask.{Test, member}
+use Rattle.relation.specs.Words.{row-of, height}
 use Rattle.choice.specs.Choice.{Lost, Choice, Sets}
 use Rattle.counting.proofs.Pairs.{at-number, lost-place, lost-low, number-place}
 use Rattle.counting.proofs.Targets.{ChoiceGiven, targets-are, count-is, few-targets, state-low, set-at, child-lost}
-use Rattle.counting.specs.Count.{child}
+use Rattle.counting.specs.Count.{child, Tally, HandGiven}
 use Rattle.counting.specs.Pair.{number, row, column}
-use Rattle.passing.specs.Passing.{Children, ChildrenAdded, PassGiven, Later, Found, Noted, Above, Passing, PairPassed}
+use Rattle.passing.specs.Passing.{todo-in, sets-in, HasRoom, Children, ChildrenAdded, PassGiven, Later, Found, Noted, Above, Passing, PairPassed}
+use Rattle.passing.proofs.Parts.{PairRemoved, sets-height}
 use Rattle.passing.proofs.Listing.{fewer}
 
-module _ {first second ranks order choices todo sets rel x : List ℕ} (g : PassGiven first second ranks order choices todo sets rel x) {r n rows : ℕ} (m : Passing first second r order n todo rows) where
+-- a pair that is to be passed
+pub record PairGiven (tables ranks order choices room amounts : List ℕ) (r n rows s t : ℕ) : Type 0 where
+  pub given : PassGiven tables ranks order choices room amounts
+  pub passing : Passing tables r order n (todo-in room) rows
+  pub here : T (member (row-of (todo-in room) s) t)
+
+module _ {tables ranks order choices room amounts : List ℕ} {r n rows s t : ℕ} (p : PairGiven tables ranks order choices room amounts r n rows s t) where
   abbrev M : Table
-  M = table-of first
+  M = first-table tables
 
   abbrev N : Table
-  N = table-of second
+  N = second-table tables
+
+  abbrev todo : List ℕ
+  todo = todo-in room
 
   abbrev to-do : ℕ → ℕ → Type 0
   to-do u v = T (member (row-of todo u) v)
 
-  module _ (s t : ℕ) (here : to-do s t) where
-    -- the pair is not kept, its states are low, and it has a row
-    pub pair-lost : Lost first second s t
-    pair-lost = m .lost s t here
+  -- the pair is not kept, its states are low, and it has a row
+  pub pair-lost : Lost tables s t
+  pair-lost = p .passing .lost s t (p .here)
 
-    pub pair-low : (s < most-states) × (t < most-states)
-    pair-low = lost-low pair-lost (g .given .ranked .first-loaded) (g .given .ranked .second-loaded)
+  pub pair-low : (s < most-states) × (t < most-states)
+  pair-low = lost-low pair-lost (p .given .given .ranked .loaded)
 
-    pub pair-row : s < height todo
-    pair-row = omega (arith, pair-low .0, g .rows)
+  pub pair-row : s < height room
+  pair-row = omega (arith, pair-low .0, p .given .rows)
 
-    -- its rank is the number read at its place
-    pub pair-rank : {k : ℕ} → k ≡ getD ranks (number second s t) 0 → k ≡ rank M N s t
-    pair-rank e = e ∙ g .given .ranked .ranked s t (pair-lost .left) (pair-lost .right)
+  -- its rank is the number read at its place
+  pub pair-rank : {k : ℕ} → k ≡ getD ranks (number tables s t) 0 → k ≡ rank M N s t
+  pair-rank e = e ∙ p .given .given .ranked .ranked s t (pair-lost .left) (pair-lost .right)
 
-    -- it is not listed yet, so there is room for it
-    not-listed : (k : ℕ) → k < n → getD order k 0 ≡ number second s t → ⊥
-    not-listed k a e =
-        m .gone k a
-        (subst (λ (p : ℕ). T (member (row-of todo (row second p)) (column second p))) (sym e)
-        (at-number first second (λ u v. T (member (row-of todo u) v)) s t (pair-lost .right) here))
+  -- it is not listed yet, so there is room for it
+  not-listed : (k : ℕ) → k < n → getD order k 0 ≡ number tables s t → ⊥
+  not-listed k a e =
+      p .passing .gone k a
+      (subst (λ (p : ℕ). T (member (row-of todo (row tables p)) (column tables p))) (sym e)
+      (at-number tables (λ u v. T (member (row-of todo u) v)) s t (pair-lost .right) (p .here)))
 
-    few : n < pairs M N
-    few = fewer (pairs M N) n (λ k. getD order k 0) (number second s t) (lost-place pair-lost) (λ k a. number-place first second (getD order k 0) (m .at k a .lost)) (m .once) not-listed
+  few : n < pairs M N
+  few = fewer (pairs M N) n (λ k. getD order k 0) (number tables s t) (lost-place pair-lost) (λ k a. number-place tables (getD order k 0) (p .passing .at k a .lost)) (p .passing .once) not-listed
 
-    -- the list and the notes have places for it
-    pub pair-room : n < length order
-    pair-room = omega (arith, few, g .given .room)
+  -- the list and the notes have places for it
+  pub pair-room : n < length order
+  pair-room = omega (arith, few, p .given .given .room)
 
-    pub pair-count : n < most-pairs
-    pair-count = omega (arith, few, few-pairs first second (g .given .ranked .first-loaded) (g .given .ranked .second-loaded))
+  pub pair-count : n < most-pairs
+  pair-count = omega (arith, few, few-pairs (first-form tables) (second-form tables) (p .given .given .ranked .loaded .first) (p .given .given .ranked .loaded .second))
 
-    pub pair-noted : number second s t < length choices
-    pair-noted = omega (arith, lost-place pair-lost, g .given .notes)
+  pub pair-noted : number tables s t < length choices
+  pair-noted = omega (arith, lost-place pair-lost, p .given .given .notes)
 
-    -- a pair of another rank is not passed
-    pub skipped : (rank M N s t ≡ r → ⊥) → PairPassed first second r s t order n todo order n todo rows
-    skipped d =
+  -- a pair of another rank is not passed
+  pub skipped : (rank M N s t ≡ r → ⊥) → PairPassed tables r s t order n todo order n todo rows
+  skipped d =
+      record {
+        passed = record { passing = p .passing; old = λ u v h _. h; stays = λ u v h. h };
+        gone = λ e _. d e;
+        others = λ u v h _. h;
+      }
+
+  -- ---- the list with the pair
+
+  module _ {order′ : List ℕ} (eo : order′ ≡ set order n (number tables s t)) where
+    order-old : (k : ℕ) → k < n → getD order′ k 0 ≡ getD order k 0
+    order-old k b =
+        ap (λ (l : List ℕ). getD l k 0) eo ∙ getD-set-other order n k (number tables s t) 0 (λ e. lt-irrefl n (subst (λ (i : ℕ). i < n) e b))
+
+    order-new : getD order′ n 0 ≡ number tables s t
+    order-new = ap (λ (l : List ℕ). getD l n 0) eo ∙ getD-set-same order n (number tables s t) 0 pair-room
+
+    -- by place: a place of old, or the new one
+    by-place : (P : ℕ → ℕ → Type 0) → ((k : ℕ) → k < n → P k (getD order k 0)) → P n (number tables s t) → (k : ℕ) → k < n + 1 → P k (getD order′ k 0)
+    by-place P old new k b = at (ℕ-discrete k n)
+      where
+        at : Dec (k ≡ n) → P k (getD order′ k 0)
+        at (yes e) = subst (λ (i : ℕ). P i (getD order′ i 0)) (sym e) (subst (λ (q : ℕ). P n q) (sym order-new) new)
+        at (no d) = let c : k < n = omega (arith, d) in subst (λ (q : ℕ). P k q) (sym (order-old k c)) (old k c)
+
+    -- its transition is noted, and those of the pairs before it stay so
+    pub also-noted : {j : ℕ} {choices′ : List ℕ} → Noted tables order n choices → Choice tables s t j
+        → choices′ ≡ set choices (number tables s t) j → Noted tables order′ (n + 1) choices′
+    also-noted {j} {choices′} o w ec =
         record {
-          passed = record { passing = m; old = λ u v h _. h; stays = λ u v h. h };
-          gone = λ e _. d e;
-          others = λ u v h _. h;
+          at = by-place (λ k p. Choice tables (row tables p) (column tables p) (getD choices′ p 0))
+              (λ k b. subst (λ (i : ℕ). Choice tables (row tables (getD order k 0)) (column tables (getD order k 0)) i) (sym (old k b)) (o .at k b))
+              (subst (λ (i : ℕ). Choice tables (row tables (number tables s t)) (column tables (number tables s t)) i) (sym new)
+              (at-number tables (λ u v. Choice tables u v j) s t (pair-lost .right) w));
         }
+      where
+        old : (k : ℕ) → k < n → getD choices′ (getD order k 0) 0 ≡ getD choices (getD order k 0) 0
+        old k b = ap (λ (l : List ℕ). getD l (getD order k 0) 0) ec ∙ getD-set-other choices (number tables s t) (getD order k 0) j 0 (not-listed k b)
 
-    -- ---- the list with the pair
+        new : getD choices′ (number tables s t) 0 ≡ j
+        new = ap (λ (l : List ℕ). getD l (number tables s t) 0) ec ∙ getD-set-same choices (number tables s t) j 0 pair-noted
 
-    module _ {order′ : List ℕ} (eo : order′ ≡ set order n (number second s t)) where
-      order-old : (k : ℕ) → k < n → getD order′ k 0 ≡ getD order k 0
-      order-old k b =
-          ap (λ (l : List ℕ). getD l k 0) eo ∙ getD-set-other order n k (number second s t) 0 (λ e. lt-irrefl n (subst (λ (i : ℕ). i < n) e b))
+  -- ---- the pair's transition
 
-      order-new : getD order′ n 0 ≡ number second s t
-      order-new = ap (λ (l : List ℕ). getD l n 0) eo ∙ getD-set-same order n (number second s t) 0 pair-room
+  module _ {j : ℕ} (w : Choice tables s t j) where
+    -- the pair with its transition
+    pub step-choice : ChoiceGiven tables s t j
+    step-choice = record { loaded = p .given .given .ranked .loaded; lost = pair-lost; choice = w }
 
-      -- by place: a place of old, or the new one
-      by-place : (P : ℕ → ℕ → Type 0) → ((k : ℕ) → k < n → P k (getD order k 0)) → P n (number second s t) → (k : ℕ) → k < n + 1 → P k (getD order′ k 0)
-      by-place P old new k b = at (ℕ-discrete k n)
-        where
-          at : Dec (k ≡ n) → P k (getD order′ k 0)
-          at (yes e) = subst (λ (i : ℕ). P i (getD order′ i 0)) (sym e) (subst (λ (q : ℕ). P n q) (sym order-new) new)
-          at (no d) = let c : k < n = omega (arith, d) in subst (λ (q : ℕ). P k q) (sym (order-old k c)) (old k c)
+    module _ {found : List ℕ} (z : Sets tables s t found) {room₁ : List ℕ} (o : PairRemoved room s t found room₁) where
+      abbrev sets : List ℕ
+      sets = sets-in room₁
 
-      -- its transition is noted, and those of the pairs before it stay so
-      pub also-noted : {j : ℕ} {choices′ : List ℕ} → Noted first second order n choices → Choice first second s t j
-          → choices′ ≡ set choices (number second s t) j → Noted first second order′ (n + 1) choices′
-      also-noted {j} {choices′} o w ec =
+      abbrev todo₁ : List ℕ
+      todo₁ = todo-in room₁
+
+      enough : HasRoom room₁
+      enough = omega (arith, p .given .rows, o .same-room)
+
+      told : Sets tables s t sets
+      told = subst (Sets tables s t) (sym (o .sets)) z
+
+      -- what handing on its count rests on
+      pub step-count : {counts : List ℕ} {bytes : ℕ} → Tally tables counts bytes → HandGiven tables s t j sets counts bytes
+      step-count tally =
           record {
-            at = by-place (λ k p. Choice first second (row second p) (column second p) (getD choices′ p 0))
-                (λ k b. subst (λ (i : ℕ). Choice first second (row second (getD order k 0)) (column second (getD order k 0)) i) (sym (old k b)) (o .at k b))
-                (subst (λ (i : ℕ). Choice first second (row second (number second s t)) (column second (number second s t)) i) (sym new)
-                (at-number first second (λ u v. Choice first second u v j) s t (pair-lost .right) w));
+            loaded = p .given .given .ranked .loaded;
+            lost = pair-lost;
+            choice = w;
+            words = omega (arith, sets-height room₁ enough);
+            told = told;
+            tally = tally;
           }
-        where
-          old : (k : ℕ) → k < n → getD choices′ (getD order k 0) 0 ≡ getD choices (getD order k 0) 0
-          old k b = ap (λ (l : List ℕ). getD l (getD order k 0) 0) ec ∙ getD-set-other choices (number second s t) (getD order k 0) j 0 (not-listed k b)
 
-          new : getD choices′ (number second s t) 0 ≡ j
-          new = ap (λ (l : List ℕ). getD l (number second s t) 0) ec ∙ getD-set-same choices (number second s t) j 0 pair-noted
-
-    -- ---- the pair's transition
-
-    module _ {j : ℕ} (w : Choice first second s t j) where
-      -- the pair with its transition
-      pub step-choice : ChoiceGiven first second s t j
-      step-choice = record { first-loaded = g .given .ranked .first-loaded; second-loaded = g .given .ranked .second-loaded; lost = pair-lost; choice = w }
-
-      module _ {ts : List ℕ} (et : ts ≡ targets (transition-at first j)) {sets′ : List ℕ} (z : Sets first second s t sets′) (words : length sets′ ≡ length sets)
-          (rest : Set) {was : ℕ} (ew : was ≡ row-of todo s) (er : member (mask rest) ≡ without-member t (member was)) {todo₁ : List ℕ} (et₁ : todo₁ ≡ put-row todo s rest) where
+      module _ {ts : List ℕ} (et : ts ≡ targets (first-step tables j)) where
         -- what adding the pairs below it rests on
-        pub step-children : Children ts sets′ todo₁
-        step-children =
-            record {
-              few = few-targets step-choice et;
-              words = omega (arith, few-targets step-choice et, words, g .given .words);
-              rows = omega (arith, g .rows, ap length et₁ ∙ length-put todo s rest);
-              low = state-low step-choice et;
-            }
+        pub step-children : Children ts room₁
+        step-children = record { few = few-targets step-choice et; rows = enough; low = state-low step-choice et }
 
         -- a pair below it is not kept either, and its rank is lower
-        below : (u v : ℕ) → T (any (length ts) (child ts sets′ u v)) → Lost first second u v × (rank M N u v < rank M N s t)
+        below : (u v : ℕ) → T (any (length ts) (child ts sets u v)) → Lost tables u v × (rank M N u v < rank M N s t)
         below u v h =
-            let q = any-some (length ts) (child ts sets′ u v) h in
+            let q = any-some (length ts) (child ts sets u v) h in
             let i = q .0 in
-            subst (λ (k : ℕ). Lost first second k v × (rank M N k v < rank M N s t)) (eqb→eq (getD ts i 0) u (and-left (eqb (getD ts i 0) u) (member (row-of sets′ i) v) (q .2)))
-            (child-lost step-choice et z i v (q .1) (and-right (eqb (getD ts i 0) u) (member (row-of sets′ i) v) (q .2)))
-
-        -- the pair alone leaves the list of those to be passed
-        rest-at : (u v : ℕ) → member (row-of todo₁ u) v ≡ (member (row-of todo u) v && not (eqb u s && eqb v t))
-        rest-at u v = at (ℕ-discrete u s)
-          where
-            at : Dec (u ≡ s) → member (row-of todo₁ u) v ≡ (member (row-of todo u) v && not (eqb u s && eqb v t))
-            at (yes p) =
-                ap (λ (k : ℕ). member (row-of todo₁ k) v) p ∙ ap (λ (y : ℕ). member y v) (ap (λ (l : List ℕ). row-of l s) et₁ ∙ row-put todo s rest pair-row)
-                ∙ ap (λ (X : Test). X v) er ∙ ap (λ (y : ℕ). member y v && not (eqb v t)) ew
-                ∙ ap₂ (λ (k : ℕ) b. member (row-of todo k) v && not (b && eqb v t)) (sym p) (sym (eq-eqb u s p))
-            at (no d) =
-                ap (λ (y : ℕ). member y v) (ap (λ (l : List ℕ). row-of l u) et₁ ∙ row-put-other todo s u rest d) ∙ sym (and-true (member (row-of todo u) v))
-                ∙ ap (λ b. member (row-of todo u) v && not (b && eqb v t)) (sym (ne-eqb u s d))
+            subst (λ (k : ℕ). Lost tables k v × (rank M N k v < rank M N s t)) (eqb→eq (getD ts i 0) u (and-left (eqb (getD ts i 0) u) (member (row-of sets i) v) (q .2)))
+            (child-lost step-choice et told i v (q .1) (and-right (eqb (getD ts i 0) u) (member (row-of sets i) v) (q .2)))
 
         rest-in : (u v : ℕ) → T (member (row-of todo₁ u) v) → to-do u v × ((u ≡ s) × (v ≡ t) → ⊥)
         rest-in u v h =
-            let q = subst T (rest-at u v) h in (
+            let q = subst T (o .todo u v) h in (
               and-left (member (row-of todo u) v) _ q,
               λ e. T-not (eqb u s && eqb v t) (and-right (member (row-of todo u) v) _ q) (both (eqb u s) (eqb v t) (same-eqb (e .0)) (same-eqb (e .1))),
             )
 
         rest-keeps : (u v : ℕ) → to-do u v → ((u ≡ s) × (v ≡ t) → ⊥) → T (member (row-of todo₁ u) v)
         rest-keeps u v h d =
-            subst T (sym (rest-at u v))
+            subst T (sym (o .todo u v))
             (both (member (row-of todo u) v) _ h (not-T (eqb u s && eqb v t) (λ q. d (eqb→eq u s (and-left (eqb u s) (eqb v t) q), eqb→eq v t (and-right (eqb u s) (eqb v t) q)))))
 
-        module _ (same : rank M N s t ≡ r) {order′ : List ℕ} (eo : order′ ≡ set order n (number second s t)) {todo′ : List ℕ} {rows′ : ℕ}
-            (a : ChildrenAdded ts sets′ (length ts) todo₁ rows todo′ rows′) where
+        module _ (same : rank M N s t ≡ r) {order′ : List ℕ} (eo : order′ ≡ set order n (number tables s t)) {todo′ : List ℕ} {rows′ : ℕ}
+            (a : ChildrenAdded ts sets (length ts) todo₁ rows todo′ rows′) where
           -- a pair to be passed was so before, or is below this one
-          cases : (u v : ℕ) → T (member (row-of todo′ u) v) → T (any (length ts) (child ts sets′ u v)) ⊎ (to-do u v × ((u ≡ s) × (v ≡ t) → ⊥))
-          cases u v h = ⊎-elim inl (λ q. inr (rest-in u v q)) (or-cases (any (length ts) (child ts sets′ u v)) _ (subst T (a .listed u v) h))
+          cases : (u v : ℕ) → T (member (row-of todo′ u) v) → T (any (length ts) (child ts sets u v)) ⊎ (to-do u v × ((u ≡ s) × (v ≡ t) → ⊥))
+          cases u v h = ⊎-elim inl (λ q. inr (rest-in u v q)) (or-cases (any (length ts) (child ts sets u v)) _ (subst T (a .listed u v) h))
 
           others : (u v : ℕ) → to-do u v → ((u ≡ s) × (v ≡ t) → ⊥) → T (member (row-of todo′ u) v)
-          others u v h d = subst T (sym (a .listed u v)) (or-right (any (length ts) (child ts sets′ u v)) _ (rest-keeps u v h d))
+          others u v h d = subst T (sym (a .listed u v)) (or-right (any (length ts) (child ts sets u v)) _ (rest-keeps u v h d))
 
           here-or-not : (u v : ℕ) → Dec ((u ≡ s) × (v ≡ t))
           here-or-not u v = go (ℕ-discrete u s) (ℕ-discrete v t)
@@ -190,56 +201,56 @@ module _ {first second ranks order choices todo sets rel x : List ℕ} (g : Pass
               go (yes a) (no d) = no (λ e. d (e .1))
               go (no d) _ = no (λ e. d (e .0))
 
-          same-number : (u v : ℕ) → (u ≡ s) × (v ≡ t) → getD order′ n 0 ≡ number second u v
-          same-number u v e = order-new eo ∙ ap₂ (number second) (sym (e .0)) (sym (e .1))
+          same-number : (u v : ℕ) → (u ≡ s) × (v ≡ t) → getD order′ n 0 ≡ number tables u v
+          same-number u v e = order-new eo ∙ ap₂ (number tables) (sym (e .0)) (sym (e .1))
 
           -- this pair is below a pair that is listed, or another is
-          after : (k : ℕ) → k < n → (u v : ℕ) → to-do u v ⊎ Later order n k (number second u v) → T (member (row-of todo′ u) v) ⊎ Later order′ (n + 1) k (number second u v)
+          after : (k : ℕ) → k < n → (u v : ℕ) → to-do u v ⊎ Later order n k (number tables u v) → T (member (row-of todo′ u) v) ⊎ Later order′ (n + 1) k (number tables u v)
           after k b u v (inr l) = inr (l .0, l .1, omega (arith, l .2), order-old eo (l .0) (l .2) ∙ l .3)
           after k b u v (inl h) = at (here-or-not u v)
             where
-              at : Dec ((u ≡ s) × (v ≡ t)) → T (member (row-of todo′ u) v) ⊎ Later order′ (n + 1) k (number second u v)
+              at : Dec ((u ≡ s) × (v ≡ t)) → T (member (row-of todo′ u) v) ⊎ Later order′ (n + 1) k (number tables u v)
               at (yes e) = inr (n, b, omega arith, same-number u v e)
               at (no d) = inl (others u v h d)
 
-          new-at : Above first second (λ u v. T (member (row-of todo′ u) v) ⊎ Later order′ (n + 1) n (number second u v)) (number second s t)
+          new-at : Above tables (λ u v. T (member (row-of todo′ u) v) ⊎ Later order′ (n + 1) n (number tables u v)) (number tables s t)
           new-at =
               let P : ℕ → ℕ → Type 0 = λ s t. (i v : ℕ) → i < length (chosen M N s t .entries) → T (set-of M N s t i v)
-              → T (member (row-of todo′ (target-at (chosen M N s t) i)) v) ⊎ Later order′ (n + 1) n (number second (target-at (chosen M N s t) i) v) in
+              → T (member (row-of todo′ (target-at (chosen M N s t) i)) v) ⊎ Later order′ (n + 1) n (number tables (target-at (chosen M N s t) i) v) in
               record {
-                lost = at-number first second (Lost first second) s t (pair-lost .right) pair-lost;
-                below = at-number first second P s t (pair-lost .right) (λ i v b h.
+                lost = at-number tables (Lost tables) s t (pair-lost .right) pair-lost;
+                below = at-number tables P s t (pair-lost .right) (λ i v b h.
                     let c : i < length ts = omega (arith, count-is step-choice et) in
                     inl (subst T (sym (a .listed (target-at (chosen M N s t) i) v))
-                    (or-left (any (length ts) (child ts sets′ (target-at (chosen M N s t) i) v)) _
-                    (some-any (length ts) (child ts sets′ (target-at (chosen M N s t) i) v) i c
-                    (both (eqb (getD ts i 0) (target-at (chosen M N s t) i)) (member (row-of sets′ i) v) (same-eqb (targets-are step-choice et i)) (subst (λ (X : Test). T (X v)) (sym (set-at step-choice et z i c)) h))))));
+                    (or-left (any (length ts) (child ts sets (target-at (chosen M N s t) i) v)) _
+                    (some-any (length ts) (child ts sets (target-at (chosen M N s t) i) v) i c
+                    (both (eqb (getD ts i 0) (target-at (chosen M N s t) i)) (member (row-of sets i) v) (same-eqb (targets-are step-choice et i)) (subst (λ (X : Test). T (X v)) (sym (set-at step-choice et told i c)) h))))));
               }
 
           -- a pair of rank r is passed: it is listed, and the pairs below it are to be passed
-          pub taken : PairPassed first second r s t order n todo order′ (n + 1) todo′ rows′
+          pub taken : PairPassed tables r s t order n todo order′ (n + 1) todo′ rows′
           taken =
               record {
                 passed = record {
                   passing = record {
-                    fits = omega (arith, pair-room, ap length eo, length-set order n (number second s t));
+                    fits = omega (arith, pair-room, ap length eo, length-set order n (number tables s t));
                     few = omega (arith, pair-count);
                     open-row = λ u v q.
                         subst T (sym (a .opened u))
                         (⊎-elim
-                        (λ k. let i = any-some (length ts) (child ts sets′ u v) k in
-                        or-left (any (length ts) (λ i. eqb (getD ts i 0) u)) (member rows u) (some-any (length ts) (λ i. eqb (getD ts i 0) u) (i .0) (i .1) (and-left (eqb (getD ts (i .0) 0) u) (member (row-of sets′ (i .0)) v) (i .2))))
-                        (λ k. or-right (any (length ts) (λ i. eqb (getD ts i 0) u)) (member rows u) (m .open-row u v (k .0)))
+                        (λ k. let i = any-some (length ts) (child ts sets u v) k in
+                        or-left (any (length ts) (λ i. eqb (getD ts i 0) u)) (member rows u) (some-any (length ts) (λ i. eqb (getD ts i 0) u) (i .0) (i .1) (and-left (eqb (getD ts (i .0) 0) u) (member (row-of sets (i .0)) v) (i .2))))
+                        (λ k. or-right (any (length ts) (λ i. eqb (getD ts i 0) u)) (member rows u) (p .passing .open-row u v (k .0)))
                         (cases u v q));
-                    lost = λ u v q. ⊎-elim (λ k. below u v k .0) (λ k. m .lost u v (k .0)) (cases u v q);
-                    most = λ u v q. ⊎-elim (λ k. omega (arith, below u v k .1, same)) (λ k. m .most u v (k .0)) (cases u v q);
-                    at = by-place eo (λ k p. Above first second (λ u v. T (member (row-of todo′ u) v) ⊎ Later order′ (n + 1) k (number second u v)) p)
-                        (λ k b. let l = m .at k b in record { lost = l .lost; below = λ i v c h. after k b _ v (l .below i v c h) }) new-at;
-                    high = by-place eo (λ k p. r ≤ rank M N (row second p) (column second p)) (m .high)
-                        (at-number first second (λ u v. r ≤ rank M N u v) s t (pair-lost .right) (omega (arith, same)));
-                    gone = by-place eo (λ k p. T (member (row-of todo′ (row second p)) (column second p)) → ⊥)
-                        (λ k b q. ⊎-elim (λ c. absurd (omega (arith, below _ _ c .1, m .high k b, same))) (λ c. m .gone k b (c .0)) (cases _ _ q))
-                        (at-number first second (λ u v. T (member (row-of todo′ u) v) → ⊥) s t (pair-lost .right) here-gone);
+                    lost = λ u v q. ⊎-elim (λ k. below u v k .0) (λ k. p .passing .lost u v (k .0)) (cases u v q);
+                    most = λ u v q. ⊎-elim (λ k. omega (arith, below u v k .1, same)) (λ k. p .passing .most u v (k .0)) (cases u v q);
+                    at = by-place eo (λ k p. Above tables (λ u v. T (member (row-of todo′ u) v) ⊎ Later order′ (n + 1) k (number tables u v)) p)
+                        (λ k b. let l = p .passing .at k b in record { lost = l .lost; below = λ i v c h. after k b _ v (l .below i v c h) }) new-at;
+                    high = by-place eo (λ k p. r ≤ rank M N (row tables p) (column tables p)) (p .passing .high)
+                        (at-number tables (λ u v. r ≤ rank M N u v) s t (pair-lost .right) (omega (arith, same)));
+                    gone = by-place eo (λ k p. T (member (row-of todo′ (row tables p)) (column tables p)) → ⊥)
+                        (λ k b q. ⊎-elim (λ c. absurd (omega (arith, below _ _ c .1, p .passing .high k b, same))) (λ c. p .passing .gone k b (c .0)) (cases _ _ q))
+                        (at-number tables (λ u v. T (member (row-of todo′ u) v) → ⊥) s t (pair-lost .right) here-gone);
                     once = λ k l b c e. different k l b c e (ℕ-discrete l n);
                   };
                   old = λ u v q e. ⊎-elim (λ k. absurd (omega (arith, below u v k .1, same))) (λ k. k .0) (cases u v q);
@@ -258,9 +269,9 @@ module _ {first second ranks order choices todo sets rel x : List ℕ} (g : Pass
                   not-listed k kn (sym (order-old eo k kn) ∙ e ∙ ap (λ (i : ℕ). getD order′ i 0) q ∙ order-new eo)
               different k l b c e (no d) =
                   let ln : l < n = omega (arith, d) in
-                  m .once k l b ln (sym (order-old eo k (omega arith)) ∙ e ∙ order-old eo l ln)
+                  p .passing .once k l b ln (sym (order-old eo k (omega arith)) ∙ e ∙ order-old eo l ln)
 
-              stays : (u v : ℕ) → to-do u v ⊎ Found order n (number second u v) → Dec ((u ≡ s) × (v ≡ t)) → T (member (row-of todo′ u) v) ⊎ Found order′ (n + 1) (number second u v)
+              stays : (u v : ℕ) → to-do u v ⊎ Found order n (number tables u v) → Dec ((u ≡ s) × (v ≡ t)) → T (member (row-of todo′ u) v) ⊎ Found order′ (n + 1) (number tables u v)
               stays u v (inr f) _ = inr (f .0, omega (arith, f .1), order-old eo (f .0) (f .1) ∙ f .2)
               stays u v (inl h) (yes e) = inr (n, omega arith, same-number u v e)
               stays u v (inl h) (no d) = inl (others u v h d)

@@ -1,28 +1,46 @@
 // One pair of a tree, and the pairs of one row: a pair is listed with the transition chosen for it, its count is handed on, and the pairs
 // below it are to be passed later.
 use choice::choose;
-use choice::rank_at;
 use counting::count;
 use counting::pair::number;
+use form::Form;
+use form::tables;
+use relation::Relation;
+use relation::Word;
 use relation::rows;
 use relation::set;
 use relation::set::Set;
 use relation::walk;
+use simulation::Table;
 ghost use mathlib.Core.Path.{_≡_};
-ghost use Prim.Native.Nat.{ℕ, _+_, _*_, _<_};
+ghost use Prim.Native.Nat.{ℕ, _<_};
 ghost use lib.Dec.{T};
 ghost use lib.ListN.{length, set};
 ghost use Rattle.simulation.specs.Limits.{most-states};
-ghost use Rattle.simulation.specs.Table.{states-of};
-ghost use Rattle.simulation.specs.Round.{pairs};
-ghost use Rattle.form.specs.Form.{table-of};
+ghost use Rattle.simulation.specs.Round.{rank};
+ghost use Rattle.form.specs.Tables.{first-table, second-table};
 ghost use Rattle.relation.specs.Mask.{member};
 ghost use Rattle.relation.specs.Words.{mask, row-of};
+ghost use Rattle.counting.specs.Pair.{number};
 ghost use Rattle.counting.specs.Count.{Tally, Tallied};
-ghost use Rattle.passing.specs.Passing.{Children, ChildrenAdded, PassGiven, NoteGiven, Noted, Passing, PairPassed, RowPassed};
+ghost use Rattle.passing.specs.Passing.{todo-in, sets-in, Children, ChildrenAdded, PassGiven, NoteGiven, Noted, Passing, PairPassed, RowPassed};
 
-// The bytes counted, how many pairs are passed, and the rows with a pair that is still to be passed.
-pub struct Progress {
+// Rows lent to work with: the pairs that are still to be passed, a row to a state, and after them the sets of a transition's targets, with room
+// for as many rows of a relation.
+pub struct Room {}
+
+impl Room {
+    pub const SETS_AT: usize = Relation::WORDS;
+
+    pub const WORDS: usize = 3 * Relation::WORDS;
+}
+
+// Where the walk over the pairs is, the rank that it passes, and what it has done: the bytes counted, how many pairs are passed, and the rows
+// with a pair that is still to be passed.
+pub struct Walk {
+    pub s: u8,
+    pub t: u8,
+    pub rank: u16,
     pub bytes: u32,
     pub count: usize,
     pub rows: Set,
@@ -30,7 +48,7 @@ pub struct Progress {
 
 // Lists the pair (s, t) at place n, with the number of its transition.
 fn note(
-    second: &[u16],
+    tables: &[u16],
     s: usize,
     t: usize,
     j: usize,
@@ -38,70 +56,87 @@ fn note(
     order: &mut [u16],
     choices: &mut [u8],
 )
-    requires { ⌜ NoteGiven (now second) s t j n (now order) (now choices) ⌝ }
-    ensures { λ _. ⌜ (now (order .exit) ≡ set (now (order .entry)) n (s * states-of (table-of (now (second .entry))) + t))
-        × (now (choices .exit) ≡ set (now (choices .entry)) (s * states-of (table-of (now (second .entry))) + t) j) ⌝ }
+    requires { ⌜ NoteGiven (now tables) s t j n (now order) (now choices) ⌝ }
+    ensures { λ _. ⌜ (now (order .exit) ≡ set (now (order .entry)) n (number (now (tables .entry)) s t))
+        × (now (choices .exit) ≡ set (now (choices .entry)) (number (now (tables .entry)) s t) j) ⌝ }
 {
-    let p = number(second, s, t);
+    let p = number(tables, s, t);
     order[n] = p as u16;
     choices[p] = j as u8;
 }
 
 // The pairs of each target and the members of its set are to be passed.
-fn add_children(targets: &[u16], sets: &[u64], todo: &mut [u64], rows: Set) -> Set
-    requires { ⌜ Children (now targets) (now sets) (now todo) ⌝ }
-    ensures { λ r. ⌜ ChildrenAdded (now (targets .entry)) (now (sets .entry)) (length (now (targets .entry))) (now (todo .entry)) (mask rows) (now (todo .exit)) (mask r) ⌝ }
+fn add_children(targets: &[u16], room: &mut [Word], rows: Set) -> Set
+    requires { ⌜ Children (now targets) (now room) ⌝ }
+    ensures { λ r. ⌜ ChildrenAdded (now (targets .entry)) (sets-in (now (room .entry))) (length (now (targets .entry)))
+        (todo-in (now (room .entry))) (mask rows) (todo-in (now (room .exit))) (mask r) ⌝ }
 {
     let mut all = rows;
     for i in 0..targets.len() {
         let s = targets[i] as usize;
-        let joined = set::union(rows::get(sets, i), rows::get(todo, s));
-        rows::put(todo, s, joined);
+        let joined = set::union(rows::get(room, Table::STATES + i), rows::get(room, s));
+        rows::put(room, s, joined);
         all = set::insert(all, s);
     }
     all
 }
 
-// Passes the pair (s, t), if it has rank r: it is listed with its transition, and the pairs below it are to be passed.
+// Passes the pair of the walk, which has the walk's rank: it is listed with its transition, and the pairs below it are to be passed.
 fn pass_pair(
-    first: &[u16],
-    second: &[u16],
+    tables: &[u16],
     ranks: &[u16],
-    s: usize,
-    t: usize,
-    r: u16,
     order: &mut [u16],
     choices: &mut [u8],
     counts: &mut [u32],
-    todo: &mut [u64],
-    sets: &mut [u64],
-    rel: &mut [u64],
-    x: &mut [u32],
-    p: Progress,
-) -> Progress
-    requires { ⌜ PassGiven (now first) (now second) (now ranks) (now order) (now choices) (now todo) (now sets) (now rel) (now x)
-        × Passing (now first) (now second) r (now order) (p .count) (now todo) (mask (p .rows))
-        × Noted (now first) (now second) (now order) (p .count) (now choices) × Tally (now first) (now second) (now counts) (p .bytes) × T (member (row-of (now todo) s) t) ⌝ }
-    ensures { λ q. ⌜ PairPassed (now (first .entry)) (now (second .entry)) r s t (now (order .entry)) (p .count) (now (todo .entry))
-        (now (order .exit)) (q .count) (now (todo .exit)) (mask (q .rows))
-        × Noted (now (first .entry)) (now (second .entry)) (now (order .exit)) (q .count) (now (choices .exit))
-        × Tallied (now (first .entry)) (now (second .entry)) (now (counts .entry)) (p .bytes) (now (counts .exit)) (q .bytes) ⌝ }
+    room: &mut [Word],
+    amounts: &mut [u32],
+    w: Walk,
+) -> Walk
+    requires { ⌜ PassGiven (now tables) (now ranks) (now order) (now choices) (now room) (now amounts)
+        × Passing (now tables) (w .rank) (now order) (w .count) (todo-in (now room)) (mask (w .rows))
+        × Noted (now tables) (now order) (w .count) (now choices) × Tally (now tables) (now counts) (w .bytes)
+        × T (member (row-of (todo-in (now room)) (w .s)) (w .t)) × (w .rank ≡ rank (first-table (now tables)) (second-table (now tables)) (w .s) (w .t)) ⌝ }
+    ensures { λ v. ⌜ PairPassed (now (tables .entry)) (w .rank) (w .s) (w .t) (now (order .entry)) (w .count) (todo-in (now (room .entry)))
+        (now (order .exit)) (v .count) (todo-in (now (room .exit))) (mask (v .rows))
+        × Noted (now (tables .entry)) (now (order .exit)) (v .count) (now (choices .exit))
+        × Tallied (now (tables .entry)) (now (counts .entry)) (w .bytes) (now (counts .exit)) (v .bytes)
+        × (v .s ≡ w .s) × (v .rank ≡ w .rank) ⌝ }
 {
-    if rank_at(second, ranks, s, t) != r {
-        return p;
-    }
-    let j = choose(first, second, ranks, s, t, r, sets, rel, x);
-    let rest = set::remove(rows::get(todo, s), t);
-    rows::put(todo, s, rest);
-    let count = p.count;
-    note(second, s, t, j, count, order, choices);
-    let bytes = count::hand_on(first, second, s, t, j, sets, counts, p.bytes);
-    let rows = add_children(form::targets(first, j), sets, todo, p.rows);
-    Progress {
+    let s = w.s as usize;
+    let t = w.t as usize;
+    let sets = &mut room[Room::SETS_AT..Room::WORDS];
+    let j = choose(tables, ranks, s, t, w.rank, sets, amounts);
+    rows::put(room, s, set::remove(rows::get(room, s), t));
+    let count = w.count;
+    note(tables, s, t, j, count, order, choices);
+    let bytes = count::hand_on(
+        tables,
+        s,
+        t,
+        j,
+        &room[Room::SETS_AT..Room::WORDS],
+        counts,
+        w.bytes,
+    );
+    let rows = add_children(tables::targets(tables, Form::FIRST, j), room, w.rows);
+    Walk {
+        s: w.s,
+        t: w.t,
+        rank: w.rank,
+        bytes,
         count: count + 1,
         rows,
-        bytes,
     }
+}
+
+// The walk at another pair of its row.
+fn at_column(w: Walk, t: usize) -> Walk
+    requires { ⌜ t < most-states ⌝ }
+    ensures { λ v. ⌜ (v .s ≡ w .s) × (v .t ≡ t) × (v .rank ≡ w .rank) × (v .bytes ≡ w .bytes) × (v .count ≡ w .count) × (v .rows ≡ w .rows) ⌝ }
+{
+    let mut v = w;
+    v.t = t as u8;
+    v
 }
 
 // The rows, without s if no pair of s is left.
@@ -115,59 +150,51 @@ fn close_row(rows: Set, s: usize, pairs: Set) -> Set
     rows
 }
 
-// The pairs of s of rank r.
+// The pairs of the walk's row and rank.
 pub fn pass_row(
-    first: &[u16],
-    second: &[u16],
+    tables: &[u16],
     ranks: &[u16],
-    s: usize,
-    r: u16,
     order: &mut [u16],
     choices: &mut [u8],
     counts: &mut [u32],
-    todo: &mut [u64],
-    sets: &mut [u64],
-    rel: &mut [u64],
-    x: &mut [u32],
-    p: Progress,
-) -> Progress
-    requires { ⌜ PassGiven (now first) (now second) (now ranks) (now order) (now choices) (now todo) (now sets) (now rel) (now x)
-        × Passing (now first) (now second) r (now order) (p .count) (now todo) (mask (p .rows))
-        × Noted (now first) (now second) (now order) (p .count) (now choices) × Tally (now first) (now second) (now counts) (p .bytes) × (s < most-states) ⌝ }
-    ensures { λ q. ⌜ RowPassed (now (first .entry)) (now (second .entry)) r s (now (order .entry)) (p .count) (now (todo .entry))
-        (now (order .exit)) (q .count) (now (todo .exit)) (mask (q .rows))
-        × Noted (now (first .entry)) (now (second .entry)) (now (order .exit)) (q .count) (now (choices .exit))
-        × Tallied (now (first .entry)) (now (second .entry)) (now (counts .entry)) (p .bytes) (now (counts .exit)) (q .bytes) ⌝ }
+    room: &mut [Word],
+    amounts: &mut [u32],
+    w: Walk,
+) -> Walk
+    requires { ⌜ PassGiven (now tables) (now ranks) (now order) (now choices) (now room) (now amounts)
+        × Passing (now tables) (w .rank) (now order) (w .count) (todo-in (now room)) (mask (w .rows))
+        × Noted (now tables) (now order) (w .count) (now choices) × Tally (now tables) (now counts) (w .bytes) × (w .s < most-states) ⌝ }
+    ensures { λ v. ⌜ RowPassed (now (tables .entry)) (w .rank) (w .s) (now (order .entry)) (w .count) (todo-in (now (room .entry)))
+        (now (order .exit)) (v .count) (todo-in (now (room .exit))) (mask (v .rows))
+        × Noted (now (tables .entry)) (now (order .exit)) (v .count) (now (choices .exit))
+        × Tallied (now (tables .entry)) (now (counts .entry)) (w .bytes) (now (counts .exit)) (v .bytes)
+        × (v .rank ≡ w .rank) ⌝ }
 {
-    let mut q = p;
-    let pairs = rows::get(todo, s);
-    for w in 0..Set::WORDS {
-        let mut left = pairs.words[w];
+    let rank = w.rank;
+    let s = w.s as usize;
+    let base = s * tables::states(tables, Form::SECOND);
+    let pairs = rows::get(room, s);
+    let mut v = w;
+    for k in 0..Set::WORDS {
+        let mut left = pairs.words[k];
         while left != 0 {
-            let t = walk::lowest(pairs, w, left);
-            q = pass_pair(
-                first,
-                second,
+            let t = walk::lowest(pairs, k, left);
+            left = walk::without_lowest(pairs, k, left);
+            if ranks[base + t] != rank {
+                continue;
+            }
+            v = pass_pair(
+                tables,
                 ranks,
-                s,
-                t,
-                r,
                 order,
                 choices,
                 counts,
-                todo,
-                sets,
-                rel,
-                x,
-                q,
+                room,
+                amounts,
+                at_column(v, t),
             );
-            left = walk::without_lowest(pairs, w, left);
         }
     }
-    let rows = close_row(q.rows, s, rows::get(todo, s));
-    Progress {
-        count: q.count,
-        rows,
-        bytes: q.bytes,
-    }
+    v.rows = close_row(v.rows, s, rows::get(room, s));
+    v
 }

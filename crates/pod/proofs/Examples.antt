@@ -14,7 +14,8 @@ use Rattle.simulation.specs.Demands.{Kept}
 use Rattle.simulation.specs.Tree.{node-bytes, tree}
 use Rattle.simulation.specs.Examples as tables
 use Rattle.layout.specs.Bytes.{decode}
-use Rattle.flows.specs.Flow.{Right, place, flow-record, flow-row, flow-records, count, flow-of, flow-bytes}
+use Rattle.fit.specs.Partner.{place}
+use Rattle.flows.specs.Flow.{Right, flow-record, flow-row, flow-records, count, flow-of, flow-bytes}
 use Rattle.compare.specs.Outcome.{success, with-flow, outcome, kept-outcome, left}
 use Rattle.pod.specs.Check.{checked, RightFor}
 use Rattle.pod.specs.Examples.{flow-CP, tree-fits, tree-short, itself, flow-fits, flow-short, one-state, no-bytes, cut-short, byte-more, codes-exchanged, second-cut-short, rows, Covered, All, done, _also_}

@@ -1,11 +1,17 @@
 -- From the bytes of two tables, by what reading them told, to what a call does.
 -- Assumes nothing.
-use mathlib.Core.Path.{_≡_, sym, ap, _∙_, subst}
-use mathlib.Core.List.{List}
+use mathlib.Core.Path.{_≡_, sym, ap, _∙_, subst, subst₂}
+use mathlib.Core.List.{List, _++_}
 use mathlib.Core.Logic.{_≢_}
-use Prim.Native.Nat.{ℕ}
+use Prim.Native.Nat.{ℕ, _+_, _≤_}
+use native.Mathlib.Omega.{arith}
+use lib.ListN.{length, replicate, take, drop, length-append, length-replicate}
+use lib.Seq.{take-at}
 use Rattle.simulation.specs.Table.{Table}
-use Rattle.form.specs.Form.{table-of, Loaded}
+use Rattle.buffer.specs.Buffer.{with-part}
+use Rattle.buffer.proofs.Parts.{part-size, part-is, part-before, part-length}
+use Rattle.form.specs.Form.{form-size, table-of, Loaded}
+use Rattle.form.specs.Tables.{first-form, second-form, first-table, second-table, BothLoaded}
 use Rattle.layout.specs.Bytes.{Decoded, refused, accepted, decode, table, refusal as refused-by}
 use Rattle.loading.specs.Fill.{Reads}
 use Rattle.layout.proofs.DecodeLaws.{decode-accepted}
@@ -52,6 +58,40 @@ module _ (first second : List ℕ) (s t : ℕ) (b : Buffers) where
 pub loaded-by : {bytes f f′ : List ℕ} {m : ℕ} → Reads bytes f m f′ → m ≡ 0 → Loaded f′
 loaded-by p z = p .accepted (sym (p .number) ∙ z) .loaded
 
+-- both forms in one list of ones: the first is read, then the second
+abbrev ones : List ℕ
+ones = replicate form-size 1
+
+module _ {first f p : List ℕ} {m : ℕ} (a : Reads first f m p) (size : length p ≡ form-size) where
+  both-length : length (p ++ ones) ≡ form-size + form-size
+  both-length = length-append p ones ∙ omega (arith, length-replicate {A = ℕ} form-size 1)
+
+  pub room : form-size + form-size ≤ length (p ++ ones)
+  room = omega (arith, both-length)
+
+  module _ {second g q : List ℕ} {n : ℕ} (b : Reads second g n q) (same : length q ≡ length (take form-size (drop form-size (p ++ ones)))) where
+    size′ : length q ≡ form-size
+    size′ = same ∙ part-size form-size form-size (p ++ ones) room
+
+    abbrev tables : List ℕ
+    tables = with-part form-size form-size q (p ++ ones)
+
+    pub tables-length : length tables ≡ form-size + form-size
+    tables-length = part-length form-size form-size q (p ++ ones) size′ room ∙ both-length
+
+    first-is : first-form tables ≡ p
+    first-is = part-before form-size form-size q (p ++ ones) size′ room 0 form-size (omega arith) ∙ take-at p ones form-size size
+
+    second-is : second-form tables ≡ q
+    second-is = part-is form-size form-size q (p ++ ones) size′ room
+
+    pub both-loaded : m ≡ 0 → n ≡ 0 → BothLoaded tables
+    both-loaded y z = record { first = subst Loaded (sym first-is) (loaded-by a y); second = subst Loaded (sym second-is) (loaded-by b z) }
+
+    pub forms-compared : {s t : ℕ} {l : Buffers} {r : Result} → Compared (first-table tables) (second-table tables) s t l r → Compared (table-of p) (table-of q) s t l r
+    forms-compared {s} {t} {l} {r} h = subst₂ (λ (f g : List ℕ). Compared (table-of f) (table-of g) s t l r) first-is second-is h
+
+-- what a call does
 module _ (first second : List ℕ) (s t : ℕ) (b : Buffers) {f f′ : List ℕ} {m : ℕ} (p : Reads first f m f′) where
   pub read-first-refused : {r : Answer} → m ≢ 0 → r ≡ refusal m 1 0 → Checked first second s t b (left r b)
   read-first-refused d e = subst (λ (q : Answer). Checked first second s t b (left q b)) (sym e) (first-is-refused first second s t b (decodes-refused first m (p .number) d))

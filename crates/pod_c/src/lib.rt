@@ -17,7 +17,8 @@ pub extern "C" fn pod_check_table(table: &[u8], answer: &mut [u32])
     answer::put(pod::check_table(table), answer);
 }
 
-// Checks the first table against the second and shows the pair (s, t). An answer buffer of fewer than eight numbers gets nothing, and then nothing else is touched.
+// Checks the first table against the second and shows the pair (s, t). An answer buffer of fewer than eight numbers gets nothing, and then
+// nothing else is touched.
 #[no_mangle]
 pub extern "C" fn pod_check(
     first: &[u8],

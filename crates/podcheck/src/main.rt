@@ -6,6 +6,7 @@ ghost use Prim.Native.Nat.{_*_, _≤_};
 ghost use lib.ListN.{length, take};
 ghost use Rattle.io.specs.Counts.{Counts};
 ghost use Rattle.podcheck.specs.Printed.{Counted, Printed, Answered};
+ghost use Rattle.simulation.specs.Limits.{few-pairs};
 ghost use Rattle.report.specs.Text.{text-bound, longest-text, short-text};
 use bytes;
 use libc::STDIN_FILENO;
@@ -31,11 +32,9 @@ const SHORT_INPUT: usize = 2 * (2 + TABLE) + 1;
 // The most pairs and the most bytes of a tree, and of those that have short buffers.
 const RANKS: usize = Table::PAIRS;
 
-const TREE: usize = 65_535;
+const TREE: usize = Table::TREE_BYTES as usize;
 
-const SHORT_RANKS: usize = 600;
-
-const SHORT_TREE: usize = 1_023;
+const SHORT_RANKS: usize = Table::FEW_PAIRS;
 
 // The text for the two tables in the input, which have p and q states, at the start of `text`. Returns its length, 0 where the tree is
 // longer than `tree`. No flow is asked for: the text shows none.
@@ -64,12 +63,12 @@ fn answer(
 // The same for few pairs and a short tree; 0 where the tree is longer. What the buffers hold at first is free: ranks of 1 are written in
 // words, where zeros become a call of memset.
 fn answer_short(input: &[u8], p: usize, q: usize, text: &mut [u8]) -> usize
-    requires { ⌜ Counted (now input) p q × (p * q ≤ 600) × (short-text ≤ length (now text)) ⌝ }
+    requires { ⌜ Counted (now input) p q × (p * q ≤ few-pairs) × (short-text ≤ length (now text)) ⌝ }
     ensures { λ r. ⌜ (r ≢ 0 → Printed (now (input .entry)) (now (text .entry)) r (now (text .exit))) ⌝ }
     ensures { λ r. ⌜ Counts r (now (text .exit)) ⌝ }
 {
     let mut ranks = [1u16; SHORT_RANKS];
-    let mut tree = [0u8; SHORT_TREE];
+    let mut tree = [0u8; report::SHORT_TREE];
     answer(input, p, q, &mut ranks, &mut tree, text)
 }
 
@@ -86,7 +85,7 @@ fn answer_long(input: &[u8], p: usize, q: usize, text: &mut [u8]) -> usize
 
 // Prints the answer and returns true, or nothing and false where it takes long buffers.
 fn print_short(input: &[u8], p: usize, q: usize) -> bool
-    requires { ⌜ Counted (now input) p q × (p * q ≤ 600) ⌝ }
+    requires { ⌜ Counted (now input) p q × (p * q ≤ few-pairs) ⌝ }
 {
     let mut text = [0u8; report::SHORT_TEXT];
     let len = answer_short(input, p, q, &mut text);

@@ -14,11 +14,16 @@ use Rattle.simulation.specs.Limits.{most-states}
 use Rattle.relation.specs.Mask.{size}
 use Rattle.simulation.specs.Sum.{sum, when}
 use Rattle.simulation.specs.Table.{Table, states-of}
-use Rattle.simulation.specs.Round.{pairs, rank, rank-list, zeros}
+use Rattle.simulation.specs.Round.{related, round, pairs, rank, rank-list, zeros}
 use Rattle.simulation.proofs.Finite.Sums.{sum-ext, members}
+use Rattle.simulation.proofs.Finite.Tests.{is-false}
+use Rattle.simulation.proofs.Simulation.Rounds.{in-right}
+use Rattle.simulation.proofs.Simulation.Ranks.{rank-law}
 use Rattle.simulation.proofs.Simulation.RankList.{rank-list-length, rank-list-at, kept-count}
 use Rattle.buffer.specs.Buffer.{over}
-use Rattle.relation.specs.Related.{holds}
+use Rattle.relation.specs.Related.{holds, pairs-of}
+use Rattle.fit.specs.Held.{held}
+use Rattle.rounds.proofs.RoundLaws.{held-round, kept-at}
 
 -- a place of a list of p rows of q numbers is a row and a column
 pub place : (p q i : ℕ) → i < p * q → (s : ℕ) × (t : ℕ) × (s < p) × (t < q) × (i ≡ s * q + t)
@@ -74,10 +79,19 @@ size-within w q X l h =
 pub kept-are : (M N : Table) (rows : List ℕ) → states-of N ≤ most-states
     → ((s t : ℕ) → s < states-of M → t < states-of N → holds rows s t ≡ eqb (rank M N s t) 0)
     → ((s t : ℕ) → s < states-of M → states-of N ≤ t → holds rows s t ≡ false)
-    → sum (states-of M) (λ s. size most-states (holds rows s)) ≡ zeros (rank-list M N)
+    → pairs-of (states-of M) (holds rows) ≡ zeros (rank-list M N)
 kept-are M N rows l f g =
     sum-ext (states-of M) (λ s. size most-states (holds rows s)) (λ s. members (states-of N) (λ t. eqb (rank M N s t) 0))
     (λ s a.
     size-within most-states (states-of N) (holds rows s) l (λ t b. g s t a b)
     ∙ sum-ext (states-of N) (λ t. when (holds rows s t) 1) (λ t. when (eqb (rank M N s t) 0) 1) (λ t b. ap (λ (c : Bool). when c 1) (f s t a b)))
     ∙ sym (kept-count M N)
+
+-- the rows hold the last round
+pub kept-round : (M N : Table) (rows : List ℕ) → ((s t : ℕ) → s < states-of M → t < states-of N → holds rows s t ≡ eqb (rank M N s t) 0)
+    → ((s t : ℕ) → s < states-of M → states-of N ≤ t → holds rows s t ≡ false) → held M N rows ≡ round M N (pairs M N)
+kept-round M N rows f g = held-round M N (pairs M N) rows (λ s t a. go s t a (decLt t (states-of N)))
+  where
+    go : (s t : ℕ) → s < states-of M → Dec (t < states-of N) → holds rows s t ≡ related (round M N (pairs M N)) s t
+    go s t a (yes b) = f s t a b ∙ sym (kept-at M N (pairs M N) s t a b (rank-law M N s t a b .bound))
+    go s t a (no b) = g s t a (omega arith) ∙ sym (is-false (related (round M N (pairs M N)) s t) (λ h. b (in-right M N (pairs M N) s t h)))

@@ -1,23 +1,27 @@
 // The ranks of all pairs of states of two tables, round by round.
-use relation::Relation;
+use form::Form;
+use form::tables;
+use links::Marks;
+use links::Sets;
+use relation::Word;
 use relation::rows;
 use relation::set;
-use relation::set::Set;
 use simulation::Table;
 ghost use mathlib.Core.Path.{_≡_};
 ghost use Prim.Native.Nat.{ℕ, _+_, _*_, _<_, _≤_};
 ghost use lib.ListN.{length, getD};
-ghost use Rattle.simulation.specs.Limits.{most-pairs, most-states, most-transitions};
+ghost use Rattle.simulation.specs.Limits.{most-states, most-transitions};
 ghost use Rattle.relation.specs.Mask.{both, up-to};
-ghost use Rattle.relation.specs.Words.{words, height};
-ghost use Rattle.simulation.specs.Table.{states-of};
-ghost use Rattle.form.specs.Form.{Loaded, table-of, transitions-of};
+ghost use Rattle.relation.specs.Words.{height};
 ghost use Rattle.relation.specs.Related.{holds};
-ghost use Rattle.rounds.specs.Rounds.{Cleared, Refined};
-ghost use Rattle.ranking.specs.Rows.{Ample, Filled};
+ghost use Rattle.form.specs.Form.{transitions-of};
+ghost use Rattle.form.specs.Tables.{first-form, first-table, second-table};
+ghost use Rattle.links.specs.Places.{HasSets, HasMarks};
+ghost use Rattle.rounds.specs.Turns.{work, Refined};
+ghost use Rattle.ranking.specs.Rows.{Zeroed, Unranked, Ranking, RanksFilled};
 
 // The first p rows, cut to the numbers below q.
-fn narrow(rows: &mut [u64], p: usize, q: usize)
+fn narrow(rows: &mut [Word], p: usize, q: usize)
     requires { ⌜ (p ≤ height (now rows)) × (q ≤ most-states) ⌝ }
     ensures { λ r. ⌜ ((s t : ℕ) → s < p → holds (now (rows .exit)) s t ≡ both (holds (now (rows .entry)) s) (up-to q) t) ⌝ }
 {
@@ -30,9 +34,9 @@ fn narrow(rows: &mut [u64], p: usize, q: usize)
 }
 
 // Zeros in the first n places.
-fn clear(ranks: &mut [u16], n: usize)
+fn clear_ranks(ranks: &mut [u16], n: usize)
     requires { ⌜ n ≤ length (now ranks) ⌝ }
-    ensures { λ r. ⌜ Cleared n (now (ranks .entry)) (now (ranks .exit)) ⌝ }
+    ensures { λ r. ⌜ Zeroed n (now (ranks .entry)) (now (ranks .exit)) ⌝ }
 {
     let mut i = 0;
     while i < n {
@@ -41,18 +45,24 @@ fn clear(ranks: &mut [u16], n: usize)
     }
 }
 
-fn no_sets() -> [u64; Table::TRANSITIONS * Set::WORDS]
-    ensures { λ r. ⌜ length r ≡ most-transitions * words ⌝ }
+fn no_sets() -> [Word; Sets::WORDS]
+    ensures { λ r. ⌜ HasSets r × ((i : ℕ) → getD r i 0 ≡ 0) ⌝ }
 {
-    [0u64; Table::TRANSITIONS * Set::WORDS]
+    [0; Sets::WORDS]
+}
+
+fn no_marks() -> [Word; Marks::WORDS]
+    ensures { λ r. ⌜ HasMarks r × ((i : ℕ) → getD r i 0 ≡ 0) ⌝ }
+{
+    [0; Marks::WORDS]
 }
 
 // A table with no more transitions than this has a short list of what was tried: most of the work of a small check would else be to
 // clear a long one.
-const FEW: usize = 16;
+const FEW: usize = 15;
 
 fn few_tried() -> [u8; (FEW + 1) * Table::STATES]
-    ensures { λ r. ⌜ (length r ≡ 17 * most-states) × ((i : ℕ) → getD r i 0 ≡ 0) ⌝ }
+    ensures { λ r. ⌜ (length r ≡ 16 * most-states) × ((i : ℕ) → getD r i 0 ≡ 0) ⌝ }
 {
     [0u8; (FEW + 1) * Table::STATES]
 }
@@ -71,94 +81,71 @@ pub struct Ranked {
     pub kept: u16,
 }
 
-// The ranks, in memory lent for the work, of which `rows` is full before; it holds the kept pairs after.
+// The ranks, in memory lent for the work, of which the rows are full before; they hold the kept pairs after.
 fn fill_ranks(
-    first: &[u16],
-    second: &[u16],
-    masks: &mut [u64],
+    tables: &[u16],
     ranks: &mut [u16],
-    rows: &mut [u64],
-    doubt: &mut [u64],
-    lost: &mut [u64],
-    before: &mut [u64],
-    behind: &mut [u64],
+    sets: &mut [Word],
+    rows: &mut [Word],
+    marks: &mut [Word],
     tried: &mut [u8],
-    x: &mut [u32],
+    amounts: &mut [u32],
 ) -> u16
-    requires { ⌜ Ample (now first) (now second) (now masks) (now ranks) (now rows) (now doubt) (now lost) (now before) (now behind) (now tried) (now x) ⌝ }
-    ensures { λ r. ⌜ Refined (table-of (now (first .entry))) (table-of (now (second .entry))) (now (ranks .entry)) (now (ranks .exit)) (now (rows .exit)) r ⌝ }
+    requires { ⌜ Unranked (now tables) (work (now ranks) (now sets) (now rows) (now marks) (now tried) (now amounts)) ⌝ }
+    ensures { λ r. ⌜ Refined (first-table (now (tables .entry))) (second-table (now (tables .entry)))
+        (now (ranks .entry)) (now (ranks .exit)) (now (rows .exit)) r ⌝ }
 {
-    let p = form::states(first);
-    let q = form::states(second);
-    clear(ranks, p * q);
+    let p = tables::states(tables, Form::FIRST);
+    let q = tables::states(tables, Form::SECOND);
+    clear_ranks(ranks, p * q);
     narrow(rows, p, q);
-    links::link(first, before);
-    links::link(second, behind);
-    matching::target_sets(second, masks);
-    rounds::refine(
-        first,
-        second,
-        masks,
-        ranks,
-        rows,
-        doubt,
-        lost,
-        before,
-        behind,
-        tried,
-        x,
-    )
+    links::link(
+        tables,
+        Form::FIRST,
+        &mut sets[Sets::BEFORE_AT..Sets::BEHIND_AT],
+    );
+    links::link(
+        tables,
+        Form::SECOND,
+        &mut sets[Sets::BEHIND_AT..Sets::TARGETS_AT],
+    );
+    fit::target_sets(tables, &mut sets[Sets::TARGETS_AT..Sets::WORDS]);
+    rounds::refine(tables, ranks, sets, rows, marks, tried, amounts)
 }
 
 // The ranks of all pairs of states, where nothing was tried.
 fn rank_untried(
-    first: &[u16],
-    second: &[u16],
+    tables: &[u16],
     ranks: &mut [u16],
+    rows: &mut [Word],
     tried: &mut [u8],
-    x: &mut [u32],
+    amounts: &mut [u32],
 ) -> Ranked
-    requires { ⌜ Loaded (now first) × Loaded (now second) × (states-of (table-of (now first)) * states-of (table-of (now second)) ≤ length (now ranks)) × (most-pairs ≤ length (now x))
-        × ((transitions-of (now first) + 1) * most-states ≤ length (now tried)) × ((i : ℕ) → getD (now tried) i 0 ≡ 0) ⌝ }
-    ensures { λ r. ⌜ Filled (table-of (now (first .entry))) (table-of (now (second .entry))) (now (ranks .entry)) (now (ranks .exit)) (r .rounds) (r .kept) ⌝ }
+    requires { ⌜ Ranking (now tables) (now ranks) (now rows) (now amounts)
+        × ((transitions-of (first-form (now tables)) + 1) * most-states ≤ length (now tried)) × ((i : ℕ) → getD (now tried) i 0 ≡ 0) ⌝ }
+    ensures { λ r. ⌜ RanksFilled (now (tables .entry)) (now (ranks .entry)) (now (ranks .exit)) (now (rows .exit)) (r .rounds) (r .kept) ⌝ }
 {
-    let all = Relation::full();
-    let none = Relation::empty();
-    let mut rows = all.rows;
-    let mut doubt = none.rows;
-    let mut lost = none.rows;
-    let mut before = none.rows;
-    let mut behind = none.rows;
-    let mut masks = no_sets();
-    let rounds = fill_ranks(
-        first,
-        second,
-        &mut masks,
-        ranks,
-        &mut rows,
-        &mut doubt,
-        &mut lost,
-        &mut before,
-        &mut behind,
-        tried,
-        x,
-    );
-    let left = Relation { rows: rows };
+    let mut sets = no_sets();
+    let mut marks = no_marks();
+    let rounds = fill_ranks(tables, ranks, &mut sets, rows, &mut marks, tried, amounts);
+    let kept = rows::count(rows, tables::states(tables, Form::FIRST));
     Ranked {
         rounds: rounds,
-        kept: left.kept(form::states(first)) as u16,
+        kept: kept as u16,
     }
 }
 
-// The ranks of all pairs of states, row by row from the start of `ranks`. `x` is working memory for flows.
-pub fn rank(first: &[u16], second: &[u16], ranks: &mut [u16], x: &mut [u32]) -> Ranked
-    requires { ⌜ Loaded (now first) × Loaded (now second) × (states-of (table-of (now first)) * states-of (table-of (now second)) ≤ length (now ranks)) × (most-pairs ≤ length (now x)) ⌝ }
-    ensures { λ r. ⌜ Filled (table-of (now (first .entry))) (table-of (now (second .entry))) (now (ranks .entry)) (now (ranks .exit)) (r .rounds) (r .kept) ⌝ }
+// The ranks of all pairs of states, row by row from the start of `ranks`. The rows, which are full before, hold the kept pairs after.
+// `amounts` is working memory for flows.
+pub fn rank(tables: &[u16], ranks: &mut [u16], rows: &mut [Word], amounts: &mut [u32]) -> Ranked
+    requires { ⌜ Ranking (now tables) (now ranks) (now rows) (now amounts) ⌝ }
+    ensures { λ r. ⌜ RanksFilled (now (tables .entry)) (now (ranks .entry)) (now (ranks .exit)) (now (rows .exit)) (r .rounds) (r .kept) ⌝ }
 {
-    if form::first(first, form::states(first)) <= FEW {
+    let n = tables::start_of(tables, Form::FIRST, tables::states(tables, Form::FIRST));
+    if n <= FEW {
         let mut tried = few_tried();
-        return rank_untried(first, second, ranks, &mut tried, x);
+        return rank_untried(tables, ranks, rows, &mut tried, amounts);
     }
     let mut tried = none_tried();
-    rank_untried(first, second, ranks, &mut tried, x)
+    rank_untried(tables, ranks, rows, &mut tried, amounts)
 }

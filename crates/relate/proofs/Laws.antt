@@ -1,15 +1,15 @@
 -- Rows one by one, and what they are of a round.
 -- Assumes nothing.
 use mathlib.Core.Path.{_≡_, refl, sym, _∙_, ap, subst}
-use mathlib.Core.Bool.{false, _||_, _&&_}
+use mathlib.Core.Bool.{_&&_}
 use mathlib.Core.List.{List}
-use mathlib.Core.Logic.{_⊎_, inl, inr, ⊎-elim}
+use mathlib.Core.Logic.{inl, inr, ⊎-elim}
 use Prim.Native.Nat.{ℕ, suc, _+_, _-_, _*_, _<_, _≤_, min}
 use native.Mathlib.Nat.{not-suc-le-zero, suc-mul, mul-le-mul-right}
 use native.Mathlib.Decide.{ℕ-discrete}
 use native.Mathlib.Omega.{arith}
 use lib.Dec.{eqb, leb, eqb→eq, leb→le, le→leb}
-use borrow.Author.Tests.{lt-ltb, le-ltb, lt-leb}
+use borrow.Author.Tests.{lt-ltb}
 use lib.ListN.{length, getD, take, drop, length-take, length-drop}
 use lib.Seq.{getD-take, getD-drop}
 use Rattle.simulation.specs.Table.{Table, states-of}
@@ -73,13 +73,6 @@ module _ (M N : Table) (s t : ℕ) (a : s < states-of M) (b : t < states-of N) w
       (λ l. or-right (eqb (rank M N s t) 0) (leb (suc r) (rank M N s t)) (le→leb (suc r) (rank M N s t) l))
       (rank-law M N s t a b .within r .0 x))
 
-  -- an r above every rank gives the relation of kept pairs
-  pub lasts-kept : (r : ℕ) → pairs M N < r → lasts r (rank M N s t) ≡ related (round M N (pairs M N)) s t
-  lasts-kept r lt = ap (λ b. eqb (rank M N s t) 0 || b) (lt-leb r (rank M N s t) (omega (arith, bound)) ∙ sym (lt-leb (suc (pairs M N)) (rank M N s t) (omega (arith, bound)))) ∙ lasts-round (pairs M N)
-    where
-      bound : rank M N s t ≤ pairs M N
-      bound = rank-law M N s t a b .bound
-
 -- the rows of targets that are states, out of the ranks of two tables
 module _ (M N : Table) (ranks : List ℕ) (right : (s t : ℕ) → s < states-of M → t < states-of N → getD ranks (s * states-of N + t) 0 ≡ rank M N s t) where
   pub indexed : pairs M N ≤ length ranks → (s : ℕ) (nt : List ℕ) → s < states-of M → ((j : ℕ) → j < length nt → getD nt j 0 < states-of N)
@@ -98,12 +91,3 @@ module _ (M N : Table) (ranks : List ℕ) (right : (s t : ℕ) → s < states-of
     pub rows-round : (r : ℕ) → Rows ranks (states-of N) (suc r) mt nt rel rel′ → (i j : ℕ) → i < length mt → j < length nt
         → member (row-of rel′ i) j ≡ related (round M N r) (getD mt i 0) (getD nt j 0)
     rows-round r w i j li lj = row-test (suc r) w i j li lj ∙ lasts-round M N (getD mt i 0) (getD nt j 0) (a i li) (b j lj) r
-
-    pub rows-kept : (r : ℕ) → pairs M N < r → Rows ranks (states-of N) r mt nt rel rel′ → (i j : ℕ) → i < length mt → j < length nt
-        → member (row-of rel′ i) j ≡ related (round M N (pairs M N)) (getD mt i 0) (getD nt j 0)
-    rows-kept r lt w i j li lj = row-test r w i j li lj ∙ lasts-kept M N (getD mt i 0) (getD nt j 0) (a i li) (b j lj) r lt
-
--- no row has a member past the targets
-pub rows-past : {ranks mt nt rel rel′ : List ℕ} {width r : ℕ} → Rows ranks width r mt nt rel rel′ → (i j : ℕ) → i < length mt → length nt ≤ j → member (row-of rel′ i) j ≡ false
-rows-past {ranks} {mt} {nt} {width = width} {r = r} w i j li le =
-    ap (λ X. X j) (w .masks i li) ∙ ap (λ c. c && row ranks width r (getD mt i 0) nt j) (le-ltb j (length nt) le)

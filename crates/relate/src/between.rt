@@ -1,4 +1,5 @@
 // The relation of a round between the targets of two transitions, a set to a target, out of the ranks of all pairs.
+use relation::Word;
 use relation::ranks::lasts;
 use relation::rows;
 use relation::set;
@@ -9,15 +10,15 @@ ghost use Prim.Native.Nat.{ℕ, _+_, _*_, _<_, _≤_};
 ghost use lib.ListN.{length, getD};
 ghost use Rattle.simulation.specs.Limits.{most-states};
 ghost use Rattle.relation.specs.Mask.{member, part};
-ghost use Rattle.relation.specs.Words.{mask, height};
+ghost use Rattle.relation.specs.Words.{word-bits, mask, height};
 ghost use Rattle.relate.specs.Rows.{row, Indexed, Rows};
 
-// The targets of nt, at most 64, that the state s is related to, by position.
-fn row_word(ranks: &[u16], width: usize, r: u16, s: usize, nt: &[u16]) -> u64
-    requires { ⌜ (length (now nt) ≤ 64) × Indexed (now ranks) width s (now nt) ⌝ }
+// The targets of nt, at most as many as a word has bits, that the state s is related to, by position.
+fn row_word(ranks: &[u16], width: usize, r: u16, s: usize, nt: &[u16]) -> Word
+    requires { ⌜ (length (now nt) ≤ word-bits) × Indexed (now ranks) width s (now nt) ⌝ }
     ensures { λ b. ⌜ member b ≡ part (length (now (nt .entry))) (row (now (ranks .entry)) width r s (now (nt .entry))) ⌝ }
 {
-    let mut set = 0u64;
+    let mut set: Word = 0;
     for j in 0..nt.len() {
         let t = nt[j] as usize;
         let rank = ranks[s * width + t];
@@ -46,7 +47,7 @@ pub fn row(ranks: &[u16], width: usize, r: u16, s: usize, nt: &[u16]) -> Set
 }
 
 // Row i of rel becomes the row of the target at position i of mt.
-pub fn rows(ranks: &[u16], width: usize, r: u16, mt: &[u16], nt: &[u16], rel: &mut [u64])
+pub fn rows(ranks: &[u16], width: usize, r: u16, mt: &[u16], nt: &[u16], rel: &mut [Word])
     requires { ⌜ (length (now nt) ≤ most-states) × (length (now mt) ≤ height (now rel))
         × ((i : ℕ) → i < length (now mt) → Indexed (now ranks) width (getD (now mt) i 0) (now nt)) ⌝ }
     ensures { λ _. ⌜ Rows (now (ranks .entry)) width r (now (mt .entry)) (now (nt .entry)) (now (rel .entry)) (now (rel .exit)) ⌝ }

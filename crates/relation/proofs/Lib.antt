@@ -3,5 +3,7 @@
 pub mod Mask
 pub mod Words
 pub mod Sets
+pub mod Parts
+pub mod Clearing
 pub mod Relations
 pub mod Lasting

@@ -284,51 +284,75 @@ part-take F k ts h =
     ap (λ (n : ℕ). part n (λ j. F (getD (take k ts) j 0))) m
     ∙ part-ext k (λ j. F (getD (take k ts) j 0)) (λ j. F (getD ts j 0)) (λ j l. ap F (getD-take k ts j 0 l))
 
--- these places as a set, made a word at a time: the first w words are filled
-pub record Filled (F : Test) (ts : List ℕ) (w : ℕ) (l : List ℕ) : Type 0 where
+-- the first w words of a list have the bits of a test
+pub record FilledBy (X : Test) (w : ℕ) (l : List ℕ) : Type 0 where
   pub size : length l ≡ words
-  pub each : (v : ℕ) → v < w → member (getD l v 0) ≡ part 64 (λ u. passing F ts (v * 64 + u))
+  pub each : (v : ℕ) → v < w → member (getD l v 0) ≡ part 64 (λ u. X (v * 64 + u))
+
+module _ (X : Test) where
+  pub by-start : {l : List ℕ} → length l ≡ words → FilledBy X 0 l
+  by-start size = record { size = size; each = λ v lt. absurd (not-suc-le-zero lt) }
+
+  pub by-next : (w x : ℕ) {l : List ℕ} → w < words → FilledBy X w l → member x ≡ part 64 (λ u. X (w * 64 + u)) → FilledBy X (w + 1) (set l w x)
+  by-next w x {l} lw h e = record { size = length-set l w x ∙ h .size; each = λ v lt. at v lt (ℕ-discrete v w) }
+    where
+      at : (v : ℕ) → v < w + 1 → Dec (v ≡ w) → member (getD (set l w x) v 0) ≡ part 64 (λ u. X (v * 64 + u))
+      at v lt (yes q) =
+          ap (λ (k : ℕ). member (getD (set l w x) k 0)) q ∙ ap member (getD-set-same l w x 0 (omega (arith, h .size))) ∙ e
+          ∙ ap (λ (k : ℕ). part 64 (λ u. X (k * 64 + u))) (sym q)
+      at v lt (no ne) = ap member (getD-set-other l w v x 0 ne) ∙ h .each v (omega (arith, ne))
+
+  pub by-all : {w : ℕ} (s : Set) → w ≡ words → ((t : ℕ) → most-states ≤ t → X t ≡ false) → FilledBy X w (s .words) → member (mask s) ≡ X
+  unfolding mask
+  by-all {w} s e out h =
+      words-are words (word-of s) X
+      (λ i u li lu. ap (λ Y. Y u) (h .each i (omega arith)) ∙ ap (λ b. b && X (i * 64 + u)) (lt-ltb u 64 lu))
+      (λ t le. out t (omega arith))
+
+-- the same for the places of a list that pass a test
+abbrev pub Filled : (F : Test) (ts : List ℕ) (w : ℕ) (l : List ℕ) → Type 0
+Filled F ts w l = FilledBy (passing F ts) w l
 
 module _ (F : Test) (ts : List ℕ) where
   pub filled-start : {l : List ℕ} → length l ≡ words → Filled F ts 0 l
-  filled-start size = record { size = size; each = λ v lt. absurd (not-suc-le-zero lt) }
+  filled-start = by-start (passing F ts)
 
   pub filled-next : (w x : ℕ) {l : List ℕ} → w < words → Filled F ts w l → member x ≡ part 64 (λ u. passing F ts (w * 64 + u)) → Filled F ts (w + 1) (set l w x)
-  filled-next w x {l} lw h e = record { size = length-set l w x ∙ h .size; each = λ v lt. at v lt (ℕ-discrete v w) }
-    where
-      at : (v : ℕ) → v < w + 1 → Dec (v ≡ w) → member (getD (set l w x) v 0) ≡ part 64 (λ u. passing F ts (v * 64 + u))
-      at v lt (yes q) =
-          ap (λ (k : ℕ). member (getD (set l w x) k 0)) q ∙ ap member (getD-set-same l w x 0 (omega (arith, h .size))) ∙ e
-          ∙ ap (λ (k : ℕ). part 64 (λ u. passing F ts (k * 64 + u))) (sym q)
-      at v lt (no ne) = ap member (getD-set-other l w v x 0 ne) ∙ h .each v (omega (arith, ne))
+  filled-next = by-next (passing F ts)
 
   pub filled-all : {w : ℕ} (s : Set) → w ≡ words → length ts ≤ most-states → Filled F ts w (s .words) → member (mask s) ≡ passing F ts
-  unfolding mask
-  filled-all {w} s e few h =
-      words-are words (word-of s) (passing F ts)
-      (λ i u li lu. ap (λ X. X u) (h .each i (omega arith)) ∙ ap (λ b. b && passing F ts (i * 64 + u)) (lt-ltb u 64 lu))
-      (λ t out. ap (λ b. b && F (getD ts t 0)) (le-ltb t (length ts) (omega arith)))
+  filled-all s e few h = by-all (passing F ts) s e (λ t out. ap (λ b. b && F (getD ts t 0)) (le-ltb t (length ts) (omega arith))) h
 
--- word w has the places from a to before b
-module _ (F : Test) (ts : List ℕ) (w : ℕ) {a b : ℕ} (ea : a ≡ min (w * 64) (length ts)) (eb : b ≡ min ((w + 1) * 64) (length ts)) where
-  inside : (k : ℕ) → k < b - a → (ltb k (b - a) && F (getD (take (b - a) (drop a ts)) k 0)) ≡ part 64 (λ u. passing F ts (w * 64 + u)) k
+-- word w has the places from a to before b of those below n
+module _ (F : Test) (n w : ℕ) {a b : ℕ} (ea : a ≡ min (w * 64) n) (eb : b ≡ min ((w + 1) * 64) n) where
+  inside : (k : ℕ) → k < b - a → (ltb k (b - a) && F (a + k)) ≡ part 64 (λ u. part n F (w * 64 + u)) k
   inside k lt =
       ap₂ _&&_ (lt-ltb k (b - a) lt ∙ sym (lt-ltb k 64 (omega arith)))
-      (ap F (getD-take (b - a) (drop a ts) k 0 lt ∙ getD-drop a ts k 0 ∙ ap (λ (j : ℕ). getD ts j 0) (steps (a + k) (w * 64 + k) (omega arith)))
-      ∙ sym (ap (λ c. c && F (getD ts (w * 64 + k) 0)) (lt-ltb (w * 64 + k) (length ts) (omega arith))))
+      (ap F (steps (a + k) (w * 64 + k) (omega arith)) ∙ sym (ap (λ c. c && F (w * 64 + k)) (lt-ltb (w * 64 + k) n (omega arith))))
 
-  outside : (k : ℕ) → b - a ≤ k → (ltb k (b - a) && F (getD (take (b - a) (drop a ts)) k 0)) ≡ part 64 (λ u. passing F ts (w * 64 + u)) k
+  outside : (k : ℕ) → b - a ≤ k → (ltb k (b - a) && F (a + k)) ≡ part 64 (λ u. part n F (w * 64 + u)) k
   outside k le =
-      ap (λ c. c && F (getD (take (b - a) (drop a ts)) k 0)) (le-ltb k (b - a) le)
+      ap (λ c. c && F (a + k)) (le-ltb k (b - a) le)
       ∙ sym (⊎-elim
-      (λ lt. ap₂ (λ c d. c && (d && F (getD ts (w * 64 + k) 0))) (lt-ltb k 64 lt) (le-ltb (w * 64 + k) (length ts) (omega arith)))
-      (λ out. ap (λ c. c && passing F ts (w * 64 + k)) (le-ltb k 64 out))
+      (λ lt. ap₂ (λ c d. c && (d && F (w * 64 + k))) (lt-ltb k 64 lt) (le-ltb (w * 64 + k) n (omega arith)))
+      (λ out. ap (λ c. c && part n F (w * 64 + k)) (le-ltb k 64 out))
       (below-or-not k 64))
 
-  pub slice-passing : passing F (take (b - a) (drop a ts)) ≡ part 64 (λ u. passing F ts (w * 64 + u))
-  slice-passing =
-      let m : length (take (b - a) (drop a ts)) ≡ b - a = simp (length-take, length-drop) (omega arith) in
-      fun-ext (λ k. ap (λ (n : ℕ). ltb k n && F (getD (take (b - a) (drop a ts)) k 0)) m ∙ ⊎-elim (inside k) (outside k) (below-or-not k (b - a)))
+  pub word-part : part (b - a) (λ k. F (a + k)) ≡ part 64 (λ u. part n F (w * 64 + u))
+  word-part = fun-ext (λ k. ⊎-elim (inside k) (outside k) (below-or-not k (b - a)))
+
+-- the same for the places of a list
+pub slice-passing : (F : Test) (ts : List ℕ) (w : ℕ) {a b : ℕ} → a ≡ min (w * 64) (length ts) → b ≡ min ((w + 1) * 64) (length ts)
+    → passing F (take (b - a) (drop a ts)) ≡ part 64 (λ u. passing F ts (w * 64 + u))
+slice-passing F ts w {a} {b} ea eb =
+    let m : length (take (b - a) (drop a ts)) ≡ b - a = simp (length-take, length-drop) (omega arith) in
+    fun-ext (λ k.
+    ap (λ (n : ℕ). ltb k n && F (getD (take (b - a) (drop a ts)) k 0)) m
+    ∙ ⊎-elim
+    (λ lt. ap (λ x. ltb k (b - a) && F x) (getD-take (b - a) (drop a ts) k 0 lt ∙ getD-drop a ts k 0))
+    (λ le. ap (λ c. c && F (getD (take (b - a) (drop a ts)) k 0)) (le-ltb k (b - a) le) ∙ sym (ap (λ c. c && F (getD ts (a + k) 0)) (le-ltb k (b - a) le)))
+    (below-or-not k (b - a)))
+    ∙ word-part (λ i. F (getD ts i 0)) (length ts) w ea eb
 
 -- a set that was read from a row
 module _ {Z : Test} {g x : ℕ} (e : g ≡ x) where

@@ -4,13 +4,17 @@ use mathlib.Core.Bool.{cond}
 use mathlib.Core.List.{List}
 use Prim.Native.Nat.{ℕ, zero, suc, _+_, _*_, _/_, _%_, _^_}
 use lib.Dec.{eqb, ltb}
-use lib.ListN.{length, getD, set}
+use lib.ListN.{length, getD, set, take, drop}
 use Rattle.simulation.specs.Limits.{most-states}
 use Rattle.relation.specs.declared.set.Set.{Set}
 
+-- the bits of a word
+abbrev pub word-bits : ℕ
+word-bits = 64
+
 -- so many words have a bit for each state of a table
 abbrev pub words : ℕ
-words = most-states / 64
+words = most-states / word-bits
 
 -- n words, lowest first: digit t of the number is bit t % 64 of word t / 64
 unfoldable pub number : ℕ → (ℕ → ℕ) → ℕ
@@ -33,6 +37,10 @@ row-of rows s = number words (λ i. getD rows (s * words + i) 0)
 -- how many rows
 abbrev pub height : List ℕ → ℕ
 height rows = length rows / words
+
+-- n rows from row a on
+abbrev pub rows-in : (a n : ℕ) → List ℕ → List ℕ
+rows-in a n rows = take (n * words) (drop (a * words) rows)
 
 -- a list with n words from a place on written anew
 unfoldable pub put-words : ℕ → List ℕ → ℕ → (ℕ → ℕ) → List ℕ

@@ -7,14 +7,14 @@ pub mod walk;
 pub mod word;
 
 use crate::set::Set;
+pub use crate::word::Word;
 use simulation::Table;
 ghost use mathlib.Core.Path.{_≡_};
-ghost use Prim.Native.Nat.{_≤_};
 ghost use Rattle.simulation.specs.Limits.{most-states};
-ghost use Rattle.relation.specs.Related.{related, none, «all-below», «pairs-of»};
+ghost use Rattle.relation.specs.Related.{related, none, «all-below»};
 
 pub struct Relation {
-    pub rows: [u64; Relation::WORDS],
+    pub rows: [Word; Relation::WORDS],
 }
 
 impl Relation {
@@ -22,7 +22,7 @@ impl Relation {
     pub const WORDS: usize = Table::STATES * Set::WORDS;
 
     // A word that has all its bits.
-    pub const ALL: u64 = 0xffff_ffff_ffff_ffff;
+    pub const ALL: Word = 0xffff_ffff_ffff_ffff;
 
     // No pair.
     pub fn empty() -> Self
@@ -40,21 +40,5 @@ impl Relation {
         Self {
             rows: [Self::ALL; Self::WORDS],
         }
-    }
-
-    // How many pairs of the first n rows are left.
-    pub fn kept(self, n: usize) -> u32
-        requires { ⌜ n ≤ most-states ⌝ }
-        ensures { λ r. ⌜ r ≡ pairs-of n (related self) ⌝ }
-    {
-        let mut pairs: u32 = 0;
-        for s in 0..n {
-            let at = s * Set::WORDS;
-            let row = Set {
-                words: [self.rows[at], self.rows[at + 1]],
-            };
-            pairs += set::count(row);
-        }
-        pairs
     }
 }

@@ -1,4 +1,5 @@
 // The relation of a round out of ranks: the rank of a pair is the first round that lacks it, 0 where none does.
+use crate::word::Word;
 ghost use mathlib.Core.Path.{_≡_};
 ghost use lib.Dec.{eqb};
 ghost use Rattle.simulation.specs.Sum.{when};
@@ -13,10 +14,10 @@ pub fn kept(rank: u16) -> u32
 
 // 1 for a pair of this rank that is kept by the round before round r, else 0. The rank less one, of 16 bits, is above all others for a
 // rank of 0; it reaches r less one exactly if the sum reaches 2^17.
-pub fn lasts(rank: u16, r: u16) -> u64
+pub fn lasts(rank: u16, r: u16) -> Word
     ensures { λ b. ⌜ b ≡ when (lasts r rank) 1 ⌝ }
 {
     let last = (rank as u32 + 65_535) % 65_536;
     let gap = 131_073 - r as u32;
-    (((last + gap) >> 17) % 2) as u64
+    (((last + gap) >> 17) % 2) as Word
 }

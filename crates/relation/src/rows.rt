@@ -1,13 +1,16 @@
 // The rows of a relation in a lent slice of words: row s from word s * Set::WORDS on.
+use crate::set;
 use crate::set::Set;
 use crate::word;
+use crate::word::Word;
 ghost use mathlib.Core.Path.{_≡_};
-ghost use Prim.Native.Nat.{_<_};
+ghost use Prim.Native.Nat.{ℕ, _≤_, _<_};
 ghost use Rattle.simulation.specs.Limits.{most-states};
 ghost use Rattle.relation.specs.Mask.{member, bit};
+ghost use Rattle.relation.specs.Related.{holds, «pairs-of»};
 ghost use Rattle.relation.specs.Words.{mask, «row-of», height, «put-row»};
 
-pub fn get(rows: &[u64], s: usize) -> Set
+pub fn get(rows: &[Word], s: usize) -> Set
     requires { ⌜ s < height (now rows) ⌝ }
     ensures { λ r. ⌜ mask r ≡ row-of (now (rows .entry)) s ⌝ }
 {
@@ -17,7 +20,7 @@ pub fn get(rows: &[u64], s: usize) -> Set
     }
 }
 
-pub fn put(rows: &mut [u64], s: usize, set: Set)
+pub fn put(rows: &mut [Word], s: usize, set: Set)
     requires { ⌜ s < height (now rows) ⌝ }
     ensures { λ _. ⌜ now (rows .exit) ≡ put-row (now (rows .entry)) s set ⌝ }
 {
@@ -26,11 +29,33 @@ pub fn put(rows: &mut [u64], s: usize, set: Set)
     rows[at + 1] = set.words[1];
 }
 
+// Empties the first n rows.
+pub fn clear(rows: &mut [Word], n: usize)
+    requires { ⌜ (n ≤ most-states) × (n ≤ height (now rows)) ⌝ }
+    ensures { λ _. ⌜ ((i : ℕ) → i < n → row-of (now (rows .exit)) i ≡ 0) ⌝ }
+{
+    for i in 0..n {
+        put(rows, i, set::empty());
+    }
+}
+
 // 1 for a related pair, else 0: a shift brings its bit to the lowest place of its word, and the remainder is the bit.
-pub fn bit(rows: &[u64], s: usize, t: usize) -> u64
+pub fn bit(rows: &[Word], s: usize, t: usize) -> Word
     requires { ⌜ (s < height (now rows)) × (t < most-states) ⌝ }
     ensures { λ r. ⌜ r ≡ bit (member (row-of (now (rows .entry)) s)) t ⌝ }
 {
     let at = s * Set::WORDS + t / 64;
     word::bit(rows[at], t % 64)
+}
+
+// How many pairs the first n rows have.
+pub fn count(rows: &[Word], n: usize) -> u32
+    requires { ⌜ (n ≤ most-states) × (n ≤ height (now rows)) ⌝ }
+    ensures { λ r. ⌜ r ≡ pairs-of n (holds (now (rows .entry))) ⌝ }
+{
+    let mut pairs: u32 = 0;
+    for s in 0..n {
+        pairs += set::count(get(rows, s));
+    }
+    pairs
 }

@@ -1,5 +1,6 @@
 // Sets of numbers below Table::STATES as words: t is a member if bit t % 64 of word t / 64 is one.
 use crate::word;
+use crate::word::Word;
 use simulation::Table;
 ghost use mathlib.Core.Path.{_≡_};
 ghost use Prim.Native.Nat.{ℕ, _*_, _<_, _≤_, min};
@@ -9,12 +10,15 @@ ghost use Rattle.relation.specs.Mask.{member, «up-to», only, «with-me
 ghost use Rattle.relation.specs.Words.{words, mask};
 
 pub struct Set {
-    pub words: [u64; Set::WORDS],
+    pub words: [Word; Set::WORDS],
 }
 
 impl Set {
+    // The bits of a word.
+    pub const BITS: usize = 64;
+
     // So many words have a bit for each state of a table.
-    pub const WORDS: usize = Table::STATES / 64;
+    pub const WORDS: usize = Table::STATES / Self::BITS;
 }
 
 pub fn empty() -> Set
@@ -41,7 +45,7 @@ pub fn is_empty(set: Set) -> bool
 }
 
 // 1 for a member, else 0.
-pub fn bit(set: Set, t: usize) -> u64
+pub fn bit(set: Set, t: usize) -> Word
     requires { ⌜ t < most-states ⌝ }
     ensures { λ r. ⌜ r ≡ bit (member (mask set)) t ⌝ }
 {
@@ -94,7 +98,7 @@ pub fn remove(mut set: Set, t: usize) -> Set
 }
 
 // t too if b is 1, without a branch.
-pub fn with_bit(mut set: Set, t: usize, b: u64) -> Set
+pub fn with_bit(mut set: Set, t: usize, b: Word) -> Set
     requires { ⌜ (t < most-states) × (b < 2) ⌝ }
     ensures { λ r. ⌜ member (mask r) ≡ with-bit t b (member (mask set)) ⌝ }
 {

@@ -2,6 +2,7 @@
 // words after it. A loop over words with a loop over the ones of a word inside is cheaper than one that asks for the lowest of a set.
 use crate::set::Set;
 use crate::word;
+use crate::word::Word;
 ghost use mathlib.Core.Path.{_≡_};
 ghost use Prim.Native.Nat.{ℕ, _<_};
 ghost use Rattle.simulation.specs.Limits.{most-states};
@@ -9,7 +10,7 @@ ghost use Rattle.relation.specs.Mask.{member, «without-member», Lowest
 ghost use Rattle.relation.specs.Words.{words, rest};
 
 // The lowest member left. Only the contract reads set.
-pub fn lowest(set: Set, w: usize, left: u64) -> usize
+pub fn lowest(set: Set, w: usize, left: Word) -> usize
     requires { ⌜ (w < words) × (0 < left) ⌝ }
     ensures { λ r. ⌜ (r < most-states) × Lowest (member (rest w left set)) r ⌝ }
 {
@@ -17,7 +18,7 @@ pub fn lowest(set: Set, w: usize, left: u64) -> usize
 }
 
 // What is left without its lowest member. Only the contract reads set and w.
-pub fn without_lowest(set: Set, w: usize, left: u64) -> u64
+pub fn without_lowest(set: Set, w: usize, left: Word) -> Word
     requires { ⌜ (w < words) × (0 < left) ⌝ }
     ensures { λ r. ⌜ ((t : ℕ) → Lowest (member (rest w left set)) t → member (rest w r set) ≡ without-member t (member (rest w left set))) × (r < left) ⌝ }
 {

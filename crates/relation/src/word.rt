@@ -3,15 +3,18 @@ ghost use mathlib.Core.Path.{_≡_};
 ghost use Prim.Native.Nat.{ℕ, _<_, _≤_};
 ghost use Rattle.relation.specs.Mask.{member, «up-to», only, «with-member», «without-member», «with-bit», either, both, except, size, Lowest, bit};
 
+// A word: what sets are made of.
+pub type Word = u64;
+
 // 1 for a member, else 0.
-pub fn bit(set: u64, t: usize) -> u64
+pub fn bit(set: Word, t: usize) -> Word
     requires { ⌜ t < 64 ⌝ }
     ensures { λ r. ⌜ r ≡ bit (member set) t ⌝ }
 {
     (set >> t) % 2
 }
 
-pub fn single(t: usize) -> u64
+pub fn single(t: usize) -> Word
     requires { ⌜ t < 64 ⌝ }
     ensures { λ r. ⌜ member r ≡ only t ⌝ }
 {
@@ -19,7 +22,7 @@ pub fn single(t: usize) -> u64
 }
 
 // Every number below n.
-pub fn below(n: usize) -> u64
+pub fn below(n: usize) -> Word
     requires { ⌜ n ≤ 64 ⌝ }
     ensures { λ r. ⌜ member r ≡ up-to n ⌝ }
 {
@@ -29,14 +32,14 @@ pub fn below(n: usize) -> u64
     0xffff_ffff_ffff_ffff
 }
 
-pub fn insert(set: u64, t: usize) -> u64
+pub fn insert(set: Word, t: usize) -> Word
     requires { ⌜ t < 64 ⌝ }
     ensures { λ r. ⌜ member r ≡ with-member t (member set) ⌝ }
 {
     single(t) | set
 }
 
-pub fn remove(set: u64, t: usize) -> u64
+pub fn remove(set: Word, t: usize) -> Word
     requires { ⌜ t < 64 ⌝ }
     ensures { λ r. ⌜ member r ≡ without-member t (member set) ⌝ }
 {
@@ -44,40 +47,40 @@ pub fn remove(set: u64, t: usize) -> u64
 }
 
 // t too if b is 1, without a branch.
-pub fn with_bit(set: u64, t: usize, b: u64) -> u64
+pub fn with_bit(set: Word, t: usize, b: Word) -> Word
     requires { ⌜ (t < 64) × (b < 2) ⌝ }
     ensures { λ r. ⌜ member r ≡ with-bit t b (member set) ⌝ }
 {
     (b << t) | set
 }
 
-pub fn union(a: u64, b: u64) -> u64
+pub fn union(a: Word, b: Word) -> Word
     ensures { λ r. ⌜ member r ≡ either (member a) (member b) ⌝ }
 {
     a | b
 }
 
-pub fn intersection(a: u64, b: u64) -> u64
+pub fn intersection(a: Word, b: Word) -> Word
     ensures { λ r. ⌜ member r ≡ both (member a) (member b) ⌝ }
 {
     a & b
 }
 
-pub fn difference(a: u64, b: u64) -> u64
+pub fn difference(a: Word, b: Word) -> Word
     ensures { λ r. ⌜ member r ≡ except (member a) (member b) ⌝ }
 {
     a & !b
 }
 
 // How many members.
-pub fn count(set: u64) -> u32
+pub fn count(set: Word) -> u32
     ensures { λ r. ⌜ r ≡ size 64 (member set) ⌝ }
 {
     u64::count_ones(set)
 }
 
 // The lowest member of a set that has one.
-pub fn lowest(set: u64) -> usize
+pub fn lowest(set: Word) -> usize
     requires { ⌜ 0 < set ⌝ }
     ensures { λ r. ⌜ (r < 64) × Lowest (member set) r ⌝ }
 {
@@ -85,7 +88,7 @@ pub fn lowest(set: u64) -> usize
 }
 
 // A set that has a member, without its lowest.
-pub fn without_lowest(set: u64) -> u64
+pub fn without_lowest(set: Word) -> Word
     requires { ⌜ 0 < set ⌝ }
     ensures { λ r. ⌜ ((t : ℕ) → Lowest (member set) t → member r ≡ without-member t (member set)) × (r < set) ⌝ }
 {

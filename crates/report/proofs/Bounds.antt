@@ -8,9 +8,9 @@ use native.Mathlib.Nat.{suc-mul, mul-le-mul, mul-le-mul-right}
 use native.Mathlib.Omega.{arith}
 use lib.Dec.{eqb}
 use lib.ListN.{length, take, getD, length-append}
-use Rattle.simulation.specs.Limits.{most-states}
+use Rattle.simulation.specs.Limits.{most-states, few-pairs, most-tree-bytes}
 use Rattle.simulation.specs.Round.{maximum, zeros}
-use Rattle.report.specs.Text.{word-rounds, word-kept, word-verdict, word-yes, word-no, word-row, word-tables, word-refused, word-tree, space, newline, pair-line, ranks-text, row-line, rows-text, yes?, summary-line, rounds-line, bytes-text, tree-line, tree-text, refused-text, report-text, answer-text, text-bound, longest-text, short-text}
+use Rattle.report.specs.Text.{word-rounds, word-kept, word-verdict, word-yes, word-no, word-row, word-tables, word-refused, word-tree, space, newline, pair-line, ranks-text, row-line, rows-text, yes?, summary-line, rounds-line, bytes-text, tree-line, tree-text, refused-text, report-text, answer-text, text-bound, longest-text, short-text, short-tree}
 use Rattle.digits.specs.Writes.{pieces, Room}
 use Rattle.digits.specs.Digits.{decimal, hex, labelled}
 use Rattle.report.proofs.Counting.{zeros-most}
@@ -97,10 +97,10 @@ pub report-room : (p q : ℕ) (ranks : List ℕ) (long : Bool) (tree buf : List 
 report-room p q ranks long tree buf lp lq e small room = record { enough = omega (arith, report-short p q ranks long tree lp lq e small) }
 
 -- the bounds for the two sizes of buffers
-pub bound-longest : (p q k : ℕ) → p ≤ most-states → q ≤ most-states → k ≤ 65535 → text-bound p q k ≤ longest-text
+pub bound-longest : (p q k : ℕ) → p ≤ most-states → q ≤ most-states → k ≤ most-tree-bytes → text-bound p q k ≤ longest-text
 bound-longest p q k lp lq lk = omega (arith, mul-le-mul lp (let le : 8 + 6 * q ≤ 8 + 6 * most-states = omega arith in le))
 
-pub bound-short : (p q k : ℕ) → p ≤ most-states → p * q ≤ 600 → k ≤ 1023 → text-bound p q k ≤ short-text
+pub bound-short : (p q k : ℕ) → p ≤ most-states → p * q ≤ few-pairs → k ≤ short-tree → text-bound p q k ≤ short-text
 bound-short p q k lp few lk = omega arith
 
 -- no text is empty: each begins with a word

@@ -5,7 +5,7 @@ use mathlib.Core.List.{List, [], _∷_, _++_}
 use Prim.Native.Nat.{ℕ, _+_, _*_, max}
 use lib.Dec.{eqb}
 use lib.ListN.{length, take, getD}
-use Rattle.simulation.specs.Limits.{most-states}
+use Rattle.simulation.specs.Limits.{most-states, few-pairs, most-tree-bytes}
 use Rattle.simulation.specs.Round.{maximum, zeros}
 use Rattle.digits.specs.Writes.{pieces}
 use Rattle.digits.specs.Digits.{hex, labelled}
@@ -129,8 +129,12 @@ text-bound p q k = 15 + p * (8 + 6 * q) + 36 + max 16 (5 + 3 * k)
 
 -- the same for any tables within the limits and a tree of at most 65,535 bytes
 abbrev pub longest-text : ℕ
-longest-text = 15 + most-states * (8 + 6 * most-states) + 36 + (5 + 3 * 65535)
+longest-text = 15 + most-states * (8 + 6 * most-states) + 36 + (5 + 3 * most-tree-bytes)
 
--- the same for at most 600 pairs and a tree of at most 1,023 bytes
+-- the bytes of a short tree, at most
+abbrev pub short-tree : ℕ
+short-tree = 1023
+
+-- the same for few pairs and a short tree
 abbrev pub short-text : ℕ
-short-text = 15 + 8 * most-states + 6 * 600 + 36 + (5 + 3 * 1023)
+short-text = 15 + 8 * most-states + 6 * few-pairs + 36 + (5 + 3 * short-tree)

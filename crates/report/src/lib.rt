@@ -6,5 +6,6 @@ mod text;
 pub use input::first_table;
 pub use input::second_table;
 pub use text::SHORT_TEXT;
+pub use text::SHORT_TREE;
 pub use text::TEXT;
 pub use text::print;

@@ -5,7 +5,8 @@ ghost use mathlib.Core.List.{_++_};
 ghost use Prim.Native.Nat.{_+_, _*_, _≤_};
 ghost use lib.ListN.{length};
 ghost use Rattle.simulation.specs.Limits.{most-states};
-ghost use Rattle.report.specs.Text.{space, word-yes, word-no, refused-text, pair-line, ranks-text, row-line, rows-text, summary-line, rounds-line, bytes-text, tree-line, tree-text, report-text, answer-text, text-bound};
+ghost use Rattle.report.specs.Text.{space, word-yes, word-no, refused-text, pair-line, ranks-text, row-line, rows-text, summary-line};
+ghost use Rattle.report.specs.Text.{rounds-line, bytes-text, tree-line, tree-text, report-text, answer-text, text-bound};
 ghost use Rattle.digits.specs.Digits.{hex, labelled};
 ghost use Rattle.digits.specs.Writes.{Room, Writes};
 ghost use Rattle.buffer.specs.Buffer.{Filled};
@@ -20,10 +21,20 @@ use digits::put_word;
 use simulation::Table;
 
 // The length of a buffer that holds every text: longest-text of specs/.
-pub const TEXT: usize = 15 + Table::STATES * (8 + 6 * Table::STATES) + 36 + (5 + 3 * 65_535);
+pub const TEXT: usize = 15
+    + Table::STATES * (8 + 6 * Table::STATES)
+    + 36
+    + (5 + 3 * (Table::TREE_BYTES as usize));
 
-// The length of one that holds every text for at most 600 pairs and a tree of at most 1,023 bytes: short-text of specs/.
-pub const SHORT_TEXT: usize = 15 + 8 * Table::STATES + 6 * 600 + 36 + (5 + 3 * 1_023);
+// A tree of at most so many bytes is short.
+pub const SHORT_TREE: usize = 1_023;
+
+// The length of one that holds every text for few pairs and a short tree: short-text of specs/.
+pub const SHORT_TEXT: usize = 15
+    + 8 * Table::STATES
+    + 6 * Table::FEW_PAIRS
+    + 36
+    + (5 + 3 * SHORT_TREE);
 
 // The text for an answer of the check: for a refused table that alone, else the report on tables with p and q states.
 pub fn print(

@@ -4,30 +4,38 @@ use mathlib.Core.Path.{_≡_, refl, sym, ap, _∙_, subst, fun-ext}
 use mathlib.Core.Bool.{Bool, true, false, not, _&&_, _||_, and-true, and-false, or-true, or-false, true≢false}
 use mathlib.Core.List.{List}
 use mathlib.Core.Logic.{_≢_}
-use Prim.Native.Nat.{ℕ, _^_, _<_}
+use Prim.Native.Nat.{ℕ, _+_, _<_}
+use native.Mathlib.Omega.{arith}
 use native.Mathlib.Decide.{ℕ-discrete, decLt}
 use borrow.Author.Tests.{eq-eqb, ne-eqb}
 use lib.Dec.{T, T-not, eqb}
+use lib.ListN.{length}
+use mir.Val.{boolByte}
 use Rattle.simulation.specs.Limits.{most-states}
 use Rattle.simulation.specs.Sum.{when}
 use Rattle.simulation.specs.Table.{Table, states-of}
 use Rattle.simulation.specs.Round.{Relation, related, survives}
+use Rattle.simulation.proofs.Finite.Sums.{one-most}
 use Rattle.simulation.proofs.Finite.Tests.{both as both-of, and-left, and-right, is-false}
 use Rattle.simulation.proofs.Simulation.Relation.{relation-at, relation-right}
 use Rattle.relation.specs.Mask.{Test, member, with-member, without-member, except, Lowest}
 use Rattle.relation.specs.Words.{mask, row-of, height, put-row}
 use Rattle.relation.specs.declared.set.Set.{Set}
-use Rattle.relation.proofs.Sets.{mask-lt, row-put, row-put-other}
-use Rattle.relation.proofs.Mask.{member-none, no-member, one-is}
+use Rattle.relation.proofs.Sets.{mask-lt, length-put, row-put, row-put-other}
+use Rattle.relation.proofs.Parts.{part-height, part-put, part-put-before, part-put-after}
+use Rattle.relation.proofs.Mask.{member-none, no-member, flag-is, one-is}
 use Rattle.relation.specs.Related.{holds}
-use Rattle.matching.specs.Held.{held, matched}
-use Rattle.rounds.specs.Rounds.{falls, Doubtless, Judged, Fallen, Columns, Lost, Ready}
+use Rattle.form.specs.Tables.{first-table, second-table}
+use Rattle.fit.specs.Held.{held, relation-of, matched}
+use Rattle.rounds.specs.Rounds.{falls, Doubtless, Judged, Fallen, Columns, Falling, DoubtsKnown}
+use Rattle.rounds.specs.Turns.{Dropping}
+use Rattle.links.specs.Places.{HasMarks, doubt-in, lost-in}
 use Rattle.links.specs.Links.{Empty}
-use Rattle.links.proofs.Walks.{some-member, left-self, left-other}
+use Rattle.links.proofs.Walks.{some-member, left-self, left-other, left-member}
 
--- a set of those that fall, but for what is left to be judged
-pub record Dropped (F : Test) (left fallen : ℕ) : Type 0 where
-  pub at : (u : ℕ) → member fallen u ≡ (F u && not (member left u))
+-- a flag is a bit
+pub flag-few : (b : Bool) → boolByte b < 2
+flag-few b = omega (arith, flag-is b, one-most b)
 
 -- the test's outcome decides
 judged-by : {pass outcome : Bool} {t x y : ℕ} → pass ≡ outcome → ((k : ℕ) → member y k ≡ ((eqb k t && not outcome) || member x k)) → Judged pass t x y
@@ -39,6 +47,10 @@ judged-pass {t} {x} pass e = judged-by e (λ k. ap (λ (b : Bool). b || member x
 
 pub judged-fail : {t x y : ℕ} (pass : Bool) → pass ≡ false → member y ≡ with-member t (member x) → Judged pass t x y
 judged-fail {t} {x} pass e h = judged-by e (λ k. ap (λ (X : Test). X k) h ∙ ap (λ (b : Bool). b || member x k) (sym (and-true (eqb k t))))
+
+-- the test by another name
+pub judged-is : {pass outcome : Bool} {t x y : ℕ} → outcome ≡ pass → Judged outcome t x y → Judged pass t x y
+judged-is {t = t} {x} {y} e j = subst (λ (b : Bool). Judged b t x y) e j
 
 module _ {pass : Bool} {t f g : ℕ} (j : Judged pass t f g) where
   judged-at : (u : ℕ) → member g u ≡ ((eqb u t && not pass) || member f u)
@@ -56,24 +68,32 @@ module _ {pass : Bool} {t f g : ℕ} (j : Judged pass t f g) where
   judged-same : pass ≡ true → (u : ℕ) → member g u ≡ member f u
   judged-same e u = judged-at u ∙ ap (λ (b : Bool). (eqb u t && not b) || member f u) e ∙ ap (λ (b : Bool). b || member f u) (and-false (eqb u t))
 
+-- of the set near, those that fail the test are in fallen, but for what is left to be judged
+pub record Picked (near : ℕ) (P : Test) (left fallen : ℕ) : Type 0 where
+  pub within : (u : ℕ) → member left u ≡ true → member near u ≡ true
+  pub at : (u : ℕ) → member fallen u ≡ (except (member near) P u && not (member left u))
+
 -- nothing has fallen where all of the set is left
-pub drop-start : (Y : Test) (x : ℕ) {f : ℕ} → f ≡ 0 → Dropped (except (member x) Y) x f
-drop-start Y x e = record { at = λ u. ap (λ (n : ℕ). member n u) e ∙ member-none u ∙ none (member x u) (not (Y u)) }
+pub picked-start : (near : ℕ) (P : Test) {f : ℕ} → f ≡ 0 → Picked near P near f
+picked-start near P e = record { within = λ u m. m; at = λ u. ap (λ (n : ℕ). member n u) e ∙ member-none u ∙ none (member near u) (not (P u)) }
   where
     none : (a b : Bool) → false ≡ ((a && b) && not a)
     none true b = sym (and-false b)
     none false b = refl
 
 -- the lowest member is judged
-pub drop-next : {F : Test} {x y t f g : ℕ} {pass : Bool} → Lowest (member x) t → member y ≡ without-member t (member x) → Judged pass t f g → F t ≡ not pass → Dropped F x f → Dropped F y g
-drop-next {F} {x} {y} {t} {f} {g} {pass} low rest judged e h = record { at = λ u. go u (ℕ-discrete u t) }
+pub picked-next : {near : ℕ} {P : Test} {x y t f g : ℕ} → Lowest (member x) t → member y ≡ without-member t (member x) → Judged (P t) t f g → Picked near P x f → Picked near P y g
+picked-next {near} {P} {x} {y} {t} {f} {g} low rest judged h = record { within = λ u m. h .within u (left-member x y t rest u m); at = λ u. go u (ℕ-discrete u t) }
   where
+    F : Test
+    F = except (member near) P
+
     here : member g t ≡ (F t && not (member y t))
     here =
         judged-here judged
-        ∙ ap (λ (b : Bool). not pass || b) (h .at t ∙ ap (λ (b : Bool). F t && not b) (low .here) ∙ and-false (F t))
-        ∙ or-false (not pass)
-        ∙ sym e
+        ∙ ap (λ (b : Bool). not (P t) || b) (h .at t ∙ ap (λ (b : Bool). F t && not b) (low .here) ∙ and-false (F t))
+        ∙ or-false (not (P t))
+        ∙ ap (λ (b : Bool). b && not (P t)) (sym (h .within t (low .here)))
         ∙ sym (and-true (F t))
         ∙ ap (λ (b : Bool). F t && not b) (sym (left-self x y t rest))
 
@@ -81,8 +101,9 @@ drop-next {F} {x} {y} {t} {f} {g} {pass} low rest judged e h = record { at = λ 
     go u (yes q) = subst (λ (u : ℕ). member g u ≡ (F u && not (member y u))) (sym q) here
     go u (no d) = judged-there judged u d ∙ h .at u ∙ ap (λ (b : Bool). F u && not b) (sym (left-other x y t rest u d))
 
-pub drop-end : {F : Test} {x f : ℕ} → x ≡ 0 → Dropped F x f → member f ≡ F
-drop-end {F} {x} e h = fun-ext (λ u. h .at u ∙ ap (λ (n : ℕ). F u && not (member n u)) e ∙ ap (λ (b : Bool). F u && not b) (member-none u) ∙ and-true (F u))
+pub picked-end : {near : ℕ} {P : Test} {x f : ℕ} → x ≡ 0 → Picked near P x f → (u : ℕ) → member f u ≡ (member near u && not (P u))
+picked-end {near} {P} {x} e h u =
+    h .at u ∙ ap (λ (b : Bool). except (member near) P u && not b) (ap (λ (n : ℕ). member n u) e ∙ member-none u) ∙ and-true (except (member near) P u)
 
 -- both tests, or the one that decides
 pub with-both : (a b : Bool) → (a && not (a && b)) ≡ (a && not b)
@@ -122,10 +143,10 @@ finding-start {M} {N} {R} none empty kept =
     }
 
 -- one row more is judged
-pub finding-next : {M N : Table} {R : Relation} {waits later : Test} {s fell fell′ : ℕ} {lost : List ℕ} (row : Set) → s < states-of M → s < height lost → fell′ < 2 ^ most-states
-    → ((u : ℕ) → u ≢ s → later u ≡ waits u) → member (mask row) ≡ falls M N R s → Judged (eqb (mask row) 0) s fell fell′
-    → Finding M N R waits lost fell → Finding M N R later (put-row lost s row) fell′
-finding-next {M} {N} {R} {waits} {later} {s} {fell} {fell′} {lost} row a room small e d judged h =
+finding-next : {M N : Table} {R : Relation} {waits later : Test} {s fell : ℕ} {lost : List ℕ} (row fell′ : Set) → s < states-of M → s < height lost
+    → ((u : ℕ) → u ≢ s → later u ≡ waits u) → member (mask row) ≡ falls M N R s → Judged (eqb (mask row) 0) s fell (mask fell′)
+    → Finding M N R waits lost fell → Finding M N R later (put-row lost s row) (mask fell′)
+finding-next {M} {N} {R} {waits} {later} {s} {fell} {lost} row fell′ a room e d judged h =
     record {
       exact = λ u t a m. at u t a m (ℕ-discrete u s);
       within = λ u t m. inside u t m (ℕ-discrete u s);
@@ -139,21 +160,30 @@ finding-next {M} {N} {R} {waits} {later} {s} {fell} {fell′} {lost} row a room 
     at u t b m (yes c) = subst (λ (u : ℕ). holds (put-row lost s row) u t ≡ falls M N R u t) (sym c) (here t ∙ ap (λ (X : Test). X t) d)
     at u t b m (no c) = ap (λ (y : ℕ). member y t) (row-put-other lost s u row c) ∙ h .exact u t b (sym (e u c) ∙ m)
 
-    joined : mask row ≢ 0 → member fell′ s ≡ true
+    joined : mask row ≢ 0 → member (mask fell′) s ≡ true
     joined n = judged-here judged ∙ ap (λ (b : Bool). not b || member fell s) (ne-eqb (mask row) 0 n)
 
-    inside : (u t : ℕ) → holds (put-row lost s row) u t ≡ true → Dec (u ≡ s) → (u < states-of M) × (member fell′ u ≡ true)
+    inside : (u t : ℕ) → holds (put-row lost s row) u t ≡ true → Dec (u ≡ s) → (u < states-of M) × (member (mask fell′) u ≡ true)
     inside u t m (yes c) =
         let x : member (mask row) t ≡ true = sym (here t) ∙ ap (λ (u : ℕ). holds (put-row lost s row) u t) (sym c) ∙ m in
-        subst (λ (u : ℕ). (u < states-of M) × (member fell′ u ≡ true)) (sym c)
+        subst (λ (u : ℕ). (u < states-of M) × (member (mask fell′) u ≡ true)) (sym c)
         (a, joined (λ z. true≢false (sym x ∙ ap (λ (n : ℕ). member n t) z ∙ member-none t)))
     inside u t m (no c) =
         let x = h .within u t (ap (λ (y : ℕ). member y t) (sym (row-put-other lost s u row c)) ∙ m) in
         (x .0, judged-old judged u (x .1))
 
-    found : Dec (mask row ≡ 0) → fell′ ≢ 0 → (s : ℕ) × (t : ℕ) × (s < states-of M) × T (falls M N R s t)
-    found (yes y) n = h .some (λ q. n (no-member most-states fell′ small (λ t _. judged-same judged (eq-eqb (mask row) 0 y) t ∙ ap (λ (x : ℕ). member x t) q ∙ member-none t)))
+    found : Dec (mask row ≡ 0) → mask fell′ ≢ 0 → (s : ℕ) × (t : ℕ) × (s < states-of M) × T (falls M N R s t)
+    found (yes y) n = h .some (λ q. n (no-member most-states (mask fell′) (mask-lt fell′) (λ t _. judged-same judged (eq-eqb (mask row) 0 y) t ∙ ap (λ (x : ℕ). member x t) q ∙ member-none t)))
     found (no y) n = let x = some-member (mask row) (mask-lt row) y in (s, x .0, a, subst (λ (X : Test). T (X (x .0))) d (x .1))
+
+-- the same where the lost pairs lie among the marks
+pub finding-marks : {M N : Table} {R : Relation} {waits later : Test} {s fell : ℕ} {marks′ : List ℕ} (marks : List ℕ) (row fell′ : Set) → s < states-of M → s < most-states
+    → HasMarks marks → marks′ ≡ put-row marks (most-states + s) row
+    → ((u : ℕ) → u ≢ s → later u ≡ waits u) → member (mask row) ≡ falls M N R s → Judged (eqb (mask row) 0) s fell (mask fell′)
+    → Finding M N R waits (lost-in marks) fell → Finding M N R later (lost-in marks′) (mask fell′)
+finding-marks {M} {N} {R} {later = later} {s = s} marks row fell′ a few room put e d judged h =
+    subst (λ l. Finding M N R later l (mask fell′)) (sym (ap (λ l. lost-in l) put ∙ part-put most-states most-states marks s row few))
+    (finding-next row fell′ a (omega (arith, part-height most-states most-states marks (omega arith))) e d judged h)
 
 -- no row waits
 pub finding-end : {M N : Table} {R : Relation} {waits : Test} {fell : ℕ} {lost : List ℕ} → ((s : ℕ) → s < states-of M → waits s ≡ false) → Finding M N R waits lost fell → Fallen M N R lost fell
@@ -164,44 +194,76 @@ finding-end {M} {N} {R} {waits} {fell} {lost} e h =
       some = λ d. let x = h .some d in (x .0, x .1, x .2, subst T (sym (exact (x .0) (x .1) (x .2))) (x .3));
     }
   where
-    exact : Lost M N R lost
+    exact : Falling M N R lost
     exact s t a = h .exact s t a (e s a)
 
 -- the rows of `left` wait, with what is in doubt of each
-pub record Dropping (M N : Table) (R : Relation) (left : ℕ) (doubt lost : List ℕ) (fell : ℕ) : Type 0 where
-  pub waits : (s : ℕ) → member left s ≡ true → (s < states-of M) × Doubtless M N R s (member (row-of doubt s))
-  pub found : Finding M N R (member left) lost fell
+pub record Waiting (tables rows : List ℕ) (left : ℕ) (marks : List ℕ) (fell : ℕ) : Type 0 where
+  pub room : HasMarks marks
+  pub waits : (s : ℕ) → member left s ≡ true
+      → (s < states-of (first-table tables)) × Doubtless (first-table tables) (second-table tables) (relation-of tables rows) s (holds (doubt-in marks) s)
+  pub found : Finding (first-table tables) (second-table tables) (relation-of tables rows) (member left) (lost-in marks) fell
 
 -- at first the rows with a pair in doubt wait, and in no other a pair falls
-pub dropping-start : {M N : Table} {rows doubt lost : List ℕ} {doubtful : ℕ} → Ready M N rows doubtful doubt → Empty lost → Dropping M N (held M N rows) doubtful doubt lost 0
+pub waiting-start : {tables sets rows marks : List ℕ} {doubtful fell : ℕ} → fell ≡ 0 → Dropping tables sets rows marks doubtful → Waiting tables rows doubtful marks fell
 unfolding survives
-dropping-start {M} {N} {rows} {doubt} {lost} {doubtful} ready empty =
+waiting-start {tables} {sets} {rows} {marks} {doubtful} none d =
     record {
-      waits = λ s m. (ready .states s m, λ t d h. ready .sure s (ready .states s m) t (ap (λ (b : Bool). b && holds doubt s t) m ∙ d) h);
-      found = finding-start refl empty kept;
+      room = d .marks-room;
+      waits = λ s m. (ready .states s m, λ t o h. ready .sure s (ready .states s m) t (ap (λ (b : Bool). b && holds (doubt-in marks) s t) m ∙ o) h);
+      found = finding-start none (d .none-lost) kept;
     }
   where
-    kept : (s t : ℕ) → s < states-of M → member doubtful s ≡ false → T (falls M N (held M N rows) s t) → ⊥
-    kept s t a m h =
-        let x : T (related (held M N rows) s t) = and-left (related (held M N rows) s t) (not (survives M N (held M N rows) s t)) h in
-        T-not (survives M N (held M N rows) s t) (and-right (related (held M N rows) s t) (not (survives M N (held M N rows) s t)) h)
-        (both-of (related (held M N rows) s t) (matched M N (held M N rows) s t) x (ready .sure s a t (ap (λ (b : Bool). b && holds doubt s t) m) x))
+    ready : DoubtsKnown (first-table tables) (second-table tables) rows doubtful (doubt-in marks)
+    ready = d .ready
 
--- one row more is judged
-pub dropping-next : {M N : Table} {R : Relation} {left rest s fell fell′ : ℕ} {doubt lost : List ℕ} (z row : Set) → s < height doubt → s < height lost → fell′ < 2 ^ most-states
-    → member left s ≡ true → member rest ≡ without-member s (member left) → member (mask row) ≡ falls M N R s → Judged (eqb (mask row) 0) s fell fell′
-    → Dropping M N R left doubt lost fell → Dropping M N R rest (put-row doubt s z) (put-row lost s row) fell′
-dropping-next {M} {N} {R} {left} {rest} {s} {fell} {fell′} {doubt} {lost} z row room room′ small has e d judged h =
+    kept : (s t : ℕ) → s < states-of (first-table tables) → member doubtful s ≡ false → T (falls (first-table tables) (second-table tables) (relation-of tables rows) s t) → ⊥
+    kept s t a m h =
+        let R = relation-of tables rows in
+        let lives = survives (first-table tables) (second-table tables) R s t in
+        let x : T (related R s t) = and-left (related R s t) (not lives) h in
+        T-not lives (and-right (related R s t) (not lives) h)
+        (both-of (related R s t) (matched (first-table tables) (second-table tables) R s t) x (ready .sure s a t (ap (λ (b : Bool). b && holds (doubt-in marks) s t) m) x))
+
+-- one row more is judged: its doubts are settled, and the pairs that fall are lost
+pub waiting-next : {tables rows marks marks₁ marks₂ : List ℕ} {left rest s fell : ℕ} (z row fell′ : Set) → s < most-states
+    → marks₁ ≡ put-row marks (0 + s) z → marks₂ ≡ put-row marks₁ (most-states + s) row
+    → member left s ≡ true → member rest ≡ without-member s (member left) → member (mask row) ≡ falls (first-table tables) (second-table tables) (relation-of tables rows) s
+    → Judged (eqb (mask row) 0) s fell (mask fell′) → Waiting tables rows left marks fell → Waiting tables rows rest marks₂ (mask fell′)
+waiting-next {tables} {rows} {marks} {marks₁} {marks₂} {left} {rest} {s} {fell} z row fell′ few p q has e d judged h =
     record {
+      room = omega (arith, room₁, ap length q, length-put marks₁ (most-states + s) row);
       waits = λ u m. wait u m (ℕ-discrete u s);
-      found = finding-next row (h .waits s has .0) room′ small (left-other left rest s e) d judged (h .found);
+      found = finding-marks marks₁ row fell′ (h .waits s has .0) few room₁ q (left-other left rest s e) d judged (subst (λ l. Finding M N R (member left) l fell) (sym lost₁) (h .found));
     }
   where
-    wait : (u : ℕ) → member rest u ≡ true → Dec (u ≡ s) → (u < states-of M) × Doubtless M N R u (member (row-of (put-row doubt s z) u))
+    M : Table
+    M = first-table tables
+
+    N : Table
+    N = second-table tables
+
+    R : Relation
+    R = relation-of tables rows
+
+    room₁ : HasMarks marks₁
+    room₁ = omega (arith, h .room, ap length p, length-put marks (0 + s) z)
+
+    lost₁ : lost-in marks₁ ≡ lost-in marks
+    lost₁ = ap (λ l. lost-in l) p ∙ part-put-before most-states most-states marks (0 + s) z (omega arith)
+
+    doubt₂ : doubt-in marks₂ ≡ put-row (doubt-in marks) s z
+    doubt₂ =
+        ap (λ l. doubt-in l) q ∙ part-put-after 0 most-states marks₁ (most-states + s) row (omega arith)
+        ∙ ap (λ l. doubt-in l) p ∙ part-put 0 most-states marks s z few
+
+    wait : (u : ℕ) → member rest u ≡ true → Dec (u ≡ s) → (u < states-of M) × Doubtless M N R u (holds (doubt-in marks₂) u)
     wait u m (yes c) = absurd (true≢false (sym m ∙ ap (member rest) c ∙ left-self left rest s e))
     wait u m (no c) =
-        subst (λ (x : ℕ). (u < states-of M) × Doubtless M N R u (member x)) (sym (row-put-other doubt s u z c)) (h .waits u (sym (left-other left rest s e u c) ∙ m))
+        subst (λ (x : ℕ). (u < states-of M) × Doubtless M N R u (member x))
+        (sym (ap (λ l. row-of l u) doubt₂ ∙ row-put-other (doubt-in marks) s u z c)) (h .waits u (sym (left-other left rest s e u c) ∙ m))
 
 -- no row waits
-pub dropping-end : {M N : Table} {R : Relation} {left fell : ℕ} {doubt lost : List ℕ} → left ≡ 0 → Dropping M N R left doubt lost fell → Fallen M N R lost fell
-dropping-end e h = finding-end (λ s _. ap (λ (n : ℕ). member n s) e ∙ member-none s) (h .found)
+pub waiting-end : {tables rows marks : List ℕ} {left fell : ℕ} → left ≡ 0 → Waiting tables rows left marks fell
+    → Fallen (first-table tables) (second-table tables) (relation-of tables rows) (lost-in marks) fell
+waiting-end e h = finding-end (λ s _. ap (λ (n : ℕ). member n s) e ∙ member-none s) (h .found)

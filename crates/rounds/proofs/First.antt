@@ -22,8 +22,8 @@ use Rattle.simulation.proofs.Simulation.Rounds.{in-zero}
 use Rattle.relation.specs.Mask.{Test, member, either, from}
 use Rattle.relation.proofs.Mask.{member-none}
 use Rattle.form.specs.Form.{Loaded, start-of, transition-at, table-of}
-use Rattle.matching.specs.Held.{matched, coded}
-use Rattle.matching.proofs.Steps.{one-fails, all-pass}
+use Rattle.fit.specs.Held.{matched, coded}
+use Rattle.fit.proofs.Steps.{one-fails, all-pass}
 use Rattle.rounds.specs.Rounds.{falls, lacks, lacks-one}
 use Rattle.rounds.proofs.RoundLaws.{all-pairs}
 use Rattle.rounds.proofs.Dropping.{with-both}

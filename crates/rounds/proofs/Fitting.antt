@@ -10,7 +10,7 @@ use Rattle.simulation.specs.Table.{Transition, Table, weights, steps, no-transi
 use Rattle.simulation.specs.Round.{Relation, between, fits-step}
 use Rattle.simulation.proofs.Finite.Lists.{all-of-at, all-of-by, any-of-at, any-of-by}
 use Rattle.simulation.proofs.Fit.Agree.{Agree, fits-agree}
-use Rattle.matching.specs.Held.{matched}
+use Rattle.fit.specs.Held.{matched}
 
 -- two relations agree on the targets of m and of n
 abbrev pub Alike : Relation → Relation → Transition → Transition → Type 0

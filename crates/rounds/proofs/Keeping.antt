@@ -13,9 +13,10 @@ use Rattle.simulation.proofs.Finite.Tests.{is-true, true-T, is-false, same-test
 use Rattle.relation.specs.Mask.{Test, member, both, except}
 use Rattle.relation.specs.Words.{row-of}
 use Rattle.relation.specs.Related.{holds}
-use Rattle.form.specs.Form.{Loaded, start-of, table-of}
-use Rattle.matching.specs.Held.{relation-of, matched, answered}
-use Rattle.matching.proofs.Steps.{upto-next, one-fails, all-pass}
+use Rattle.form.specs.Form.{Loaded, start-of}
+use Rattle.form.specs.Tables.{first-form, first-table, second-table}
+use Rattle.fit.specs.Held.{relation-of, matched, answered}
+use Rattle.fit.proofs.Steps.{upto-next, one-fails, all-pass}
 use Rattle.rounds.specs.Rounds.{falls, Doubtless, Columns}
 use Rattle.rounds.proofs.Dropping.{with-both, related-row, falls-is}
 
@@ -26,8 +27,8 @@ pub record Kept (P : ℕ → Test) (near a n left : ℕ) : Type 0 where
   pub stays : (t : ℕ) → member near t ≡ true → ((k : ℕ) → a ≤ k → k < n → P k t ≡ true) → member left t ≡ true
 
 -- those that answer each transition of s up to n
-abbrev pub Answering : (f g rows : List ℕ) (s near n left : ℕ) → Type 0
-Answering f g rows s near n left = Kept (λ k. answered (relation-of f g rows) f k g) near (start-of f s) n left
+abbrev pub Answering : (tables rows : List ℕ) (s near n left : ℕ) → Type 0
+Answering tables rows s near n left = Kept (answered tables rows) near (start-of (first-form tables) s) n left
 
 both-hold : (a b : Bool) → (a && b) ≡ true → (a ≡ true) × (b ≡ true)
 both-hold true b h = (refl, h)
@@ -63,44 +64,45 @@ pub kept-columns : (N : Table) {P : ℕ → Test} {near a n left : ℕ} (row dou
 kept-columns N row doubt columns e h t m =
     columns t (true-T (both-hold (member row t) (member doubt t) (sym (ap (λ (X : Test). X t) e) ∙ h .within t (is-true _ m)) .0))
 
+-- the states that match the state s
+abbrev matching : (tables rows : List ℕ) (s : ℕ) → Test
+matching tables rows s = matched (first-table tables) (second-table tables) (relation-of tables rows) s
+
 -- all transitions of the state s are passed
-module _ (f g rows : List ℕ) (loaded : Loaded f) (s : ℕ) (a : s < states-of (table-of f)) where
-  left-at : {near left : ℕ} → Answering f g rows s near (start-of f (s + 1)) left
-      → (t : ℕ) → member left t ≡ (member near t && matched (table-of f) (table-of g) (relation-of f g rows) s t)
-  left-at {near} {left} h t = go (matched (table-of f) (table-of g) (relation-of f g rows) s t) refl
+module _ (tables rows : List ℕ) (loaded : Loaded (first-form tables)) (s : ℕ) (a : s < states-of (first-table tables)) where
+  left-at : {near left : ℕ} → Answering tables rows s near (start-of (first-form tables) (s + 1)) left → (t : ℕ) → member left t ≡ (member near t && matching tables rows s t)
+  left-at {near} {left} h t = go (matching tables rows s t) refl
     where
       answer : Transition → Bool
-      answer m = any-of (fits-step (relation-of f g rows) m) (steps (table-of g) t)
+      answer m = any-of (fits-step (relation-of tables rows) m) (steps (second-table tables) t)
 
-      pass : matched (table-of f) (table-of g) (relation-of f g rows) s t ≡ true → (k : ℕ) → start-of f s ≤ k → k < start-of f (s + 1) → (b : Bool)
-          → answered (relation-of f g rows) f k g t ≡ b → answered (relation-of f g rows) f k g t ≡ true
+      pass : matching tables rows s t ≡ true → (k : ℕ) → start-of (first-form tables) s ≤ k → k < start-of (first-form tables) (s + 1) → (b : Bool)
+          → answered tables rows k t ≡ b → answered tables rows k t ≡ true
       pass e k l u true w = w
-      pass e k l u false w = absurd (true≢false (sym e ∙ sym (one-fails f loaded s a answer k l u refl w)))
+      pass e k l u false w = absurd (true≢false (sym e ∙ sym (one-fails (first-form tables) loaded s a answer k l u refl w)))
 
-      go : (b : Bool) → matched (table-of f) (table-of g) (relation-of f g rows) s t ≡ b → member left t ≡ (member near t && b)
+      go : (b : Bool) → matching tables rows s t ≡ b → member left t ≡ (member near t && b)
       go true e =
           same-test (member left t) (member near t) (λ m. true-T (h .within t (is-true (member left t) m)))
-          (λ m. true-T (h .stays t (is-true (member near t) m) (λ k l u. pass e k l u (answered (relation-of f g rows) f k g t) refl)))
+          (λ m. true-T (h .stays t (is-true (member near t) m) (λ k l u. pass e k l u (answered tables rows k t) refl)))
           ∙ sym (and-true (member near t))
       go false e =
-          is-false (member left t) (λ m. true≢false (all-pass f loaded s a answer (h .passed t (is-true (member left t) m)) ∙ e))
+          is-false (member left t) (λ m. true≢false (all-pass (first-form tables) loaded s a answer (h .passed t (is-true (member left t) m)) ∙ e))
           ∙ sym (and-false (member near t))
 
   -- those that are gone fall: outside doubt no pair does
-  pub kept-end : {near left : ℕ} (doubt fallen : ℕ) → Columns (table-of g) (row-of rows s) → Doubtless (table-of f) (table-of g) (relation-of f g rows) s (member doubt)
-      → member near ≡ both (holds rows s) (member doubt) → Answering f g rows s near (start-of f (s + 1)) left
-      → member fallen ≡ except (member near) (member left) → member fallen ≡ falls (table-of f) (table-of g) (relation-of f g rows) s
+  pub kept-end : {near left : ℕ} (doubt fallen : ℕ) → Columns (second-table tables) (row-of rows s)
+      → Doubtless (first-table tables) (second-table tables) (relation-of tables rows) s (member doubt)
+      → member near ≡ both (holds rows s) (member doubt) → Answering tables rows s near (start-of (first-form tables) (s + 1)) left
+      → member fallen ≡ except (member near) (member left) → member fallen ≡ falls (first-table tables) (second-table tables) (relation-of tables rows) s
   kept-end {near} {left} doubt fallen columns sure e h d = fun-ext (λ t.
       ap (λ (X : Test). X t) d
       ∙ ap (λ (b : Bool). member near t && not b) (left-at h t)
-      ∙ with-both (member near t) (match t)
-      ∙ ap (λ (X : Test). X t && not (match t)) e
-      ∙ doubted (holds rows s t) (member doubt t) (match t) (λ o m. sure t o (subst T (sym (related-row (table-of f) (table-of g) rows s a columns t)) m))
-      ∙ sym (falls-is (table-of f) (table-of g) rows s a columns t))
+      ∙ with-both (member near t) (matching tables rows s t)
+      ∙ ap (λ (X : Test). X t && not (matching tables rows s t)) e
+      ∙ doubted (holds rows s t) (member doubt t) (matching tables rows s t) (λ o m. sure t o (subst T (sym (related-row (first-table tables) (second-table tables) rows s a columns t)) m))
+      ∙ sym (falls-is (first-table tables) (second-table tables) rows s a columns t))
     where
-      match : Test
-      match = matched (table-of f) (table-of g) (relation-of f g rows) s
-
       doubted : (b c m : Bool) → (c ≡ false → T b → T m) → ((b && c) && not m) ≡ (b && not m)
       doubted true true m k = refl
       doubted true false true k = refl

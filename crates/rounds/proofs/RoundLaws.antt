@@ -19,8 +19,8 @@ use Rattle.simulation.proofs.Simulation.Rounds.{In, in-zero, in-left, in-right,
 use Rattle.simulation.proofs.Simulation.Ranks.{rank-law}
 use Rattle.simulation.proofs.Simulation.RankList.{rounds-above, rounds-least}
 use Rattle.relation.specs.Related.{holds}
-use Rattle.matching.specs.Held.{held, matched}
-use Rattle.rounds.specs.Rounds.{falls, shown, After, Lost}
+use Rattle.fit.specs.Held.{held, matched}
+use Rattle.rounds.specs.Rounds.{falls, shown, After, Falling}
 
 -- what of a pair's test is left when the lost pairs are taken away
 kept-of : (a b : Bool) → (T b → T a) → (a && not (a && not b)) ≡ b
@@ -100,7 +100,17 @@ module _ (M N : Table) where
         reached = zero-le;
       }
 
-  module _ (k : ℕ) (rows ranks : List ℕ) (after : After M N k rows ranks) (lost : List ℕ) (fell : Lost M N (held M N rows) lost) where
+  -- a pair whose rank is no more than k is in round k if it is kept, and else not
+  pub kept-at : (k s t : ℕ) → s < states-of M → t < states-of N → rank M N s t ≤ k → related (round M N k) s t ≡ eqb (rank M N s t) 0
+  kept-at k s t a b le = same-test (related (round M N k) s t) (eqb (rank M N s t) 0) to from
+    where
+      to : In M N k s t → T (eqb (rank M N s t) 0)
+      to h = ⊎-elim (λ e. subst (λ (r : ℕ). T (eqb r 0)) (sym e) tt) (λ c. absurd (omega arith)) (rank-law M N s t a b .within k .0 h)
+
+      from : T (eqb (rank M N s t) 0) → In M N k s t
+      from h = rank-law M N s t a b .within k .1 (inl (eqb→eq (rank M N s t) 0 h))
+
+  module _ (k : ℕ) (rows ranks : List ℕ) (after : After M N k rows ranks) (lost : List ℕ) (fell : Falling M N (held M N rows) lost) where
     lost-is : (s t : ℕ) → s < states-of M → holds lost s t ≡ (related (round M N k) s t && not (related (round M N (suc k)) s t))
     lost-is s t a =
         fell s t a
@@ -198,10 +208,4 @@ module _ (M N : Table) where
 
       -- the rows hold the kept pairs
       pub rows-kept : (s t : ℕ) → s < states-of M → t < states-of N → holds rows s t ≡ eqb (rank M N s t) 0
-      rows-kept s t a b = after .rows-are s t a ∙ same-test (related (round M N k) s t) (eqb (rank M N s t) 0) to from
-        where
-          to : In M N k s t → T (eqb (rank M N s t) 0)
-          to h = ⊎-elim (λ e. subst (λ (r : ℕ). T (eqb r 0)) (sym e) tt) (λ c. absurd (omega (arith, last-rank s t a b))) (rank-law M N s t a b .within k .0 h)
-
-          from : T (eqb (rank M N s t) 0) → In M N k s t
-          from h = rank-law M N s t a b .within k .1 (inl (eqb→eq (rank M N s t) 0 h))
+      rows-kept s t a b = after .rows-are s t a ∙ kept-at k s t a b (last-rank s t a b)

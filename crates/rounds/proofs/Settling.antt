@@ -3,38 +3,24 @@
 use mathlib.Core.Path.{_≡_, refl, sym, ap, ap₂, _∙_, subst, fun-ext}
 use mathlib.Core.Bool.{Bool, true, false, cond, not, _&&_, and-true, and-false, true≢false}
 use mathlib.Core.List.{List}
-use mathlib.Core.Logic.{_≢_, ⊎-elim}
+use mathlib.Core.Logic.{_≢_}
 use Prim.Native.Nat.{ℕ, suc, _+_, _-_, _*_, _≤_, _<_}
 use native.Mathlib.Nat.{mul-le-mul-right, suc-mul}
 use native.Mathlib.Omega.{arith}
 use native.Mathlib.Decide.{ℕ-discrete, decLe}
 use borrow.Author.Tests.{le-leb, lt-leb}
 use lib.Dec.{T, T-not}
-use lib.ListN.{length, getD, set}
-use lib.Seq.{getD-set-same, getD-set-other}
-use Rattle.simulation.proofs.Finite.Tests.{and-left, and-right, is-true, is-false, last-or-below}
+use lib.ListN.{getD}
+use Rattle.simulation.proofs.Finite.Tests.{and-left, and-right, is-true, is-false}
 use Rattle.relation.specs.Mask.{Test, member, without-member, except}
-use Rattle.relation.specs.Words.{mask, row-of, height, put-row}
+use Rattle.relation.specs.Words.{mask, height, put-row}
 use Rattle.relation.specs.declared.set.Set.{Set}
 use Rattle.relation.proofs.Mask.{member-none}
 use Rattle.relation.proofs.Sets.{row-put, row-put-other}
 use Rattle.relation.specs.Related.{holds}
-use Rattle.rounds.specs.Rounds.{marked, Settled, Cleared}
+use Rattle.rounds.specs.Rounds.{marked, Settled}
 use Rattle.links.specs.Links.{Covered}
 use Rattle.links.proofs.Walks.{left-self, left-other}
-
--- one row more
-pub rows-next : (F : ℕ → Test) (l : List ℕ) (n : ℕ) (x : Set) → n < height l → member (mask x) ≡ F n → ((s t : ℕ) → s < n → holds l s t ≡ F s t) → (s t : ℕ) → s < n + 1 → holds (put-row l n x) s t ≡ F s t
-rows-next F l n x room e h s t a =
-    ⊎-elim
-    (λ (q : s ≡ n).
-    subst (λ (s : ℕ). holds (put-row l n x) s t ≡ F s t) (sym q) (ap (λ (y : ℕ). member y t) (row-put l n x room) ∙ ap (λ (X : Test). X t) e))
-    (λ (b : s < n). ap (λ (y : ℕ). member y t) (row-put-other l n s x (λ q. omega arith)) ∙ h s t b)
-    (last-or-below s n (omega arith))
-
--- what lies above a row written is as it was
-pub rows-left : (l₀ l : List ℕ) (n : ℕ) (x : Set) → ((s : ℕ) → n ≤ s → row-of l s ≡ row-of l₀ s) → (s : ℕ) → n + 1 ≤ s → row-of (put-row l n x) s ≡ row-of l₀ s
-rows-left l₀ l n x h s a = row-put-other l n s x (λ q. omega arith) ∙ h s (omega arith)
 
 -- rows of q places each lie one after the other
 pub row-place : (s n q t : ℕ) → s < n → t < q → s * q + t < n * q
@@ -142,22 +128,8 @@ settled-next {q} {k} {n} {rows} {rows′} {ranks} {ranks′} lost left rest rank
         ∙ ap (λ (b : Bool). cond b k (getD ranks (s * q + t) 0)) (sym (same s t c))
 
 -- none is left
-pub settled-all : {q k : ℕ} {rows rows′ ranks ranks′ : List ℕ} (lost : List ℕ) (left : ℕ) → left ≡ 0 → Settled q k (passed lost left) rows rows′ ranks ranks′ → Settled q k (holds lost) rows rows′ ranks ranks′
+pub settled-all : {q k : ℕ} {rows rows′ ranks ranks′ : List ℕ} (lost : List ℕ) (left : ℕ) → left ≡ 0 → Settled q k (passed lost left) rows rows′ ranks ranks′
+    → Settled q k (holds lost) rows rows′ ranks ranks′
 settled-all {q} {k} {rows} {rows′} {ranks} {ranks′} lost left e h =
     subst (λ (R : ℕ → Test). Settled q k R rows rows′ ranks ranks′)
     (fun-ext (λ s. fun-ext (λ t. ap (λ (n : ℕ). holds lost s t && not (member n s)) e ∙ ap (λ (b : Bool). holds lost s t && not b) (member-none s) ∙ and-true (holds lost s t)))) h
-
-pub cleared-none : {l : List ℕ} → Cleared 0 l l
-cleared-none = record { zero-at = λ i a. absurd (omega arith); left = λ i a. refl }
-
-pub cleared-next : {n : ℕ} {l l′ : List ℕ} → n < length l′ → Cleared n l l′ → Cleared (n + 1) l (set l′ n 0)
-cleared-next {n} {l} {l′} room h =
-    record {
-      zero-at = λ i a.
-          ⊎-elim (λ (q : i ≡ n). subst (λ (i : ℕ). getD (set l′ n 0) i 0 ≡ 0) (sym q) (getD-set-same l′ n 0 0 room))
-          (λ (b : i < n). getD-set-other l′ n i 0 0 (omega arith) ∙ h .zero-at i b) (last-or-below i n (omega arith));
-      left = λ i a. getD-set-other l′ n i 0 0 (omega arith) ∙ h .left i (omega arith);
-    }
-
-pub cleared-all : {n p : ℕ} {l l′ : List ℕ} → n ≡ p → Cleared n l l′ → Cleared p l l′
-cleared-all {l = l} {l′} e h = subst (λ (n : ℕ). Cleared n l l′) e h

@@ -10,20 +10,23 @@ use native.Mathlib.Omega.{arith}
 use lib.Dec.{T}
 use lib.ListN.{length, getD}
 use Rattle.simulation.specs.Table.{Transition, Table, weights, target-at, states-of, steps, transition}
-use Rattle.simulation.specs.Round.{Relation, related, round}
+use Rattle.simulation.specs.Round.{Relation, related, round, pairs}
 use Rattle.simulation.proofs.Finite.Tests.{and-left, is-true, is-false, same-test}
 use Rattle.simulation.proofs.Simulation.Relation.{relation-at, relation-left, relation-right}
 use Rattle.simulation.proofs.Simulation.Rounds.{in-right, falls as round-falls}
 use Rattle.relation.specs.Mask.{Test, member}
 use Rattle.relation.proofs.Mask.{member-none}
 use Rattle.form.specs.Form.{Loaded, start-of, transition-at, table-of}
-use Rattle.form.proofs.FormLaws.{counts, transition-of, state-of, weights-length, targets-length, sound}
+use Rattle.form.specs.Tables.{first-form, second-form, first-table, second-table}
+use Rattle.form.proofs.FormLaws.{counts, transition-of, state-of, weights-length, targets-length}
 use Rattle.relation.specs.Related.{holds}
-use Rattle.matching.specs.Held.{held, matched}
+use Rattle.fit.specs.Held.{held, matched}
 use Rattle.relation.specs.Words.{row-of}
-use Rattle.links.specs.Links.{Linked}
-use Rattle.links.specs.Links.{Doubted}
-use Rattle.rounds.specs.Rounds.{Columns, Placed, After, Ready, Settled, Fallen, Standing, Refined}
+use Rattle.links.specs.Places.{before-in, behind-in, doubt-in, lost-in}
+use Rattle.links.specs.Links.{Linked, Doubted}
+use Rattle.fit.specs.Known.{Tried}
+use Rattle.rounds.specs.Rounds.{Columns, Placed, After, DoubtsKnown, Settled, Fallen}
+use Rattle.rounds.specs.Turns.{Standing, Work, work, Prepared, Turning, Refined}
 use Rattle.rounds.proofs.Fitting.{Alike, matched-agree}
 use Rattle.rounds.proofs.Settling.{row-place}
 use Rattle.rounds.proofs.RoundLaws.{held-round, in-test, kept-unless, lost-rank, more, moves, ranks-whole, rounds-are, rows-kept}
@@ -49,14 +52,14 @@ held-less M N {X = X} {rows} {rows′} h s t e =
 
 module _ {M N : Table} {k fell : ℕ} {rows ranks lost : List ℕ} (h : Standing M N k rows ranks lost fell) where
   -- a lost pair has a place among the ranks
-  pub lost-places : {q n : ℕ} → q ≡ states-of N → states-of M * states-of N ≤ n → Placed q n lost
+  pub lost-places : {q n : ℕ} → q ≡ states-of N → pairs M N ≤ n → Placed q n lost
   lost-places {q} e room s t m =
       let a : s < states-of M = h .next .within s t m .0 in
       let b : t < states-of N = lost-rank M N k rows ranks (h .after) lost (h .next .exact) s t a (subst T (sym m) tt) .0 in
       (omega arith, omega (arith, row-place s (states-of M) (states-of N) t a b, ap (λ (n : ℕ). s * n) e))
 
   -- where a pair falls, a round more is within the count of pairs
-  pub bounded : fell ≢ 0 → k + 1 ≤ states-of M * states-of N
+  pub bounded : fell ≢ 0 → k + 1 ≤ pairs M N
   bounded d = let x = h .next .some d in omega (arith, more M N k rows ranks (h .after) lost (h .next .exact) (x .0) (x .1) (x .2) (x .3) .0)
 
   -- the next standing
@@ -70,11 +73,12 @@ module _ {M N : Table} {k fell : ℕ} {rows ranks lost : List ℕ} (h : Standing
       (λ s t a b m. settled .ranks-done s t b ∙ ap (λ (c : Bool). cond c (k + 1) (getD ranks (s * states-of N + t) 0)) (is-false (holds lost s t) m)))
 
   -- ranks past those of all pairs are as they were
-  pub past : {q : ℕ} → q ≡ states-of N → {rows′ ranks′ : List ℕ} → Settled q (k + 1) (holds lost) rows rows′ ranks ranks′ → (i : ℕ) → states-of M * states-of N ≤ i → getD ranks′ i 0 ≡ getD ranks i 0
-  past u s i a = s .ranks-left i (λ r t m e. let b = lost-places {n = states-of M * states-of N} u (omega arith) r t m in omega (arith, b .1))
+  pub past : {q : ℕ} → q ≡ states-of N → {rows′ ranks′ : List ℕ} → Settled q (k + 1) (holds lost) rows rows′ ranks ranks′
+      → (i : ℕ) → pairs M N ≤ i → getD ranks′ i 0 ≡ getD ranks i 0
+  past u s i a = s .ranks-left i (λ r t m e. let b = lost-places {n = pairs M N} u (omega arith) r t m in omega (arith, b .1))
 
   -- where no pair falls, the ranks are all there
-  pub refined : (old : List ℕ) → fell ≡ 0 → ((i : ℕ) → states-of M * states-of N ≤ i → getD ranks i 0 ≡ getD old i 0) → Refined M N old ranks rows k
+  pub refined : (old : List ℕ) → fell ≡ 0 → ((i : ℕ) → pairs M N ≤ i → getD ranks i 0 ≡ getD old i 0) → Refined M N old ranks rows k
   refined old z beyond =
       let none : (s t : ℕ) → s < states-of M → ¬ T (holds lost s t) =
       λ s t a m. true≢false (sym (h .next .within s t (is-true (holds lost s t) m) .1) ∙ ap (λ (n : ℕ). member n s) z ∙ member-none s) in
@@ -86,6 +90,24 @@ module _ {M N : Table} {k fell : ℕ} {rows ranks lost : List ℕ} (h : Standing
         columns = λ s t a b. is-false (holds rows s t) (λ m. let c : t < states-of N = round-columns (h .after) s a t m in omega arith);
       }
 
+-- lengths are all that is asked of what is lent for work, beside what was tried
+pub prepared-still : {tables ranks ranks′ sets rows rows′ marks marks′ tried tried′ amounts amounts′ : List ℕ} → Prepared tables (work ranks sets rows marks tried amounts)
+    → length ranks′ ≡ length ranks → length rows′ ≡ length rows → length marks′ ≡ length marks → length amounts′ ≡ length amounts → Tried tables rows′ tried′
+    → Prepared tables (work ranks′ sets rows′ marks′ tried′ amounts′)
+prepared-still p e r m x known =
+    record {
+      loaded = p .loaded;
+      ranks-room = omega (arith, p .ranks-room);
+      sets-room = p .sets-room;
+      first-links = p .first-links;
+      second-links = p .second-links;
+      target-sets = p .target-sets;
+      rows-room = omega (arith, p .rows-room);
+      marks-room = omega (arith, p .marks-room);
+      amounts-room = omega (arith, p .amounts-room);
+      known = known;
+    }
+
 -- the state s comes before each target of its transitions, by places
 link-at : (f before : List ℕ) (loaded : Loaded f) → Linked f before → (s k i : ℕ) → s < states-of (table-of f) → k < length (steps (table-of f) s)
     → i < length (weights (transition (table-of f) s k)) → holds before (target-at (transition (table-of f) s k) i) s ≡ true
@@ -96,37 +118,42 @@ link-at f before loaded linked s k i a b =
     linked .links s a (start-of f s + k) i (omega arith) (omega (arith, counts f loaded s a)) (omega (arith, weights-length m, targets-length m)))
 
 -- a pair that is not in doubt has lost no pair behind it, so it stays matched
-module _ {f g before behind : List ℕ} (loaded-f : Loaded f) (loaded-g : Loaded g) (links-f : Linked f before) (links-g : Linked g behind) where
-  pub sure : {k fell doubtful : ℕ} {rows ranks lost rows′ ranks′ doubt lost′ : List ℕ} → Standing (table-of f) (table-of g) k rows ranks lost fell
-      → After (table-of f) (table-of g) (k + 1) rows′ ranks′ → Doubted lost before behind doubtful doubt lost′ → Ready (table-of f) (table-of g) rows′ doubtful doubt
-  sure {k} {fell} {doubtful} {rows} {ranks} {lost} {rows′} {ranks′} {doubt} h later doubted =
-      record {
-        columns = round-columns later;
-        states = doubted .within (states-of M) (links-f .states);
-        sure = λ s a t out m.
-            let here : held M N rows′ ≡ round M N (suc k) = held-round M N (suc k) rows′ (next .rows-are) in
-            subst (λ (R : Relation). T (matched M N R s t)) (sym here)
-            (matched-agree M N (round M N k) (round M N (suc k)) s t (λ c d u v i j w z. alike s t a out c d u v i j w z)
-            (in-test M N k s t (subst (λ (R : Relation). T (related R s t)) here m)));
-      }
-    where
-      M : Table
-      M = table-of f
+pub sure : {tables : List ℕ} {W : Work} {k fell doubtful : ℕ} {rows′ ranks′ marks′ : List ℕ} → Turning tables W k fell
+    → After (first-table tables) (second-table tables) (k + 1) rows′ ranks′ → Doubted (W .sets) doubtful (W .marks) marks′ → DoubtsKnown (first-table tables) (second-table tables) rows′ doubtful (doubt-in marks′)
+sure {tables} {W} {k} {fell} {doubtful} {rows′} {ranks′} {marks′} h later doubted =
+    record {
+      columns = round-columns later;
+      states = doubted .within (states-of (first-table tables)) (p .first-links .states);
+      sure = λ s a t out m.
+          let here = held-round (first-table tables) (second-table tables) (suc k) rows′ (next .rows-are) in
+          subst (λ (R : Relation). T (matched (first-table tables) (second-table tables) R s t)) (sym here)
+          (matched-agree (first-table tables) (second-table tables) before now s t (λ c d u v i j w z. alike s t a out c d u v i j w z)
+          (in-test (first-table tables) (second-table tables) k s t (subst (λ (R : Relation). T (related R s t)) here m)));
+    }
+  where
+    p : Prepared tables W
+    p = h .prepared
 
-      N : Table
-      N = table-of g
+    before : Relation
+    before = round (first-table tables) (second-table tables) k
 
-      next : After (table-of f) (table-of g) (suc k) rows′ ranks′
-      next = subst (λ (n : ℕ). After (table-of f) (table-of g) n rows′ ranks′) (add-one k) later
+    now : Relation
+    now = round (first-table tables) (second-table tables) (suc k)
 
-      alike : (s t : ℕ) → s < states-of (table-of f) → (member doubtful s && holds doubt s t) ≡ false → (c d : ℕ) → c < length (steps (table-of f) s) → d < length (steps (table-of g) t) → Alike (round (table-of f) (table-of g) k) (round (table-of f) (table-of g) (suc k)) (transition (table-of f) s c) (transition (table-of g) t d)
-      alike s t a out c d u v i j w z =
-          let x = target-at (transition (table-of f) s c) i in
-          let y = target-at (transition (table-of g) t d) j in
-          let b : x < states-of (table-of f) = sound f loaded-f .target-bound s c i u w in
-          same-test (related (round (table-of f) (table-of g) k) x y) (related (round (table-of f) (table-of g) (suc k)) x y)
-          (λ q. kept-unless (table-of f) (table-of g) k rows ranks (h .after) lost (h .next .exact) x y q
-          (λ m.
-          let r = doubted .raised x s y t (link-at f before loaded-f links-f s c i a u w) (is-true (holds lost x y) m) (link-at g behind loaded-g links-g t d j (state-of g t d v) v z) in
-          true≢false (sym (ap₂ _&&_ (r .0) (r .1)) ∙ out)))
-          (round-falls (table-of f) (table-of g) k x y)
+    next : After (first-table tables) (second-table tables) (suc k) rows′ ranks′
+    next = subst (λ (n : ℕ). After (first-table tables) (second-table tables) n rows′ ranks′) (add-one k) later
+
+    alike : (s t : ℕ) → s < states-of (first-table tables) → (member doubtful s && holds (doubt-in marks′) s t) ≡ false → (c d : ℕ) → c < length (steps (first-table tables) s)
+        → d < length (steps (second-table tables) t) → Alike before now (transition (first-table tables) s c) (transition (second-table tables) t d)
+    alike s t a out c d u v i j w z =
+        let f = first-form tables in
+        let g = second-form tables in
+        let x = target-at (transition (table-of f) s c) i in
+        let y = target-at (transition (table-of g) t d) j in
+        same-test (related before x y) (related now x y)
+        (λ q. kept-unless (table-of f) (table-of g) k (W .rows) (W .ranks) (h .standing .after) (lost-in (W .marks)) (h .standing .next .exact) x y q
+        (λ m.
+        let r = doubted .raised x s y t (link-at f (before-in (W .sets)) (p .loaded .first) (p .first-links) s c i a u w) (is-true (holds (lost-in (W .marks)) x y) m)
+        (link-at g (behind-in (W .sets)) (p .loaded .second) (p .second-links) t d j (state-of g t d v) v z) in
+        true≢false (sym (ap₂ _&&_ (r .0) (r .1)) ∙ out)))
+        (round-falls (table-of f) (table-of g) k x y)

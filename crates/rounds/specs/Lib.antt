@@ -1,3 +1,4 @@
 -- The definitions, in reading order.
 -- Assumes nothing.
 pub mod Rounds
+pub mod Turns

@@ -5,16 +5,12 @@ use mathlib.Core.Bool.{Bool, true, false, cond, not, _&&_}
 use mathlib.Core.List.{List}
 use mathlib.Core.Logic.{_≢_}
 use Prim.Native.Nat.{ℕ, _+_, _-_, _*_, _≤_, _<_}
-use lib.Dec.{T, eqb, leb, ltb}
-use lib.ListN.{length, getD}
-use Rattle.simulation.specs.Limits.{most-states}
-use Rattle.relation.specs.Words.{row-of, height}
+use lib.Dec.{T, leb, ltb}
+use lib.ListN.{getD}
+use Rattle.relation.specs.Words.{row-of}
 use Rattle.relation.specs.Mask.{Test, member, with-bit}
-use Rattle.form.specs.Form.{table-of}
 use Rattle.relation.specs.Related.{holds}
-use Rattle.matching.specs.Held.{held, matched, coded, relation-of}
-use Rattle.matching.specs.Known.{Lent, Tried}
-use Rattle.links.specs.Links.{Linked}
+use Rattle.fit.specs.Held.{held, matched, coded}
 use Rattle.simulation.specs.Sum.{when, all-of}
 use Rattle.simulation.specs.Table.{Transition, Table, states-of, steps}
 use Rattle.simulation.specs.Round.{Relation, related, survives, round, rank, rank-list, maximum}
@@ -42,8 +38,8 @@ pub record After (M N : Table) (k : ℕ) (rows ranks : List ℕ) : Type 0 where
   pub reached : k ≤ maximum (rank-list M N)
 
 -- lost holds the pairs that the round after R lacks
-abbrev pub Lost : Table → Table → Relation → List ℕ → Type 0
-Lost M N R lost = (s t : ℕ) → s < states-of M → holds lost s t ≡ falls M N R s t
+abbrev pub Falling : Table → Table → Relation → List ℕ → Type 0
+Falling M N R lost = (s t : ℕ) → s < states-of M → holds lost s t ≡ falls M N R s t
 
 -- k at the places base + t of the members t of a set; elsewhere as before
 abbrev pub marked : Test → ℕ → ℕ → List ℕ → ℕ → ℕ
@@ -72,53 +68,13 @@ pub record Settled (q k : ℕ) (R : ℕ → Test) (rows rows′ ranks ranks′ :
   pub ranks-left : (i : ℕ) → ((s t : ℕ) → R s t ≡ true → i ≢ s * q + t) → getD ranks′ i 0 ≡ getD ranks i 0
 
 -- rows of states of the second table, and the pairs in doubt, which lie in the rows of a set of states of the first: no other pair falls
-pub record Ready (M N : Table) (rows : List ℕ) (doubtful : ℕ) (doubt : List ℕ) : Type 0 where
+pub record DoubtsKnown (M N : Table) (rows : List ℕ) (doubtful : ℕ) (doubt : List ℕ) : Type 0 where
   pub columns : (s : ℕ) → s < states-of M → Columns N (row-of rows s)
   pub states : (s : ℕ) → member doubtful s ≡ true → s < states-of M
   pub sure : (s : ℕ) → s < states-of M → Doubtless M N (held M N rows) s (λ t. member doubtful s && holds doubt s t)
 
 -- lost holds the pairs that the round after R lacks, and fell the rows that have one
 pub record Fallen (M N : Table) (R : Relation) (lost : List ℕ) (fell : ℕ) : Type 0 where
-  pub exact : Lost M N R lost
+  pub exact : Falling M N R lost
   pub within : (s t : ℕ) → holds lost s t ≡ true → (s < states-of M) × (member fell s ≡ true)
   pub some : fell ≢ 0 → (s : ℕ) × (t : ℕ) × (s < states-of M) × T (holds lost s t)
-
--- zeros in the first n places, the others as they were
-pub record Cleared (n : ℕ) (l l′ : List ℕ) : Type 0 where
-  pub zero-at : (i : ℕ) → i < n → getD l′ i 0 ≡ 0
-  pub left : (i : ℕ) → n ≤ i → getD l′ i 0 ≡ getD l i 0
-
--- between round k and the next, with the pairs that fall next
-pub record Standing (M N : Table) (k : ℕ) (rows ranks lost : List ℕ) (fell : ℕ) : Type 0 where
-  pub after : After M N k rows ranks
-  pub next : Fallen M N (held M N rows) lost fell
-
--- what a turn starts from: two tables, their links, room for the work, and a standing
-pub record Turning (f g masks ranks rows doubt lost before behind tried x : List ℕ) (k fell : ℕ) : Type 0 where
-  pub lent : Lent f g masks rows x
-  pub known : Tried f g (relation-of f g rows) tried
-  pub ranks-room : states-of (table-of f) * states-of (table-of g) ≤ length ranks
-  pub doubt-room : most-states ≤ height doubt
-  pub lost-room : most-states ≤ height lost
-  pub first-links : Linked f before
-  pub second-links : Linked g behind
-  pub standing : Standing (table-of f) (table-of g) k rows ranks lost fell
-
--- what a round finds: the pairs that fall, and what was tried for it
-pub record Found (f g rows lost tried : List ℕ) (fell : ℕ) : Type 0 where
-  pub fallen : Fallen (table-of f) (table-of g) (relation-of f g rows) lost fell
-  pub known : Tried f g (relation-of f g rows) tried
-
--- a turn: the next standing, what was tried by then, and no other rank changed
-pub record Turned (f g : List ℕ) (k : ℕ) (ranks ranks′ rows′ lost′ tried′ : List ℕ) (fell : ℕ) : Type 0 where
-  pub standing : Standing (table-of f) (table-of g) (k + 1) rows′ ranks′ lost′ fell
-  pub known : Tried f g (relation-of f g rows′) tried′
-  pub beyond : (i : ℕ) → states-of (table-of f) * states-of (table-of g) ≤ i → getD ranks′ i 0 ≡ getD ranks i 0
-
--- the end: k is the count of rounds, the ranks are in their places, the rows hold the kept pairs
-pub record Refined (M N : Table) (ranks ranks′ rows′ : List ℕ) (k : ℕ) : Type 0 where
-  pub rounds : k ≡ maximum (rank-list M N)
-  pub ranks-are : (s t : ℕ) → s < states-of M → t < states-of N → getD ranks′ (s * states-of N + t) 0 ≡ rank M N s t
-  pub beyond : (i : ℕ) → states-of M * states-of N ≤ i → getD ranks′ i 0 ≡ getD ranks i 0
-  pub rows-are : (s t : ℕ) → s < states-of M → t < states-of N → holds rows′ s t ≡ eqb (rank M N s t) 0
-  pub columns : (s t : ℕ) → s < states-of M → states-of N ≤ t → holds rows′ s t ≡ false

@@ -1,5 +1,5 @@
 // The search for a path, level by level over sets, from the short rows to a row with a free column.
-use matrix::byte;
+use relation::Word;
 use relation::rows;
 use relation::set;
 use relation::set::Set;
@@ -8,27 +8,44 @@ use simulation::Table;
 ghost use mathlib.Core.Path.{_≡_};
 ghost use mathlib.Core.Bool.{true};
 ghost use Prim.Native.Nat.{ℕ, _≤_, _<_};
-ghost use lib.ListN.{length};
 ghost use Rattle.simulation.specs.Limits.{most-states};
 ghost use Rattle.relation.specs.Mask.{member};
 ghost use Rattle.relation.specs.Words.{mask, height};
-ghost use Rattle.search.specs.Search.{Room, Linked, Spread, Closed, Levelled, HitOf, SearchOf};
+ghost use Rattle.search.specs.Links.{HasLinks, from, via};
+ghost use Rattle.search.specs.Search.{Room, RowsLinked, Followed, Closed, Levelled, HitOf, SearchOf};
+
+// Where the row and the column by which each row was reached lie in a lent slice.
+pub struct Links {}
+
+impl Links {
+    pub const FROM_AT: usize = 0;
+
+    pub const VIA_AT: usize = Table::STATES;
+
+    pub const SIZE: usize = 2 * Table::STATES;
+}
+
+// The short rows and the free columns.
+pub struct Ends {
+    pub short: Set,
+    pub free: Set,
+}
 
 // The rows reached and the columns gone to.
-struct Covered {
+struct Visited {
     reached: Set,
     seen: Set,
 }
 
 // The rows reached, and the row of a free column with the length of its path; row Table::STATES where there is none.
-pub struct Found {
+pub struct Path {
     pub reached: Set,
     pub row: usize,
     pub depth: usize,
 }
 
 // The first of the rows with a free column; Table::STATES where there is none.
-fn hit(rel: &[u64], free: Set, rows: Set) -> usize
+fn hit(rel: &[Word], free: Set, rows: Set) -> usize
     requires { ⌜ ((i : ℕ) → member (mask rows) i ≡ true → i < height (now rel)) ⌝ }
     ensures { λ r. ⌜ HitOf (now (rel .entry)) (mask free) (member (mask rows)) r ⌝ }
 {
@@ -46,40 +63,35 @@ fn hit(rel: &[u64], free: Set, rows: Set) -> usize
 }
 
 // The rows of a set were reached from row r by column j.
-fn link(from: &mut [u8], via: &mut [u8], rows: Set, r: usize, j: usize)
-    requires { ⌜ (most-states ≤ length (now from)) × (most-states ≤ length (now via)) × (r < most-states) × (j < most-states) ⌝ }
-    ensures { λ o. ⌜ Linked (member (mask rows)) r j (now (from .entry)) (now (via .entry)) (now (from .exit)) (now (via .exit)) ⌝ }
+fn link_rows(links: &mut [u8], rows: Set, r: usize, j: usize)
+    requires { ⌜ HasLinks (now links) × (r < most-states) × (j < most-states) ⌝ }
+    ensures { λ o. ⌜ RowsLinked (member (mask rows)) r j
+        (from (now (links .entry))) (via (now (links .entry))) (from (now (links .exit))) (via (now (links .exit))) ⌝ }
 {
     for w in 0..Set::WORDS {
         let mut left = rows.words[w];
         while left != 0 {
             let i = walk::lowest(rows, w, left);
-            from[i] = byte(r);
-            via[i] = byte(j);
+            links[Links::FROM_AT + i] = r as u8;
+            links[Links::VIA_AT + i] = j as u8;
             left = walk::without_lowest(rows, w, left);
         }
     }
 }
 
-// Row r goes by its columns to their users. Returns the rows reached then.
-fn spread(
-    users: &[u64],
-    from: &mut [u8],
-    via: &mut [u8],
-    columns: Set,
-    r: usize,
-    reached: Set,
-) -> Set
-    requires { ⌜ (most-states ≤ height (now users)) × (most-states ≤ length (now from)) × (most-states ≤ length (now via)) × (r < most-states) ⌝ }
-    ensures { λ s. ⌜ Spread (now (users .entry)) (member (mask columns)) r (member (mask reached)) (member (mask s)) (now (from .entry)) (now (via .entry)) (now (from .exit)) (now (via .exit)) ⌝ }
+// Row r goes by its columns to their senders. Returns the rows reached then.
+fn follow(senders: &[Word], links: &mut [u8], columns: Set, r: usize, reached: Set) -> Set
+    requires { ⌜ (most-states ≤ height (now senders)) × HasLinks (now links) × (r < most-states) ⌝ }
+    ensures { λ s. ⌜ Followed (now (senders .entry)) (member (mask columns)) r (member (mask reached)) (member (mask s))
+        (from (now (links .entry))) (via (now (links .entry))) (from (now (links .exit))) (via (now (links .exit))) ⌝ }
 {
     let mut all = reached;
     for w in 0..Set::WORDS {
         let mut left = columns.words[w];
         while left != 0 {
             let j = walk::lowest(columns, w, left);
-            let new = set::difference(rows::get(users, j), all);
-            link(from, via, new, r, j);
+            let new = set::difference(rows::get(senders, j), all);
+            link_rows(links, new, r, j);
             all = set::union(all, new);
             left = walk::without_lowest(columns, w, left);
         }
@@ -88,48 +100,39 @@ fn spread(
 }
 
 // The rows of a level go by all their columns that were not gone to.
-fn level(
-    rel: &[u64],
-    users: &[u64],
-    from: &mut [u8],
-    via: &mut [u8],
-    rows: Set,
-    reached: Set,
-    seen: Set,
-) -> Covered
-    requires { ⌜ (most-states ≤ height (now users)) × (most-states ≤ length (now from)) × (most-states ≤ length (now via)) × ((i : ℕ) → member (mask rows) i ≡ true → i < height (now rel)) × Closed (now users) (member (mask seen)) (member (mask reached)) ⌝ }
-    ensures { λ s. ⌜ Levelled (now (rel .entry)) (now (users .entry)) (member (mask rows)) (member (mask seen)) (member (mask (s .seen))) (member (mask reached)) (member (mask (s .reached))) (now (from .entry)) (now (via .entry)) (now (from .exit)) (now (via .exit)) ⌝ }
+fn level(rel: &[Word], senders: &[Word], links: &mut [u8], rows: Set, covered: Visited) -> Visited
+    requires { ⌜ (most-states ≤ height (now senders)) × HasLinks (now links) × ((i : ℕ) → member (mask rows) i ≡ true → i < height (now rel))
+        × Closed (now senders) (member (mask (covered .seen))) (member (mask (covered .reached))) ⌝ }
+    ensures { λ s. ⌜ Levelled (now (rel .entry)) (now (senders .entry)) (member (mask rows))
+        (member (mask (covered .seen))) (member (mask (s .seen))) (member (mask (covered .reached))) (member (mask (s .reached)))
+        (from (now (links .entry))) (via (now (links .entry))) (from (now (links .exit))) (via (now (links .exit))) ⌝ }
 {
-    let mut all = reached;
-    let mut gone = seen;
+    let mut all = covered.reached;
+    let mut gone = covered.seen;
     for w in 0..Set::WORDS {
         let mut left = rows.words[w];
         while left != 0 {
             let r = walk::lowest(rows, w, left);
             let columns = set::difference(rows::get(rel, r), gone);
-            all = spread(users, from, via, columns, r, all);
+            all = follow(senders, links, columns, r, all);
             gone = set::union(gone, columns);
             left = walk::without_lowest(rows, w, left);
         }
     }
-    Covered {
+    Visited {
         reached: all,
         seen: gone,
     }
 }
 
 // Levels from the short rows on, up to the first with a free column.
-pub fn search(
-    rel: &[u64],
-    users: &[u64],
-    from: &mut [u8],
-    via: &mut [u8],
-    short: Set,
-    free: Set,
-) -> Found
-    requires { ⌜ Room (now rel) (now users) (now from) (now via) (mask short) ⌝ }
-    ensures { λ s. ⌜ SearchOf (now (rel .entry)) (now (users .entry)) (mask short) (mask free) (now (from .exit)) (now (via .exit)) (member (mask (s .reached))) (s .row) (s .depth) ⌝ }
+pub fn search(rel: &[Word], senders: &[Word], links: &mut [u8], ends: Ends) -> Path
+    requires { ⌜ Room (now rel) (now senders) (now links) (mask (ends .short)) ⌝ }
+    ensures { λ s. ⌜ SearchOf (now (rel .entry)) (now (senders .entry)) (mask (ends .short)) (mask (ends .free))
+        (from (now (links .exit))) (via (now (links .exit))) (member (mask (s .reached))) (s .row) (s .depth) ⌝ }
 {
+    let short = ends.short;
+    let free = ends.free;
     let mut reached = short;
     let mut rows = short;
     let mut seen = set::empty();
@@ -137,13 +140,13 @@ pub fn search(
     while !set::is_empty(rows) {
         let r = hit(rel, free, rows);
         if r < Table::STATES {
-            return Found {
+            return Path {
                 reached,
                 row: r,
                 depth,
             };
         }
-        let next = level(rel, users, from, via, rows, reached, seen);
+        let next = level(rel, senders, links, rows, Visited { reached, seen });
         let all = next.reached;
         let gone = next.seen;
         rows = set::difference(all, reached);
@@ -151,7 +154,7 @@ pub fn search(
         seen = gone;
         depth += 1;
     }
-    Found {
+    Path {
         reached,
         row: Table::STATES,
         depth,

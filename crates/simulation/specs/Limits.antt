@@ -25,3 +25,11 @@ most-total = 65535
 -- the pairs of a state of either table
 abbrev pub most-pairs : ℕ
 most-pairs = most-states * most-states
+
+-- a check of so few pairs works in short lists of its own
+abbrev pub few-pairs : ℕ
+few-pairs = 600
+
+-- the bytes of the longest tree that is written
+abbrev pub most-tree-bytes : ℕ
+most-tree-bytes = 65535

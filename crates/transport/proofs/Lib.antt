@@ -1,3 +1,5 @@
--- From a flow that no path improves to what the kernel answers.
+-- From a greedy flow to one that no path improves, and from that to what the kernel answers.
 -- Assumes nothing.
+pub mod Growing
 pub mod Certificate
+pub mod Lending

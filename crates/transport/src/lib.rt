@@ -2,28 +2,28 @@
 // A position of the first is a row, a position of the second a column; the amount of row i and column j is at i * Table::STATES + j.
 // After a greedy start the flow grows along shortest paths, found level by level over sets. A row is short while it has
 // something left to send, a column free while it can take more.
-use augment::Ends;
 use augment::push;
 use greedy::begin;
 use greedy::fill;
 use matrix::positive;
 use relation::Relation;
+use relation::Word;
 use relation::set::Set;
+use search::Ends;
+use search::Links;
 use search::search;
 use simulation::Table;
 ghost use mathlib.Core.Path.{_≡_};
-ghost use Prim.Native.Nat.{ℕ, _+_, _^_, _≤_, _<_, _*_};
+ghost use Prim.Native.Nat.{ℕ, _^_, _<_, _*_};
 ghost use lib.ListN.{length, getD};
 ghost use Rattle.simulation.specs.Limits.{most-states};
-ghost use Rattle.relation.specs.Mask.{member};
 ghost use Rattle.relation.specs.Words.{words, mask, row-of};
 ghost use Rattle.matrix.specs.Problem.{Given};
-ghost use Rattle.transport.specs.Answer.{Answered};
 ghost use Rattle.matrix.specs.Masks.{MaskOf};
-ghost use Rattle.matrix.specs.Flow.{missing, Flow, Improves};
-ghost use Rattle.search.specs.Search.{Ended};
-ghost use Rattle.augment.specs.Augments.{Augmented};
-ghost use Rattle.transport.specs.Paths.{Counts};
+ghost use Rattle.matrix.specs.Flow.{missing, partial, FlowIn};
+ghost use Rattle.search.specs.Links.{HasLinks};
+ghost use Rattle.transport.specs.Answer.{MaximumFlow};
+ghost use Rattle.transport.specs.Paths.{Counts, Grown};
 
 // The smallest of the sets with the largest excess, and the number of augmenting paths that led to the flow.
 pub struct Outcome {
@@ -33,32 +33,32 @@ pub struct Outcome {
 
 // A maximum flow from a partial one. Returns the rows that the last search reached, and the number of paths.
 fn improve(
-    x: &mut [u32],
-    a: &mut [u32],
-    b: &mut [u32],
-    users: &mut [u64],
-    rel: &[u64],
-    from: &mut [u8],
-    via: &mut [u8],
-    p: usize,
-    q: usize,
+    amounts: &mut [u32],
+    supply: &mut [u32],
+    demand: &mut [u32],
+    senders: &mut [Word],
+    rel: &[Word],
+    links: &mut [u8],
     free: Set,
 ) -> Outcome
-    requires { ⌜ Flow p q (now rel) (now x) (now a) (now b) (now users) × MaskOf q (λ j. getD (now b) j 0) (mask free) × (most-states ≤ length (now from)) × (most-states ≤ length (now via)) × (missing q (now b) < 2 ^ 32) ⌝ }
-    ensures { λ r. ⌜ Improves p q (now (rel .entry)) (now (x .entry)) (now (a .entry)) (now (b .entry)) (now (users .entry)) (now (x .exit)) (now (a .exit)) (now (b .exit)) (now (users .exit)) × Ended p q (now (rel .entry)) (now (a .exit)) (now (b .exit)) (now (users .exit)) (member (mask (r .cut))) × Augmented p q (now (rel .entry)) (r .paths) (now (x .entry)) (now (a .entry)) (now (b .entry)) (now (users .entry)) (now (x .exit)) (now (a .exit)) (now (b .exit)) (now (users .exit)) × (r .paths + missing q (now (b .exit)) ≤ missing q (now (b .entry))) ⌝ }
+    requires { ⌜ FlowIn (now rel) (partial (now amounts) (now supply) (now demand) (now senders))
+        × MaskOf (length (now demand)) (λ j. getD (now demand) j 0) (mask free) × HasLinks (now links)
+        × (missing (length (now demand)) (now demand) < 2 ^ 32) ⌝ }
+    ensures { λ r. ⌜ Grown (now (rel .entry)) (r .paths) (partial (now (amounts .entry)) (now (supply .entry)) (now (demand .entry)) (now (senders .entry)))
+        (partial (now (amounts .exit)) (now (supply .exit)) (now (demand .exit)) (now (senders .exit))) (mask (r .cut)) ⌝ }
 {
-    let mut e = Ends {
-        short: positive(a, p),
+    let mut ends = Ends {
+        short: positive(supply),
         free,
     };
-    let mut s = search(rel, users, from, via, e.short, e.free);
+    let mut path = search(rel, senders, links, ends);
     let mut paths = 0u32;
-    while s.row < Table::STATES {
-        e = push(x, a, b, users, rel, from, via, p, q, e, s);
+    while path.row < Table::STATES {
+        ends = push(amounts, supply, demand, senders, rel, links, ends, path);
         paths += 1;
-        s = search(rel, users, from, via, e.short, e.free);
+        path = search(rel, senders, links, ends);
     }
-    let cut = s.reached;
+    let cut = path.reached;
     Outcome { cut, paths }
 }
 
@@ -68,53 +68,46 @@ fn no_amounts() -> [u32; Table::STATES]
     [0u32; Table::STATES]
 }
 
-fn no_users() -> [u64; Relation::WORDS]
+fn no_senders() -> [Word; Relation::WORDS]
     ensures { λ r. ⌜ (length r ≡ most-states * words) × ((j : ℕ) → row-of r j ≡ 0) ⌝ }
 {
-    [0u64; Relation::WORDS]
+    [0; Relation::WORDS]
 }
 
-fn no_links() -> [u8; Table::STATES]
-    ensures { λ r. ⌜ length r ≡ most-states ⌝ }
+fn no_links() -> [u8; Links::SIZE]
+    ensures { λ r. ⌜ HasLinks r ⌝ }
 {
-    [0u8; Table::STATES]
+    [0u8; Links::SIZE]
 }
 
-// A maximum flow from the distribution m to n, in x, and 01's smallest of the sets with the largest excess: empty exactly if m fits n. With it
-// the number of augmenting paths after the greedy start.
-pub fn counted(m: &[u16], n: &[u16], rel: &[u64], x: &mut [u32]) -> Outcome
-    requires { ⌜ Given (now m) (now n) (now rel) (now x) ⌝ }
-    ensures { λ r. ⌜ Answered (now (m .entry)) (now (n .entry)) (now (rel .entry)) (now (x .entry)) (now (x .exit)) (mask (r .cut)) × Counts (now (m .entry)) (now (n .entry)) (now (rel .entry)) (now (x .exit)) (r .paths) ⌝ }
+// A maximum flow from the distribution m to n, in amounts, and 01's smallest of the sets with the largest excess: empty exactly if m fits n.
+// With it the number of augmenting paths after the greedy start.
+pub fn maximum_flow(m: &[u16], n: &[u16], rel: &[Word], amounts: &mut [u32]) -> Outcome
+    requires { ⌜ Given (now m) (now n) (now rel) (now amounts) ⌝ }
+    ensures { λ r. ⌜ MaximumFlow (now (m .entry)) (now (n .entry)) (now (rel .entry)) (now (amounts .entry)) (now (amounts .exit)) (mask (r .cut))
+        × Counts (now (m .entry)) (now (n .entry)) (now (rel .entry)) (now (amounts .exit)) (r .paths) ⌝ }
 {
     let p = m.len();
     let q = n.len();
-    let mut a = no_amounts();
-    let mut b = no_amounts();
-    let mut users = no_users();
-    let mut from = no_links();
-    let mut via = no_links();
-    begin(m, n, x, &mut a, &mut b);
-    let free = fill(x, &mut a, &mut b, &mut users, rel, p, q);
-    improve(
-        x,
-        &mut a,
-        &mut b,
-        &mut users,
+    let mut supply = no_amounts();
+    let mut demand = no_amounts();
+    let mut senders = no_senders();
+    let mut links = no_links();
+    begin(m, n, amounts, &mut supply, &mut demand);
+    let free = fill(
+        amounts,
+        &mut supply[..p],
+        &mut demand[..q],
+        &mut senders,
         rel,
-        &mut from,
-        &mut via,
-        p,
-        q,
+    );
+    improve(
+        amounts,
+        &mut supply[..p],
+        &mut demand[..q],
+        &mut senders,
+        rel,
+        &mut links,
         free,
     )
-}
-
-// The same without the number.
-pub fn transport(m: &[u16], n: &[u16], rel: &[u64], x: &mut [u32]) -> Set
-    requires { ⌜ Given (now m) (now n) (now rel) (now x) ⌝ }
-    ensures { λ r. ⌜ Answered (now (m .entry)) (now (n .entry)) (now (rel .entry)) (now (x .entry)) (now (x .exit)) (mask r) ⌝ }
-{
-    let r = counted(m, n, rel, x);
-    let cut = r.cut;
-    cut
 }

@@ -8,7 +8,7 @@ use lib.ListN.{length, set}
 use Rattle.relation.specs.Words.{mask, height, put-row}
 use Rattle.relation.specs.declared.set.Set.{Set}
 use Rattle.matrix.specs.Problem.{Given}
-use Rattle.transport.specs.Answer.{Answered}
+use Rattle.transport.specs.Answer.{MaximumFlow}
 use Rattle.transport.specs.Paths.{Counts}
 
 -- what the kernel takes, and a place for its cut and for the number of paths
@@ -25,5 +25,5 @@ pub record Accepts (ws vs rel x cut paths : List ℕ) (r : Bool) : Type 0 where
 -- 1 with the kernel's answer, its cut c and the number of paths k first in their buffers, where the input is taken; else 0, and nothing changed
 pub record Flowed (ws vs rel x cut paths x′ cut′ paths′ : List ℕ) (r : ℕ) : Type 0 where
   pub answered : Taken ws vs rel x cut paths → (r ≡ 1) × (c : Set) × (k : ℕ) × (cut′ ≡ put-row cut 0 c) × (paths′ ≡ set paths 0 k)
-      × Answered ws vs rel x x′ (mask c) × Counts ws vs rel x′ k
+      × MaximumFlow ws vs rel x x′ (mask c) × Counts ws vs rel x′ k
   pub refused : (Taken ws vs rel x cut paths → ⊥) → (r ≡ 0) × (x′ ≡ x) × (cut′ ≡ cut) × (paths′ ≡ paths)

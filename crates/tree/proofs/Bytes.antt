@@ -1,4 +1,4 @@
--- The bytes of a node and of a transition, in the order in which they are written, and the words that their parts need.
+-- The bytes of a node and of a transition, in the order in which they are written.
 -- For any two tables and any fuel.
 -- Assumes nothing.
 use mathlib.Core.Path.{_≡_, refl, sym, ap, ap₂, _∙_, subst}

@@ -3,8 +3,8 @@
 use mathlib.Core.Path.{_≡_, refl, sym, ap, _∙_, subst}
 use mathlib.Core.Logic.{_⊎_, inl, inr}
 use mathlib.Core.List.{List, [], _∷_, _++_}
-use Prim.Native.Nat.{ℕ, zero, suc, _+_, _-_, _*_, _^_, _≤_, _<_}
-use native.Mathlib.Nat.{lt-of-lt-of-le, zero-lt-suc}
+use Prim.Native.Nat.{ℕ, _+_, _-_, _*_, _^_, _≤_, _<_}
+use native.Mathlib.Nat.{lt-of-lt-of-le}
 use native.Mathlib.Omega.{arith}
 use lib.Dec.{T}
 use lib.ListN.{length, getD, set, length-set, length-append}
@@ -16,136 +16,99 @@ use Rattle.simulation.specs.Round.{pairs}
 use Rattle.simulation.specs.Tree.{chosen, set-of, own-node}
 use Rattle.simulation.specs.Length.{one-length, pair-length}
 use Rattle.simulation.proofs.Finite.Sums.{sum-one, sum-add, sum-mul, members-most}
-use Rattle.simulation.proofs.Finite.Tests.{and-left}
 use Rattle.simulation.proofs.Simulation.Ranks.{rank-law}
 use Rattle.simulation.proofs.Trees.Length.{pair-length-step}
-use Rattle.form.specs.Form.{Loaded, table-of}
+use Rattle.form.specs.Tables.{first-form, second-form, first-table, second-table, BothLoaded}
 use Rattle.form.proofs.FormLaws.{limits, sound}
 use Rattle.relation.specs.Mask.{Test, member, without-member, size, Lowest}
-use Rattle.relation.specs.Words.{mask}
+use Rattle.relation.specs.Words.{words, mask, rest as left-of, after}
 use Rattle.relation.specs.declared.set.Set.{Set}
 use Rattle.relation.proofs.Mask.{member-none, below-or-not}
+use Rattle.relation.proofs.Sets.{walk-on}
 use Rattle.choice.specs.Choice.{Lost}
-use Rattle.tree.proofs.Bytes.{members-all, steps-lowest, no-steps, steps-bytes, node-is}
-use Rattle.counting.proofs.Pairs.{place-below, member-holds}
-use Rattle.tree.specs.Parts.{At, node-of, step-of, PartOf, Left, Given, StepGiven, StepWritten, NodeGiven, Around}
-use Rattle.tree.proofs.Places.{at-self, at-is, at-front, at-back, piece, placed, piece-length, placed-length, placed-before, placed-in}
-use Rattle.tree.proofs.Lengths.{step-size}
+use Rattle.counting.specs.Pair.{number}
+use Rattle.counting.proofs.Pairs.{lost-place, lost-low, member-holds, without-in}
 use Rattle.measure.specs.Lengths.{Measured}
-
-pub zero-or : (n : ℕ) → (0 < n → n ≡ 0) → n ≡ 0
-zero-or zero h = refl
-zero-or (suc n) h = h (zero-lt-suc n)
-
-pub zero-pos : (n : ℕ) → (n ≡ 0) ⊎ (0 < n)
-zero-pos zero = inl refl
-zero-pos (suc n) = inr (zero-lt-suc n)
-
--- ---- what is left to be written
-
-module _ {first second choices lengths total : List ℕ} where
-  -- nothing is left: all bytes so far are written
-  pub left-none : {n s t at len : ℕ} {now : List ℕ} → Left first second choices lengths total n s t at len now → len ≡ 0 → (k : ℕ) → k < n → getD now k 0 ≡ getD total k 0
-  left-none {at = at} {len = len} l z k lt = l .written k lt (outside (below-or-not k at))
-    where
-      outside : (k < at) ⊎ (at ≤ k) → (k < at) ⊎ (at + len ≤ k)
-      outside (inl b) = inl b
-      outside (inr b) = inr (omega arith)
-
-  module _ {n s t at len : ℕ} {now : List ℕ} (l : Left first second choices lengths total n s t at len now)
-      (a b : ℕ) (le : a ≤ b) (room : b ≤ length now) (en : n ≡ a) (ys : List ℕ) (same : length ys ≡ b - a) where
-    -- the part after them is written
-    pub left-more : (P : List ℕ) → At total a P → length P ≡ b - a → ((k : ℕ) → k < b - a → getD ys k 0 ≡ getD P k 0)
-        → Left first second choices lengths total b s t at len (placed a b now ys)
-    left-more P p eP put =
-        record {
-          within = omega (arith, l .within);
-          written = λ k lt out. by k lt out (below-or-not k a);
-          rest = l .rest;
-        }
-      where
-        by : (k : ℕ) → k < b → (k < at) ⊎ (at + len ≤ k) → (k < a) ⊎ (a ≤ k) → getD (placed a b now ys) k 0 ≡ getD total k 0
-        by k lt out (inl c) = placed-before a b now le room ys same k c ∙ l .written k (omega arith) out
-        by k lt out (inr c) =
-            let e : a + (k - a) ≡ k = omega arith in
-            subst (λ (j : ℕ). getD (placed a b now ys) j 0 ≡ getD total j 0) e
-            (placed-in a b now le room ys same (k - a) (omega arith) ∙ put (k - a) (omega arith) ∙ sym (p .same (k - a) (omega (arith, eP))))
-
-    -- or it is what is left, where nothing was
-    pub left-new : len ≡ 0 → {u v : ℕ} → PartOf first second choices lengths total u v a (b - a) → Left first second choices lengths total b u v a (b - a) (placed a b now ys)
-    left-new z {u} {v} p =
-        record {
-          within = omega arith;
-          written = λ k lt out. by k lt out;
-          rest = λ _. p;
-        }
-      where
-        by : (k : ℕ) → k < b → (k < a) ⊎ (a + (b - a) ≤ k) → getD (placed a b now ys) k 0 ≡ getD total k 0
-        by k lt (inl c) = placed-before a b now le room ys same k c ∙ left-none l z k (omega arith)
-        by k lt (inr c) = absurd (omega arith)
-
--- the same of equal numbers
-pub left-is : {first second choices lengths total now : List ℕ} {n u v a len u′ v′ a′ len′ : ℕ} → u′ ≡ u → v′ ≡ v → a′ ≡ a → len′ ≡ len
-    → Left first second choices lengths total n u v a len now → Left first second choices lengths total n u′ v′ a′ len′ now
-left-is {first} {second} {choices} {lengths} {total} {now} {n} {u} {v} {a} {len} {u′} {v′} {a′} {len′} e₁ e₂ e₃ e₄ h =
-    subst (λ (k : ℕ). Left first second choices lengths total n k v′ a′ len′ now) (sym e₁)
-    (subst (λ (k : ℕ). Left first second choices lengths total n u k a′ len′ now) (sym e₂)
-    (subst (λ (k : ℕ). Left first second choices lengths total n u v k len′ now) (sym e₃)
-    (subst (λ (k : ℕ). Left first second choices lengths total n u v a k now) (sym e₄) h)))
-
--- where a loop over parts stands: a part longer than half at most is left, past the first bytes
-pub record Standing (first second choices lengths total : List ℕ) (half head n u v a len : ℕ) (now : List ℕ) : Type 0 where
-  pub held : Left first second choices lengths total n u v a len now
-  pub tail : len + head ≤ n
-  pub long : 0 < len → half < len
+use Rattle.tree.specs.declared.write.Rest.{Rest}
+use Rattle.tree.specs.Parts.{At, node-of, step-of, Left, WriteGiven, StepGiven, StepWritten, NodeGiven, Around}
+use Rattle.tree.proofs.Bytes.{members-all, steps-lowest, no-steps, steps-bytes, node-is}
+use Rattle.tree.proofs.Lengths.{step-size}
+use Rattle.tree.proofs.Places.{at-self, at-is, at-front, at-back, piece, placed}
+use Rattle.tree.proofs.Slots.{Slot, slot-lent, slot-kept, Standing, Done, stand-next, stand-ends}
 
 -- ---- a pair that is measured
 
-module _ {first second ranks choices lengths rel x : List ℕ} (g : Given first second ranks choices lengths rel x) {s t : ℕ} (m : Measured first second choices lengths s t) where
-  pub pair-lost : Lost first second s t
+module _ {tables ranks choices lengths amounts : List ℕ} (g : WriteGiven tables ranks choices lengths amounts) {s t : ℕ} (m : Measured tables choices lengths s t) where
+  pub pair-lost : Lost tables s t
   pair-lost = m .lost s t (m .here)
 
   -- the list holds the length of its bytes
-  pub pair-size : getD lengths (s * states-of (table-of second) + t) 0 ≡ length (step-of first second s t)
+  pub pair-size : getD lengths (number tables s t) 0 ≡ length (step-of tables s t)
   pair-size =
       m .right s t (m .here)
-      ∙ sym (step-size (table-of first) (table-of second) (sound first (g .ranked .first-loaded)) s (pair-lost .left) t (pair-lost .right) (pair-lost .fell))
+      ∙ sym (step-size (first-table tables) (second-table tables) (sound (first-form tables) (g .ranked .loaded .first)) s (pair-lost .left) t (pair-lost .right) (pair-lost .fell))
 
-  place-in : s * states-of (table-of second) + t < pairs (table-of first) (table-of second)
-  place-in = place-below s t (states-of (table-of first)) (states-of (table-of second)) (pair-lost .left) (pair-lost .right)
+  pub pair-noted : number tables s t < length choices
+  pair-noted = lt-of-lt-of-le (lost-place pair-lost) (g .notes)
 
-  pub pair-in : s * states-of (table-of second) + t < length lengths
-  pair-in = lt-of-lt-of-le place-in (g .enough)
-
-  pub pair-noted : s * states-of (table-of second) + t < length choices
-  pair-noted = lt-of-lt-of-le place-in (g .notes)
+  -- what asking for its length rests on
+  pub pair-asked : BothLoaded tables × (s < most-states) × (t < most-states) × (number tables s t < length lengths)
+  pair-asked =
+      let low = lost-low pair-lost (g .ranked .loaded) in
+      (g .ranked .loaded, low .0, low .1, lt-of-lt-of-le (lost-place pair-lost) (g .enough))
 
   -- a pair takes two bytes, and four at least for each child
-  pub pair-long : 2 + 4 * length (chosen (table-of first) (table-of second) s t .entries) ≤ length (step-of first second s t)
+  pub pair-long : 2 + 4 * length (chosen (first-table tables) (second-table tables) s t .entries) ≤ length (step-of tables s t)
   unfolding one-length
   pair-long =
-      let M = table-of first in
-      let N = table-of second in
+      let M = first-table tables in
+      let N = second-table tables in
       let n = length (chosen M N s t .entries) in
       omega (
         arith,
         pair-size,
         m .right s t (m .here),
-        pair-length-step M N (sound first (g .ranked .first-loaded)) s t (pair-lost .left) (pair-lost .right) (pair-lost .fell),
+        pair-length-step M N (sound (first-form tables) (g .ranked .loaded .first)) s t (pair-lost .left) (pair-lost .right) (pair-lost .fell),
         sum-add n (λ _. 4) (λ i. sum (states-of N) (λ v. when (set-of M N s t i v) (pair-length M N (target-at (chosen M N s t) i) v))),
         sum-mul n 4 (λ _. 1),
         sum-one n,
       )
 
--- what is lent keeps its lengths
-pub given-next : {first second ranks choices lengths rel x rel′ x′ : List ℕ} → Given first second ranks choices lengths rel x → length rel′ ≡ length rel → length x′ ≡ length x
-    → Given first second ranks choices lengths rel′ x′
-given-next g er ex =
+-- ---- what is lent keeps its lengths
+
+pub record Kept (amounts₀ stack₀ buf₀ amounts stack buf : List ℕ) : Type 0 where
+  pub same-amounts : length amounts ≡ length amounts₀
+  pub same-stack : length stack ≡ length stack₀
+  pub same-buf : length buf ≡ length buf₀
+
+pub kept-all : {amounts stack buf : List ℕ} → Kept amounts stack buf amounts stack buf
+kept-all = record { same-amounts = refl; same-stack = refl; same-buf = refl }
+
+pub kept-then : {amounts₀ stack₀ buf₀ amounts stack buf amounts′ stack′ buf′ : List ℕ} → Kept amounts₀ stack₀ buf₀ amounts stack buf → Kept amounts stack buf amounts′ stack′ buf′
+    → Kept amounts₀ stack₀ buf₀ amounts′ stack′ buf′
+kept-then a b =
     record {
-      ranked = g .ranked;
-      notes = g .notes;
-      enough = g .enough;
-      lent = record { rows = omega (arith, g .lent .rows, er); amounts = omega (arith, g .lent .amounts, ex) };
+      same-amounts = b .same-amounts ∙ a .same-amounts;
+      same-stack = b .same-stack ∙ a .same-stack;
+      same-buf = b .same-buf ∙ a .same-buf;
+    }
+
+pub given-kept : {tables ranks choices lengths amounts stack buf amounts′ stack′ buf′ : List ℕ} → WriteGiven tables ranks choices lengths amounts
+    → Kept amounts stack buf amounts′ stack′ buf′ → WriteGiven tables ranks choices lengths amounts′
+given-kept g k = record { ranked = g .ranked; notes = g .notes; enough = g .enough; amounts-room = omega (arith, g .amounts-room, k .same-amounts) }
+
+node-kept : {tables ranks choices lengths amounts stack buf amounts′ stack′ buf′ : List ℕ} {s members half : ℕ} → NodeGiven tables ranks choices lengths s members half amounts stack buf
+    → Kept amounts stack buf amounts′ stack′ buf′ → NodeGiven tables ranks choices lengths s members half amounts′ stack′ buf′
+node-kept g k =
+    record {
+      given = given-kept (g .given) k;
+      state = g .state;
+      measured = g .measured;
+      size = k .same-buf ∙ g .size;
+      once = omega (arith, k .same-buf, g .once);
+      levels = g .levels;
+      deep = g .deep;
+      words = omega (arith, k .same-stack, g .words);
     }
 
 -- ---- the loop over the members
@@ -154,58 +117,54 @@ given-next g er ex =
 pub count-byte : (X : Set) {n : ℕ} → n ≡ size most-states (member (mask X)) → n < 2 ^ 8
 count-byte X e = omega (arith, e, members-most most-states (member (mask X)))
 
-module _ (first second : List ℕ) (s : ℕ) where
+-- the loop over the words of a set goes on
+pub word-next : (w : ℕ) → w < words → (w + 1 < 2 ^ 64) × (words - (w + 1) < words - w) × (w + 1 ≤ words)
+word-next w lt = (omega arith, omega arith, omega arith)
+
+pub word-done : (X : Set) (w left : ℕ) → left ≡ 0 → left-of w left X ≡ after (w + 1) X
+word-done X w left e = walk-on X (λ (n : ℕ). left-of w left X ≡ n) w left e refl
+
+module _ (tables : List ℕ) (s : ℕ) where
   -- the bytes of the transitions of the members left
   abbrev pub steps-left : Test → List ℕ
-  steps-left X = steps-bytes (table-of first) (table-of second) s X (pairs (table-of first) (table-of second))
+  steps-left X = steps-bytes (first-table tables) (second-table tables) s X (pairs (first-table tables) (second-table tables))
 
-  -- where the loop stands; a part of at most half the length is left
-  pub record NodeLoop (ranks choices lengths : List ℕ) (levels half members : ℕ) (rel₀ x₀ stack₀ buf₀ rel x stack buf : List ℕ) (u v a len at left : ℕ) : Type 0 where
-    pub node : NodeGiven first second ranks choices lengths levels half s members rel x stack buf
+  -- where the loop stands
+  pub record NodeLoop (ranks choices lengths : List ℕ) (half members : ℕ) (amounts₀ stack₀ buf₀ amounts stack buf : List ℕ) (rest : Rest) (at left : ℕ) : Type 0 where
+    pub node : NodeGiven tables ranks choices lengths s members half amounts stack buf
     pub small : length buf < 2 ^ 64
     pub inside : (t : ℕ) → T (member left t) → T (member members t)
-    pub place : At (node-of first second s members) at (steps-left (member left))
-    pub ends : at + length (steps-left (member left)) ≡ length (node-of first second s members)
-    pub stands : Standing first second choices lengths (node-of first second s members) half 1 at u v a len buf
-    pub same-rel : length rel ≡ length rel₀
-    pub same-x : length x ≡ length x₀
-    pub same-stack : length stack ≡ length stack₀
-    pub same-buf : length buf ≡ length buf₀
+    pub place : At (node-of tables s members) at (steps-left (member left))
+    pub ends : at + length (steps-left (member left)) ≡ length (node-of tables s members)
+    pub stands : Standing tables choices lengths (node-of tables s members) half 1 at rest buf
+    pub kept : Kept amounts₀ stack₀ buf₀ amounts stack buf
 
-module _ {first second ranks choices lengths : List ℕ} {levels half s members : ℕ} {rel x stack buf : List ℕ}
-    (g : NodeGiven first second ranks choices lengths levels half s members rel x stack buf) where
+module _ {tables ranks choices lengths : List ℕ} {s members half : ℕ} {amounts stack buf : List ℕ} (g : NodeGiven tables ranks choices lengths s members half amounts stack buf) where
   abbrev total : List ℕ
-  total = node-of first second s members
+  total = node-of tables s members
 
-  node-parts : total ≡ size (states-of (table-of second)) (member members) ∷ steps-left first second s (member members)
+  node-parts : total ≡ size (states-of (second-table tables)) (member members) ∷ steps-left tables s (member members)
   node-parts =
-      let M = table-of first in
-      let N = table-of second in
+      let M = first-table tables in
+      let N = second-table tables in
       node-is M N s (member members) (pairs M N)
       (λ t h. let p = pair-lost (g .given) (g .measured t h) in lt-of-lt-of-le (p .fell) (rank-law M N s t (p .left) (p .right) .bound))
 
   pub node-room : 0 < length buf
   node-room = omega (arith, g .size, ap length node-parts)
 
+  -- the count is written
   pub node-begins : (n : ℕ) → n ≡ size most-states (member members) → length buf < 2 ^ 64
-      → NodeLoop first second s ranks choices lengths levels half members rel x stack (set buf 0 n) rel x stack (set buf 0 n) s 0 0 0 1 members
+      → NodeLoop tables s ranks choices lengths half members amounts stack (set buf 0 n) amounts stack (set buf 0 n) (record { s = s; t = 0; at = 0; len = 0 }) 1 members
   node-begins n e h =
-      let N = table-of second in
+      let N = second-table tables in
       let count : n ≡ size (states-of N) (member members) =
-      e ∙ members-all (states-of N) (member members) (limits second (g .given .ranked .second-loaded) .states-few) (λ t h. pair-lost (g .given) (g .measured t h) .right) in
+      e ∙ members-all (states-of N) (member members) (limits (second-form tables) (g .given .ranked .loaded .second) .states-few) (λ t h. pair-lost (g .given) (g .measured t h) .right) in
       record {
-        node = record {
-          given = g .given;
-          state = g .state;
-          measured = g .measured;
-          size = length-set buf 0 n ∙ g .size;
-          once = omega (arith, length-set buf 0 n, g .once);
-          deep = g .deep;
-          words = g .words;
-        };
+        node = node-kept g (record { same-amounts = refl; same-stack = refl; same-buf = length-set buf 0 n });
         small = omega (arith, length-set buf 0 n);
         inside = λ t h. h;
-        place = at-back (size (states-of N) (member members) ∷ []) (steps-left first second s (member members)) (at-is node-parts (at-self total));
+        place = at-back (size (states-of N) (member members) ∷ []) (steps-left tables s (member members)) (at-is node-parts (at-self total));
         ends = omega (arith, ap length node-parts);
         stands = record {
           held = record {
@@ -216,151 +175,136 @@ module _ {first second ranks choices lengths : List ℕ} {levels half s members 
           tail = omega arith;
           long = λ z. absurd (omega arith);
         };
-        same-rel = refl;
-        same-x = refl;
-        same-stack = refl;
-        same-buf = refl;
+        kept = kept-all;
       }
     where
       first-byte : (l m : List ℕ) (k : ℕ) → k < 1 → getD l 0 0 ≡ getD m 0 0 → getD l k 0 ≡ getD m k 0
       first-byte l m k lt h = let z : 0 ≡ k = omega arith in subst (λ (j : ℕ). getD l j 0 ≡ getD m j 0) z h
 
-module _ {first second : List ℕ} {s : ℕ} {ranks choices lengths : List ℕ} {levels half members : ℕ} {rel₀ x₀ stack₀ buf₀ rel x stack buf : List ℕ} {u v a len at left : ℕ}
-    (l : NodeLoop first second s ranks choices lengths levels half members rel₀ x₀ stack₀ buf₀ rel x stack buf u v a len at left) where
-  -- the same, by another name of the set left and counted from other lists of the same lengths
-  pub node-same : {rel₁ x₁ stack₁ buf₁ : List ℕ} (left′ : ℕ) → left ≡ left′ → length rel ≡ length rel₁ → length x ≡ length x₁ → length stack ≡ length stack₁ → length buf ≡ length buf₁
-      → NodeLoop first second s ranks choices lengths levels half members rel₁ x₁ stack₁ buf₁ rel x stack buf u v a len at left′
-  node-same {rel₁} {x₁} {stack₁} {buf₁} left′ e er ex es eb =
-      subst (λ (n : ℕ). NodeLoop first second s ranks choices lengths levels half members rel₁ x₁ stack₁ buf₁ rel x stack buf u v a len at n) e
-      (record {
-        node = l .node;
-        small = l .small;
-        inside = l .inside;
-        place = l .place;
-        ends = l .ends;
-        stands = l .stands;
-        same-rel = er;
-        same-x = ex;
-        same-stack = es;
-        same-buf = eb;
-      })
+-- ---- a transition that is written or is what is left
 
-  pub node-ends : left ≡ 0 → Around first second choices lengths (node-of first second s members) half u v a len buf
+-- all of it is left
+pub left-all : {tables choices lengths : List ℕ} {s t : ℕ} → Measured tables choices lengths s t → (len : ℕ) → len ≡ length (step-of tables s t) → (now : List ℕ)
+    → Left tables choices lengths (step-of tables s t) (length (step-of tables s t)) s t 0 len now
+left-all {tables} {s = s} {t = t} m len e now =
+    record {
+      within = omega arith;
+      written = λ k lt out. never k lt out;
+      rest = λ _. record { measured = m; size = e; part = at-self (step-of tables s t) };
+    }
+  where
+    never : (k : ℕ) → k < length (step-of tables s t) → (k < 0) ⊎ (0 + len ≤ k) → getD now k 0 ≡ getD (step-of tables s t) k 0
+    never k lt (inl o) = absurd (omega arith)
+    never k lt (inr o) = absurd (omega arith)
+
+step-done : {tables choices lengths : List ℕ} {s t limit : ℕ} {found : Rest} {old new : List ℕ} → Measured tables choices lengths s t → length old ≡ length (step-of tables s t)
+    → StepWritten tables s t limit found old new → Done tables choices lengths (step-of tables s t) limit found new
+step-done {tables} {choices} {lengths} {s} {t} {limit} {found} {old} {new} m e w = by (below-or-not limit (length old))
+  where
+    by : (limit < length old) ⊎ (length old ≤ limit) → Done tables choices lengths (step-of tables s t) limit found new
+    by (inl c) =
+        subst (λ (r : Rest). Done tables choices lengths (step-of tables s t) limit r new) (sym (w .long c))
+        (record { whole = λ z. absurd (omega arith); part = λ _. left-all m (length old) e new; long = λ _. c })
+    by (inr c) =
+        let q = w .short c in
+        record {
+          whole = λ _ k _. ap (λ (l : List ℕ). getD l k 0) (q .1);
+          part = λ pos. absurd (omega (arith, q .0));
+          long = λ pos. absurd (omega (arith, q .0));
+        }
+
+-- ---- the turns of the loop
+
+module _ {tables : List ℕ} {s : ℕ} {ranks choices lengths : List ℕ} {half members : ℕ} {amounts₀ stack₀ buf₀ amounts stack buf : List ℕ} {rest : Rest} {at left : ℕ}
+    (l : NodeLoop tables s ranks choices lengths half members amounts₀ stack₀ buf₀ amounts stack buf rest at left) where
+  -- the same, by another name of the set left and counted from other lists of the same lengths
+  pub node-same : {amounts₁ stack₁ buf₁ : List ℕ} (left′ : ℕ) → left ≡ left′ → Kept amounts₁ stack₁ buf₁ amounts stack buf
+      → NodeLoop tables s ranks choices lengths half members amounts₁ stack₁ buf₁ amounts stack buf rest at left′
+  node-same {amounts₁} {stack₁} {buf₁} left′ e k =
+      subst (λ (n : ℕ). NodeLoop tables s ranks choices lengths half members amounts₁ stack₁ buf₁ amounts stack buf rest at n) e
+      (record { node = l .node; small = l .small; inside = l .inside; place = l .place; ends = l .ends; stands = l .stands; kept = k })
+
+  pub node-ends : left ≡ 0 → Around tables choices lengths (node-of tables s members) half rest buf
   node-ends z =
-      let M = table-of first in
-      let N = table-of second in
-      let none : steps-left first second s (member left) ≡ [] =
-      ap (λ (k : ℕ). steps-left first second s (member k)) z ∙ no-steps M N (own-node M N (pairs M N - 1)) s (member 0) (states-of N) member-none in
-      let e : at ≡ length (node-of first second s members) = omega (arith, l .ends, ap length none) in
-      record {
-        left = subst (λ (n : ℕ). Left first second choices lengths (node-of first second s members) n u v a len buf) e (l .stands .held);
-        less = omega (arith, l .stands .tail);
-        long = l .stands .long;
-      }
+      let M = first-table tables in
+      let N = second-table tables in
+      let none : steps-left tables s (member left) ≡ [] =
+      ap (λ (k : ℕ). steps-left tables s (member k)) z ∙ no-steps M N (own-node M N (pairs M N - 1)) s (member 0) (states-of N) member-none in
+      stand-ends (omega arith) (omega (arith, l .ends, ap length none)) (l .stands)
+
+  -- the bytes of the members left other than t
+  abbrev others : ℕ → List ℕ
+  others t = steps-left tables s (without-member t (member left))
 
   module _ (t : ℕ) (low : Lowest (member left) t) where
-    pub node-measured : Measured first second choices lengths s t
+    node-measured : Measured tables choices lengths s t
     node-measured = l .node .measured t (l .inside t (member-holds low))
 
-    pub node-asked : Loaded second × (s < most-states) × (t < most-states) × (s * states-of (table-of second) + t < length lengths)
-    node-asked =
-        let g = l .node .given in
-        let p = pair-lost g node-measured in (
-          g .ranked .second-loaded,
-          omega (arith, p .left, limits first (g .ranked .first-loaded) .states-few),
-          omega (arith, p .right, limits second (g .ranked .second-loaded) .states-few),
-          pair-in g node-measured,
-        )
+    pub node-asked : BothLoaded tables × (s < most-states) × (t < most-states) × (number tables s t < length lengths)
+    node-asked = pair-asked (l .node .given) node-measured
 
-    turn : At (node-of first second s members) at (step-of first second s t ++ steps-left first second s (without-member t (member left)))
-    turn = at-is (apart) (l .place)
-      where
-        apart : steps-left first second s (member left) ≡ step-of first second s t ++ steps-left first second s (without-member t (member left))
-        apart =
-            let M = table-of first in
-            let N = table-of second in
-            steps-lowest M N (own-node M N (pairs M N - 1)) s (member left) t (states-of N) (pair-lost (l .node .given) node-measured .right) low
+    apart : steps-left tables s (member left) ≡ step-of tables s t ++ others t
+    apart =
+        let M = first-table tables in
+        let N = second-table tables in
+        steps-lowest M N (own-node M N (pairs M N - 1)) s (member left) t (states-of N) (pair-lost (l .node .given) node-measured .right) low
 
-    turn-length : length (steps-left first second s (member left)) ≡ length (step-of first second s t) + length (steps-left first second s (without-member t (member left)))
-    turn-length =
-        let M = table-of first in
-        let N = table-of second in
-        ap length (steps-lowest M N (own-node M N (pairs M N - 1)) s (member left) t (states-of N) (pair-lost (l .node .given) node-measured .right) low)
-        ∙ length-append (step-of first second s t) (steps-left first second s (without-member t (member left)))
+    turn : At (node-of tables s members) at (step-of tables s t ++ others t)
+    turn = at-is apart (l .place)
 
-    module _ (r : ℕ) (er : r ≡ getD lengths (s * states-of (table-of second) + t) 0) where
-      turn-size : r ≡ length (step-of first second s t)
-      turn-size = er ∙ pair-size (l .node .given) node-measured
+    turn-length : length (steps-left tables s (member left)) ≡ length (step-of tables s t) + length (others t)
+    turn-length = ap length apart ∙ length-append (step-of tables s t) (others t)
 
-      pub turn-room : at + r ≤ length buf
-      turn-room = omega (arith, turn-size, turn-length, l .ends, l .node .size)
+  -- the lowest member left and the length of its transition
+  pub record Next (t r : ℕ) : Type 0 where
+    pub low : Lowest (member left) t
+    pub size : r ≡ getD lengths (number tables s t) 0
 
-      turn-piece : length (piece at (at + r) buf) ≡ (at + r) - at
-      turn-piece = piece-length at (at + r) buf (omega arith) turn-room
+  module _ {t r : ℕ} (next : Next t r) where
+    turn-size : r ≡ length (step-of tables s t)
+    turn-size = next .size ∙ pair-size (l .node .given) (node-measured t (next .low))
 
-      pub node-step : StepGiven first second ranks choices lengths levels half s t rel x stack (piece at (at + r) buf)
-      node-step =
+    pub turn-slot : Slot (node-of tables s members) at (at + r) buf (step-of tables s t)
+    turn-slot =
+        record {
+          ordered = omega arith;
+          room = omega (arith, turn-size, turn-length t (next .low), l .ends, l .node .size);
+          part = at-front (step-of tables s t) (others t) (turn t (next .low));
+          size = omega (arith, turn-size);
+        }
+
+    pub node-step : StepGiven tables ranks choices lengths s t half amounts stack (piece at (at + r) buf)
+    node-step =
+        record {
+          given = l .node .given;
+          measured = node-measured t (next .low);
+          size = slot-lent turn-slot;
+          levels = l .node .levels;
+          deep = l .node .deep;
+          words = l .node .words;
+        }
+
+    module _ {found : Rest} {ys : List ℕ} (w : StepWritten tables s t half found (piece at (at + r) buf) ys) where
+      done : Done tables choices lengths (step-of tables s t) half found ys
+      done = step-done (node-measured t (next .low)) (slot-lent turn-slot) w
+
+      pub node-joins : 0 < found .len → at + found .at < 2 ^ 64
+      node-joins pos = omega (arith, done .part pos .within, turn-size, turn-slot .room, l .small)
+
+      pub node-next : (same : length ys ≡ length (piece at (at + r) buf)) {rest′ : Rest} → (found .len ≡ 0 → rest′ ≡ rest)
+          → (0 < found .len → rest′ ≡ record { s = found .s; t = found .t; at = at + found .at; len = found .len })
+          → {amounts′ stack′ : List ℕ} (left′ : ℕ) → member left′ ≡ without-member t (member left)
+          → length amounts′ ≡ length amounts → length stack′ ≡ length stack
+          → NodeLoop tables s ranks choices lengths half members amounts₀ stack₀ buf₀ amounts′ stack′ (placed at (at + r) buf ys) rest′ (at + r) left′
+      node-next same j₀ j₁ left′ el ea es =
+          let back : others t ≡ steps-left tables s (member left′) = ap (steps-left tables s) (sym el) in
+          let k : Kept amounts stack buf _ _ (placed at (at + r) buf ys) = record { same-amounts = ea; same-stack = es; same-buf = slot-kept turn-slot ys same } in
           record {
-            given = l .node .given;
-            measured = node-measured;
-            size = omega (arith, turn-piece, turn-size);
-            deep = l .node .deep;
-            words = l .node .words;
+            node = node-kept (l .node) k;
+            small = omega (arith, k .same-buf, l .small);
+            inside = λ u h. l .inside u (without-in t left u el h);
+            place = at-is back (subst (λ (k : ℕ). At (node-of tables s members) (at + k) (others t)) (sym turn-size) (at-back (step-of tables s t) (others t) (turn t (next .low))));
+            ends = omega (arith, l .ends, turn-length t (next .low), turn-size, ap length back);
+            stands = stand-next (l .stands) turn-slot ys same (omega (arith, turn-slot .room, l .node .once)) done j₀ j₁;
+            kept = kept-then (l .kept) k;
           }
-
-      module _ {u′ v′ a′ len′ : ℕ} {ys : List ℕ}
-          (w : StepWritten first second half s t at u v a len u′ v′ a′ len′ (piece at (at + r) buf) ys)
-          (same : length ys ≡ length (piece at (at + r) buf)) where
-        same-ys : length ys ≡ (at + r) - at
-        same-ys = same ∙ turn-piece
-
-        new-length : length (placed at (at + r) buf ys) ≡ length buf
-        new-length = placed-length at (at + r) buf (omega arith) turn-room ys same-ys
-
-        turned : (half < length (piece at (at + r) buf)) ⊎ (length (piece at (at + r) buf) ≤ half) → Standing first second choices lengths (node-of first second s members) half 1 (at + r) u′ v′ a′ len′ (placed at (at + r) buf ys)
-        turned (inr c) =
-            let q = w .short c in
-            record {
-              held = left-is (q .0) (q .1) (q .2) (q .3)
-                  (left-more (l .stands .held) at (at + r) (omega arith) turn-room refl ys same-ys (step-of first second s t) (at-front (step-of first second s t) _ turn)
-                  (omega (arith, turn-size)) (λ k _. ap (λ (m : List ℕ). getD m k 0) (q .4)));
-              tail = omega (arith, q .3, l .stands .tail);
-              long = λ h. omega (arith, q .3, l .stands .long (omega (arith, q .3)));
-            }
-        turned (inl c) =
-            let q = w .long c in
-            let none : len ≡ 0 = zero-or len (λ pos. absurd (omega (arith, l .stands .long pos, l .stands .tail, turn-piece, turn-room, l .node .once))) in
-            let size : (at + r) - at ≡ length (step-of first second s t) = omega (arith, turn-size) in
-            record {
-              held = left-is (q .0) (q .1) (q .2) (q .3 ∙ turn-piece)
-                  (left-new (l .stands .held) at (at + r) (omega arith) turn-room refl ys same-ys none
-                  (record { measured = node-measured; size = size; part = at-front (step-of first second s t) _ turn }));
-              tail = omega (arith, q .3, turn-piece, l .stands .tail);
-              long = λ _. omega (arith, q .3);
-            }
-
-        pub node-next : {rel′ x′ stack′ : List ℕ} (left′ : ℕ) → member left′ ≡ without-member t (member left)
-            → length rel′ ≡ length rel → length x′ ≡ length x → length stack′ ≡ length stack
-            → NodeLoop first second s ranks choices lengths levels half members rel₀ x₀ stack₀ buf₀ rel′ x′ stack′ (placed at (at + r) buf ys) u′ v′ a′ len′ (at + r) left′
-        node-next left′ el er′ ex es =
-            let rest : steps-left first second s (without-member t (member left)) ≡ steps-left first second s (member left′) = ap (steps-left first second s) (sym el) in
-            record {
-              node = record {
-                given = given-next (l .node .given) er′ ex;
-                state = l .node .state;
-                measured = l .node .measured;
-                size = new-length ∙ l .node .size;
-                once = omega (arith, new-length, l .node .once);
-                deep = l .node .deep;
-                words = omega (arith, l .node .words, es);
-              };
-              small = omega (arith, new-length, l .small);
-              inside = λ w h. l .inside w (and-left (member left w) _ (subst (λ (X : Test). T (X w)) el h));
-              place = at-is rest (subst (λ (k : ℕ). At (node-of first second s members) (at + k) (steps-left first second s (without-member t (member left)))) (sym turn-size) (at-back (step-of first second s t) _ turn));
-              ends = omega (arith, l .ends, turn-length, turn-size, ap length rest);
-              stands = turned (below-or-not half (length (piece at (at + r) buf)));
-              same-rel = er′ ∙ l .same-rel;
-              same-x = ex ∙ l .same-x;
-              same-stack = es ∙ l .same-stack;
-              same-buf = new-length ∙ l .same-buf;
-            }

@@ -5,8 +5,10 @@ use mathlib.Core.List.{List, _++_}
 use Prim.Native.Nat.{ℕ, _+_, _-_, _≤_, _<_}
 use native.Mathlib.Nat.{zero-add, add-assoc}
 use native.Mathlib.Omega.{arith}
-use lib.ListN.{length, getD, take, drop, length-append, length-drop, List·getD-append}
+use lib.ListN.{length, getD, take, drop, length-append, List·getD-append}
 use lib.Seq.{getD-append-add, getD-take, getD-drop, length-take-le}
+use Rattle.buffer.specs.Buffer.{with-part}
+use Rattle.buffer.proofs.Parts.{part-size, part-length}
 use Rattle.tree.specs.Parts.{At}
 
 pub at-self : (P : List ℕ) → At P 0 P
@@ -43,23 +45,15 @@ abbrev pub piece : ℕ → ℕ → List ℕ → List ℕ
 piece a b l = take (b - a) (drop a l)
 
 abbrev pub placed : ℕ → ℕ → List ℕ → List ℕ → List ℕ
-placed a b l ys = take a l ++ (ys ++ drop (b - a) (drop a l))
+placed a b l ys = with-part a (b - a) ys l
 
 module _ (a b : ℕ) (l : List ℕ) (le : a ≤ b) (room : b ≤ length l) where
   pub piece-length : length (piece a b l) ≡ b - a
-  piece-length = length-take-le (b - a) (drop a l) (omega (arith, length-drop a l))
+  piece-length = part-size a (b - a) l (omega arith)
 
   module _ (ys : List ℕ) (same : length ys ≡ b - a) where
     pub placed-length : length (placed a b l ys) ≡ length l
-    placed-length =
-        omega (
-          arith,
-          length-append (take a l) (ys ++ drop (b - a) (drop a l)),
-          length-append ys (drop (b - a) (drop a l)),
-          length-take-le a l (omega arith),
-          length-drop (b - a) (drop a l),
-          length-drop a l,
-        )
+    placed-length = part-length a (b - a) ys l same (omega arith)
 
     pub placed-before : (k : ℕ) → k < a → getD (placed a b l ys) k 0 ≡ getD l k 0
     placed-before k lt = List·getD-append (take a l) _ 0 k (omega (arith, length-take-le a l (omega arith))) ∙ getD-take a l k 0 lt

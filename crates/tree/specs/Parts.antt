@@ -6,17 +6,18 @@ use mathlib.Core.List.{List}
 use Prim.Native.Nat.{ℕ, zero, suc, _+_, _-_, _*_, _/_, _^_, _≤_, _<_, min}
 use lib.Dec.{T}
 use lib.ListN.{length, getD}
-use Rattle.simulation.specs.Limits.{most-states}
+use Rattle.simulation.specs.Limits.{most-pairs, most-states}
 use Rattle.simulation.specs.Table.{states-of}
 use Rattle.simulation.specs.Round.{pairs}
 use Rattle.simulation.specs.Tree.{leaf, own-step, own-node, transition-bytes, node-bytes}
 use Rattle.simulation.specs.Length.{tree-length}
-use Rattle.form.specs.Form.{table-of}
+use Rattle.form.specs.Tables.{first-table, second-table}
 use Rattle.relation.specs.Mask.{member}
 use Rattle.relation.specs.Words.{words}
 use Rattle.counting.specs.Count.{longest}
 use Rattle.measure.specs.Lengths.{Measured}
-use Rattle.relate.specs.Ranked.{Ranked, Lent}
+use Rattle.relate.specs.Ranked.{Ranked}
+use Rattle.tree.specs.declared.write.Rest.{Rest}
 
 -- the list P stands in the list l at place a
 pub record At (l : List ℕ) (a : ℕ) (P : List ℕ) : Type 0 where
@@ -28,23 +29,23 @@ unfoldable pub words-for : (levels : ℕ) → ℕ
 words-for zero = 0
 words-for (suc levels) = words * min most-states (2 ^ suc levels / 4) + words-for levels
 
--- the words for 16 levels: most-states children at the upper eight, one less than that at all levels below them together
+-- the words for 16 levels: most-states children at the upper eight, one less than that at all levels below them together; and room for a full set of sets and for the rows of a relation
 abbrev pub stack-words : ℕ
-stack-words = words * (9 * most-states - 1)
+stack-words = words * (11 * most-states - 1)
 
-module _ (first second : List ℕ) where
+module _ (tables : List ℕ) where
   -- the bytes of the node of a state and a set of states that it is not kept with; no rank is above the number of pairs
   abbrev pub node-of : ℕ → ℕ → List ℕ
-  node-of s members = node-bytes (own-node (table-of first) (table-of second) (pairs (table-of first) (table-of second)) s (member members))
+  node-of s members = node-bytes (own-node (first-table tables) (second-table tables) (pairs (first-table tables) (second-table tables)) s (member members))
 
   -- the bytes of the transition of a pair that is not kept
   abbrev pub step-of : ℕ → ℕ → List ℕ
   step-of s t =
-      transition-bytes (own-step (table-of first) (table-of second) (own-node (table-of first) (table-of second) (pairs (table-of first) (table-of second) - 1)) s t leaf)
+      transition-bytes (own-step (first-table tables) (second-table tables) (own-node (first-table tables) (second-table tables) (pairs (first-table tables) (second-table tables) - 1)) s t leaf)
 
   -- the part of `total` that a pair's transition takes
   pub record PartOf (choices lengths total : List ℕ) (s t at len : ℕ) : Type 0 where
-    pub measured : Measured first second choices lengths s t
+    pub measured : Measured tables choices lengths s t
     pub size : len ≡ length (step-of s t)
     pub part : At total at (step-of s t)
 
@@ -55,45 +56,46 @@ module _ (first second : List ℕ) where
     pub rest : 0 < len → PartOf choices lengths total s t at len
 
   -- what all writing rests on
-  pub record Given (ranks choices lengths rel x : List ℕ) : Type 0 where
-    pub ranked : Ranked first second ranks
-    pub notes : pairs (table-of first) (table-of second) ≤ length choices
-    pub enough : pairs (table-of first) (table-of second) ≤ length lengths
-    pub lent : Lent rel x
+  pub record WriteGiven (ranks choices lengths amounts : List ℕ) : Type 0 where
+    pub ranked : Ranked tables ranks
+    pub notes : pairs (first-table tables) (second-table tables) ≤ length choices
+    pub enough : pairs (first-table tables) (second-table tables) ≤ length lengths
+    pub amounts-room : most-pairs ≤ length amounts
 
   -- the writing of a transition or its deferral; the calls below it are no deeper than the levels, and the stack has the words for them
-  pub record StepGiven (ranks choices lengths : List ℕ) (levels limit s t : ℕ) (rel x stack buf : List ℕ) : Type 0 where
-    pub given : Given ranks choices lengths rel x
-    pub measured : Measured first second choices lengths s t
+  pub record StepGiven (ranks choices lengths : List ℕ) (s t limit : ℕ) (amounts stack buf : List ℕ) : Type 0 where
+    pub given : WriteGiven ranks choices lengths amounts
+    pub measured : Measured tables choices lengths s t
     pub size : length buf ≡ length (step-of s t)
+    pub levels : ℕ
     pub deep : limit < 2 ^ levels
-    pub words : words-for levels ≤ length stack
+    pub words : words-for levels + 2 * words * most-states ≤ length stack
 
   -- the transition is written if it is not longer than the limit, and is what is left if it is
-  pub record StepWritten (limit s t at : ℕ) (s₀ t₀ at₀ len₀ : ℕ) (s′ t′ at′ len′ : ℕ) (old new : List ℕ) : Type 0 where
-    pub short : length old ≤ limit → (s′ ≡ s₀) × (t′ ≡ t₀) × (at′ ≡ at₀) × (len′ ≡ len₀) × (new ≡ step-of s t)
-    pub long : limit < length old → (s′ ≡ s) × (t′ ≡ t) × (at′ ≡ at) × (len′ ≡ length old)
+  pub record StepWritten (s t limit : ℕ) (rest : Rest) (old new : List ℕ) : Type 0 where
+    pub short : length old ≤ limit → (rest .len ≡ 0) × (new ≡ step-of s t)
+    pub long : limit < length old → rest ≡ record { s = s; t = t; at = 0; len = length old }
 
   -- the writing of a node whose bytes have at most one part that is longer than half
-  pub record NodeGiven (ranks choices lengths : List ℕ) (levels half s members : ℕ) (rel x stack buf : List ℕ) : Type 0 where
-    pub given : Given ranks choices lengths rel x
-    pub state : s < states-of (table-of first)
-    pub measured : (t : ℕ) → T (member members t) → Measured first second choices lengths s t
+  pub record NodeGiven (ranks choices lengths : List ℕ) (s members half : ℕ) (amounts stack buf : List ℕ) : Type 0 where
+    pub given : WriteGiven ranks choices lengths amounts
+    pub state : s < states-of (first-table tables)
+    pub measured : (t : ℕ) → T (member members t) → Measured tables choices lengths s t
     pub size : length buf ≡ length (node-of s members)
     pub once : length buf ≤ 2 * half + 1
+    pub levels : ℕ
     pub deep : half < 2 ^ levels
-    pub words : words-for levels ≤ length stack
+    pub words : words-for levels + 2 * words * most-states ≤ length stack
 
   -- all but a part longer than half is written
-  pub record Around (choices lengths total : List ℕ) (half s t at len : ℕ) (now : List ℕ) : Type 0 where
-    pub left : Left choices lengths total (length total) s t at len now
-    pub less : len < length total
-    pub long : 0 < len → half < len
+  pub record Around (choices lengths total : List ℕ) (half : ℕ) (rest : Rest) (now : List ℕ) : Type 0 where
+    pub left : Left choices lengths total (length total) (rest .s) (rest .t) (rest .at) (rest .len) now
+    pub less : rest .len < length total
+    pub long : 0 < rest .len → half < rest .len
 
-  -- what the writing of a pair's tree rests on; there are 16 levels at most on the way down, and the stack has the words for them
-  pub record TreeGiven (ranks choices lengths : List ℕ) (s t : ℕ) (rel x stack buf : List ℕ) : Type 0 where
-    pub given : Given ranks choices lengths rel x
-    pub measured : Measured first second choices lengths s t
-    pub short : tree-length (table-of first) (table-of second) s t ≤ longest
-    pub words : stack-words ≤ length stack
-    pub room : tree-length (table-of first) (table-of second) s t ≤ length buf
+  -- what the writing of a pair's tree rests on
+  pub record TreeGiven (ranks choices lengths : List ℕ) (s t : ℕ) (amounts buf : List ℕ) : Type 0 where
+    pub given : WriteGiven ranks choices lengths amounts
+    pub measured : Measured tables choices lengths s t
+    pub short : tree-length (first-table tables) (second-table tables) s t ≤ longest
+    pub room : tree-length (first-table tables) (second-table tables) s t ≤ length buf

@@ -1,10 +1,14 @@
-// Writing a tree whose lengths are known: a node holds transitions and a transition holds nodes. The parts of the buffer are written in any order,
-// so that a call is made for parts of at most half the length only, and a longer part is left for a loop: the depth of calls is the logarithm of the length.
+// Writing a tree whose lengths are known: a node holds transitions and a transition holds nodes. The parts of the buffer are written in any
+// order, so that a call is made for parts of at most half the length only, and a longer part is left for a loop: the depth of calls is the
+// logarithm of the length.
 use choice::find_sets;
 use counting::count::LONGEST;
 use counting::pair::number;
+use form::Form;
+use form::tables;
 use measure::node_length;
 use measure::pair_length;
+use relation::Word;
 use relation::rows;
 use relation::set;
 use relation::set::Set;
@@ -15,45 +19,59 @@ ghost use Prim.Native.Nat.{_+_, _/_, _^_, _≤_, _<_};
 ghost use lib.ListN.{length, getD};
 ghost use Rattle.simulation.specs.Table.{weights, target-at};
 ghost use Rattle.simulation.specs.Tree.{tree, node-bytes};
-ghost use Rattle.form.specs.Form.{Loaded, transitions-of, transition-at, table-of};
+ghost use Rattle.form.specs.Form.{transitions-of};
+ghost use Rattle.form.specs.Tables.{first-form, first-table, second-table, first-step, BothLoaded};
 ghost use Rattle.relation.specs.Words.{mask};
 ghost use Rattle.buffer.specs.Buffer.{over, Filled};
 ghost use Rattle.tree.specs.Begin.{head-bytes, entry-bytes, BeginGiven, Begun};
 ghost use Rattle.tree.specs.Parts.{step-of, node-of, StepGiven, StepWritten, NodeGiven, Around, TreeGiven};
 
-// The calls that write a tree are no deeper than this many pairs: LONGEST is below 2 ^ LEVELS.
-const LEVELS: u32 = 16;
-
-// The words of the stack: a set for each child of the transition in hand at each level. A transition at level k has no more children than
-// a quarter of 2 ^ k, since each takes four bytes, and no more than Table::STATES: that many at the upper eight levels, and one less than
-// that at all levels below them together.
-pub const STACK: usize = Set::WORDS * (9 * Table::STATES - 1);
+// The words of the stack: a set for each child of the transition in hand at each of 16 levels, since LONGEST is below 2 ^ 16. A transition at
+// level k has no more children than a quarter of 2 ^ k, since each takes four bytes, and no more than Table::STATES: that many at the upper
+// eight levels, and one less than that at all levels below them together. Beyond them there is room for a full set of sets and
+// for the rows of a relation.
+pub const STACK: usize = Set::WORDS * (11 * Table::STATES - 1);
 
 // The pair whose part of the buffer is still to be written, and where it is; none if its length is 0.
 pub struct Rest {
-    s: usize,
-    t: usize,
-    at: usize,
-    len: usize,
+    pub s: usize,
+    pub t: usize,
+    pub at: usize,
+    pub len: usize,
+}
+
+// The transition of a pair, to be written if it is not longer than the limit.
+pub struct Step {
+    pub s: usize,
+    pub t: usize,
+    pub limit: usize,
+}
+
+// The node of a state and a set, to be written but for a transition that is longer than half.
+pub struct Node {
+    pub s: usize,
+    pub members: Set,
+    pub half: usize,
 }
 
 // The code of the transition j and the number of its targets.
-fn put_head(first: &[u16], j: usize, buf: &mut [u8])
-    requires { ⌜ Loaded (now first) × (j < transitions-of (now first)) × (2 ≤ length (now buf)) ⌝ }
-    ensures { λ _. ⌜ now (buf .exit) ≡ over (head-bytes (transition-at (now (first .entry)) j)) (now (buf .entry)) ⌝ }
+fn put_head(tables: &[u16], j: usize, buf: &mut [u8])
+    requires { ⌜ BothLoaded (now tables) × (j < transitions-of (first-form (now tables))) × (2 ≤ length (now buf)) ⌝ }
+    ensures { λ _. ⌜ now (buf .exit) ≡ over (head-bytes (first-step (now (tables .entry)) j)) (now (buf .entry)) ⌝ }
 {
-    buf[0] = form::code(first, j) as u8;
-    buf[1] = form::targets(first, j).len() as u8;
+    buf[0] = tables::code(tables, Form::FIRST, j) as u8;
+    buf[1] = tables::targets(tables, Form::FIRST, j).len() as u8;
 }
 
 // The target and the weight at place i of the transition j; the target is returned.
-fn put_entry(first: &[u16], j: usize, i: usize, buf: &mut [u8]) -> usize
-    requires { ⌜ Loaded (now first) × (j < transitions-of (now first)) × (i < length (transition-at (now first) j .entries)) × (3 ≤ length (now buf)) ⌝ }
-    ensures { λ r. ⌜ (r ≡ target-at (transition-at (now (first .entry)) j) i)
-        × (now (buf .exit) ≡ over (entry-bytes r (getD (weights (transition-at (now (first .entry)) j)) i 0)) (now (buf .entry))) ⌝ }
+fn put_entry(tables: &[u16], j: usize, i: usize, buf: &mut [u8]) -> usize
+    requires { ⌜ BothLoaded (now tables) × (j < transitions-of (first-form (now tables))) × (i < length (first-step (now tables) j .entries))
+        × (3 ≤ length (now buf)) ⌝ }
+    ensures { λ r. ⌜ (r ≡ target-at (first-step (now (tables .entry)) j) i)
+        × (now (buf .exit) ≡ over (entry-bytes r (getD (weights (first-step (now (tables .entry)) j)) i 0)) (now (buf .entry))) ⌝ }
 {
-    let target = form::targets(first, j)[i];
-    let weight = form::weights(first, j)[i];
+    let target = tables::targets(tables, Form::FIRST, j)[i];
+    let weight = tables::weights(tables, Form::FIRST, j)[i];
     buf[0] = target as u8;
     buf[1] = (weight % 256) as u8;
     buf[2] = (weight / 256) as u8;
@@ -62,48 +80,44 @@ fn put_entry(first: &[u16], j: usize, i: usize, buf: &mut [u8]) -> usize
 
 // Puts the sets of the targets of the pair's transition on the stack and its head into the buffer. Returns its number.
 fn begin_transition(
-    first: &[u16],
-    second: &[u16],
+    tables: &[u16],
     ranks: &[u16],
     choices: &[u8],
     s: usize,
     t: usize,
-    rel: &mut [u64],
-    x: &mut [u32],
-    stack: &mut [u64],
+    amounts: &mut [u32],
+    stack: &mut [Word],
     buf: &mut [u8],
 ) -> usize
-    requires { ⌜ BeginGiven (now first) (now second) (now ranks) (now choices) s t (now rel) (now x) (now stack) (now buf) ⌝ }
-    ensures { λ r. ⌜ Begun (now (first .entry)) (now (second .entry)) s t r (now (stack .exit)) (now (buf .entry)) (now (buf .exit)) ⌝ }
+    requires { ⌜ BeginGiven (now tables) (now ranks) (now choices) s t (now amounts) (now stack) (now buf) ⌝ }
+    ensures { λ r. ⌜ Begun (now (tables .entry)) s t r (now (stack .exit)) (now (buf .entry)) (now (buf .exit)) ⌝ }
 {
-    let p = number(second, s, t);
-    let r = ranks[p];
+    let p = number(tables, s, t);
     let j = choices[p] as usize;
-    find_sets(first, second, ranks, s, t, r, j, stack, rel, x);
-    put_head(first, j, buf);
+    find_sets(tables, ranks, s, t, ranks[p], j, stack, amounts);
+    put_head(tables, j, buf);
     j
 }
 
-// The node of a state and a set, in a buffer of its length, but for a transition that is longer than half: that is what is left.
+// The node, in a buffer of its length, but for a transition that is longer than half: that is what is left.
 fn write_node(
-    first: &[u16],
-    second: &[u16],
+    tables: &[u16],
     ranks: &[u16],
     choices: &[u8],
     lengths: &[u32],
-    levels: u32,
-    half: usize,
-    s: usize,
-    members: Set,
-    rel: &mut [u64],
-    x: &mut [u32],
-    stack: &mut [u64],
+    node: Node,
+    amounts: &mut [u32],
+    stack: &mut [Word],
     buf: &mut [u8],
 ) -> Rest
-    requires { ⌜ NodeGiven (now first) (now second) (now ranks) (now choices) (now lengths) levels half s (mask members) (now rel) (now x) (now stack) (now buf) ⌝ }
-    ensures { λ r. ⌜ Around (now (first .entry)) (now (second .entry)) (now (choices .entry)) (now (lengths .entry)) (node-of (now (first .entry)) (now (second .entry)) s (mask members))
-        half (r .s) (r .t) (r .at) (r .len) (now (buf .exit)) ⌝ }
+    requires { ⌜ NodeGiven (now tables) (now ranks) (now choices) (now lengths) (node .s) (mask (node .members)) (node .half)
+        (now amounts) (now stack) (now buf) ⌝ }
+    ensures { λ r. ⌜ Around (now (tables .entry)) (now (choices .entry)) (now (lengths .entry))
+        (node-of (now (tables .entry)) (node .s) (mask (node .members))) (node .half) r (now (buf .exit)) ⌝ }
 {
+    let s = node.s;
+    let limit = node.half;
+    let members = node.members;
     buf[0] = set::count(members) as u8;
     let mut rest = Rest {
         s,
@@ -116,24 +130,20 @@ fn write_node(
         let mut left = members.words[w];
         while left != 0 {
             let t = walk::lowest(members, w, left);
-            let end = at + pair_length(second, lengths, s, t);
-            rest = write_transition(
-                first,
-                second,
+            let end = at + pair_length(tables, lengths, s, t);
+            let step = Step { s, t, limit };
+            let part = &mut buf[at..end];
+            let found = write_transition(
+                tables,
                 ranks,
                 choices,
                 lengths,
-                levels,
-                half,
-                s,
-                t,
-                rel,
-                x,
+                step,
+                amounts,
                 stack,
-                &mut buf[at..end],
-                at,
-                rest,
+                part,
             );
+            rest = join(rest, found, at);
             at = end;
             left = walk::without_lowest(members, w, left);
         }
@@ -143,9 +153,8 @@ fn write_node(
 
 // Of the two parts, the one that is there: the second lies in a part of the buffer from `at` on.
 fn join(rest: Rest, found: Rest, at: usize) -> Rest
-    requires { ⌜ at + found .at < 2 ^ 64 ⌝ }
-    ensures { λ r. ⌜ (found .len ≡ 0 → (r .s ≡ rest .s) × (r .t ≡ rest .t) × (r .at ≡ rest .at) × (r .len ≡ rest .len))
-        × (0 < found .len → (r .s ≡ found .s) × (r .t ≡ found .t) × (r .at ≡ at + found .at) × (r .len ≡ found .len)) ⌝ }
+    requires { ⌜ (0 < found .len → at + found .at < 2 ^ 64) ⌝ }
+    ensures { λ r. ⌜ (found .len ≡ 0 → r ≡ rest) × (0 < found .len → r ≡ record { s = found .s; t = found .t; at = at + found .at; len = found .len }) ⌝ }
 {
     if found.len == 0 {
         return rest;
@@ -158,29 +167,28 @@ fn join(rest: Rest, found: Rest, at: usize) -> Rest
     }
 }
 
-// The transition of the pair (s, t), in a buffer of its length, which is at most the limit, but for a part that is longer than half the limit: that is what is left.
-// The sets of its children take the first words of the stack.
+// The transition, in a buffer of its length, which is at most the limit, but for a part that is longer than half the limit: that is what is
+// left. The sets of its children take the first words of the stack.
 fn write_around(
-    first: &[u16],
-    second: &[u16],
+    tables: &[u16],
     ranks: &[u16],
     choices: &[u8],
     lengths: &[u32],
-    levels: u32,
-    limit: usize,
-    s: usize,
-    t: usize,
-    rel: &mut [u64],
-    x: &mut [u32],
-    stack: &mut [u64],
+    step: Step,
+    amounts: &mut [u32],
+    stack: &mut [Word],
     buf: &mut [u8],
 ) -> Rest
-    requires { ⌜ StepGiven (now first) (now second) (now ranks) (now choices) (now lengths) levels limit s t (now rel) (now x) (now stack) (now buf) × (length (now buf) ≤ limit) ⌝ }
-    ensures { λ r. ⌜ Around (now (first .entry)) (now (second .entry)) (now (choices .entry)) (now (lengths .entry)) (step-of (now (first .entry)) (now (second .entry)) s t)
-        (limit / 2) (r .s) (r .t) (r .at) (r .len) (now (buf .exit)) ⌝ }
+    requires { ⌜ StepGiven (now tables) (now ranks) (now choices) (now lengths) (step .s) (step .t) (step .limit) (now amounts) (now stack) (now buf)
+        × (length (now buf) ≤ step .limit) ⌝ }
+    ensures { λ r. ⌜ Around (now (tables .entry)) (now (choices .entry)) (now (lengths .entry)) (step-of (now (tables .entry)) (step .s) (step .t))
+        (step .limit / 2) r (now (buf .exit)) ⌝ }
 {
-    let j = begin_transition(first, second, ranks, choices, s, t, rel, x, stack, buf);
-    let n = form::targets(first, j).len();
+    let s = step.s;
+    let t = step.t;
+    let j = begin_transition(tables, ranks, choices, s, t, amounts, stack, buf);
+    let n = tables::targets(tables, Form::FIRST, j).len();
+    let half = step.limit / 2;
     let mut rest = Rest {
         s,
         t,
@@ -190,81 +198,70 @@ fn write_around(
     let mut at = 2;
     for i in 0..n {
         let start = at + 3;
-        let target = put_entry(first, j, i, &mut buf[at..start]);
+        let target = put_entry(tables, j, i, &mut buf[at..start]);
         let members = rows::get(stack, i);
-        let end = start + node_length(second, lengths, target, members);
-        let inner = write_node(
-            first,
-            second,
+        let end = start + node_length(tables, lengths, target, members);
+        let node = Node {
+            s: target,
+            members,
+            half,
+        };
+        let found = write_node(
+            tables,
             ranks,
             choices,
             lengths,
-            levels - 1,
-            limit / 2,
-            target,
-            members,
-            rel,
-            x,
+            node,
+            amounts,
             &mut stack[Set::WORDS * n..],
             &mut buf[start..end],
         );
-        rest = join(rest, inner, start);
+        rest = join(rest, found, start);
         at = end;
     }
     rest
 }
 
-// The transition of the pair (s, t), in a buffer of its length, if that is not above the limit: what was left stays so. A longer one, at `at`, becomes what is left.
+// The transition, in a buffer of its length, if that is not above the limit; a longer one is what is left.
 // The loop goes down to the part that each turn leaves.
 fn write_transition(
-    first: &[u16],
-    second: &[u16],
+    tables: &[u16],
     ranks: &[u16],
     choices: &[u8],
     lengths: &[u32],
-    levels: u32,
-    limit: usize,
-    s: usize,
-    t: usize,
-    rel: &mut [u64],
-    x: &mut [u32],
-    stack: &mut [u64],
+    step: Step,
+    amounts: &mut [u32],
+    stack: &mut [Word],
     buf: &mut [u8],
-    at: usize,
-    rest: Rest,
 ) -> Rest
-    requires { ⌜ StepGiven (now first) (now second) (now ranks) (now choices) (now lengths) levels limit s t (now rel) (now x) (now stack) (now buf) ⌝ }
-    ensures { λ r. ⌜ StepWritten (now (first .entry)) (now (second .entry)) limit s t at (rest .s) (rest .t) (rest .at) (rest .len)
-        (r .s) (r .t) (r .at) (r .len) (now (buf .entry)) (now (buf .exit)) ⌝ }
+    requires { ⌜ StepGiven (now tables) (now ranks) (now choices) (now lengths) (step .s) (step .t) (step .limit) (now amounts) (now stack) (now buf) ⌝ }
+    ensures { λ r. ⌜ StepWritten (now (tables .entry)) (step .s) (step .t) (step .limit) r (now (buf .entry)) (now (buf .exit)) ⌝ }
 {
-    let len = buf.len();
-    if limit < len {
-        return Rest { s, t, at, len };
+    let limit = step.limit;
+    let mut rest = Rest {
+        s: step.s,
+        t: step.t,
+        at: 0,
+        len: buf.len(),
+    };
+    if limit < rest.len {
+        return rest;
     }
-    let mut hole = Rest { s, t, at: 0, len };
-    while hole.len != 0 {
-        let start = hole.at;
-        let end = start + hole.len;
-        let inner = write_around(
-            first,
-            second,
-            ranks,
-            choices,
-            lengths,
-            levels,
+    while rest.len != 0 {
+        let start = rest.at;
+        let end = start + rest.len;
+        let inner = Step {
+            s: rest.s,
+            t: rest.t,
             limit,
-            hole.s,
-            hole.t,
-            rel,
-            x,
-            stack,
-            &mut buf[start..end],
-        );
-        hole = Rest {
-            s: inner.s,
-            t: inner.t,
-            at: start + inner.at,
-            len: inner.len,
+        };
+        let part = &mut buf[start..end];
+        let found = write_around(tables, ranks, choices, lengths, inner, amounts, stack, part);
+        rest = Rest {
+            s: found.s,
+            t: found.t,
+            at: start + found.at,
+            len: found.len,
         };
     }
     rest
@@ -272,45 +269,37 @@ fn write_transition(
 
 // The tree of the pair (s, t), which is not kept; the lengths are those of the pairs that it meets. Returns its length.
 pub fn tree(
-    first: &[u16],
-    second: &[u16],
+    tables: &[u16],
     ranks: &[u16],
     choices: &[u8],
     lengths: &[u32],
     s: usize,
     t: usize,
-    rel: &mut [u64],
-    x: &mut [u32],
-    stack: &mut [u64],
+    amounts: &mut [u32],
     buf: &mut [u8],
 ) -> usize
-    requires { ⌜ TreeGiven (now first) (now second) (now ranks) (now choices) (now lengths) s t (now rel) (now x) (now stack) (now buf) ⌝ }
-    ensures { λ r. ⌜ Filled (node-bytes (tree (table-of (now (first .entry))) (table-of (now (second .entry))) s t)) r (now (buf .entry)) (now (buf .exit)) ⌝ }
+    requires { ⌜ TreeGiven (now tables) (now ranks) (now choices) (now lengths) s t (now amounts) (now buf) ⌝ }
+    ensures { λ r. ⌜ Filled (node-bytes (tree (first-table (now (tables .entry))) (second-table (now (tables .entry))) s t)) r
+        (now (buf .entry)) (now (buf .exit)) ⌝ }
 {
-    let end = 1 + pair_length(second, lengths, s, t);
+    let mut stack: [Word; STACK] = [1; STACK];
+    let end = 1 + pair_length(tables, lengths, s, t);
     buf[0] = 1;
-    let none = Rest {
+    let step = Step {
         s,
         t,
-        at: 0,
-        len: 0,
+        limit: LONGEST as usize,
     };
+    let part = &mut buf[1..end];
     write_transition(
-        first,
-        second,
+        tables,
         ranks,
         choices,
         lengths,
-        LEVELS,
-        LONGEST as usize,
-        s,
-        t,
-        rel,
-        x,
-        stack,
-        &mut buf[1..end],
-        1,
-        none,
+        step,
+        amounts,
+        &mut stack,
+        part,
     );
     end
 }

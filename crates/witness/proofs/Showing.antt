@@ -2,7 +2,8 @@
 -- Assumes nothing.
 use mathlib.Core.Path.{_≡_, refl, ap, ap₂, _∙_}
 use mathlib.Core.List.{List}
-use Prim.Native.Nat.{ℕ, _*_, _≤_, _<_, min}
+use mathlib.Core.Logic.{_⊎_, inl, inr, ⊎-elim}
+use Prim.Native.Nat.{ℕ, _+_, _*_, _≤_, _<_, min}
 use native.Mathlib.Omega.{arith}
 use lib.ListN.{length}
 use Rattle.simulation.specs.Limits.{most-pairs}
@@ -20,7 +21,7 @@ use Rattle.buffer.specs.Buffer.{over}
 use Rattle.counting.specs.Count.{longest}
 use Rattle.answer.specs.Numbers.{refusal, with-written}
 use Rattle.answer.specs.declared.answer.Answer.{Answer}
-use Rattle.witness.specs.Shown.{tree-bytes, FlowShown, TreeShown}
+use Rattle.witness.specs.Shown.{tree-bytes, FlowShown, TreePut, TreeShown}
 
 -- the pairs, counted by the code
 module _ (f g : List ℕ) (lf : Loaded f) (lg : Loaded g) {p q : ℕ} (ep : p ≡ states-of (table-of f)) (eq : q ≡ states-of (table-of g)) where
@@ -51,35 +52,53 @@ module _ (M N : Table) (s t : ℕ) (a : Answer) (flow : List ℕ) where
         written = λ _. (er ∙ ap (λ (n : ℕ). with-written n a) (f .filled .count), f .filled .bytes);
       }
 
--- what is shown of a pair that is not kept
-module _ (M N : Table) (s t : ℕ) (b : t < states-of N) (a : Answer) (tree : List ℕ) {len : ℕ} (e : len ≡ min 65536 (tree-length M N s t)) where
-  bytes-long : length (tree-bytes M N s t) ≡ tree-length M N s t
-  bytes-long = bytes-length M N s t b
+-- the tree of a pair that is not kept, of the length that was measured
+module _ (M N : Table) (s t : ℕ) (b : t < states-of N) {len : ℕ} (e : len ≡ min (longest + 1) (tree-length M N s t)) where
+  bytes-measured : len ≡ min (longest + 1) (length (tree-bytes M N s t))
+  bytes-measured = omega (arith, bytes-length M N s t b)
 
-  pub tree-long : {r : Answer} → longest < len → r ≡ refusal 23 0 0 → TreeShown M N s t a r tree tree
+  pub tree-kept : {tree : List ℕ} → longest < len ⊎ length tree < len → TreePut M N s t len tree tree
+  tree-kept h =
+      record {
+        length-is = bytes-measured;
+        kept = λ _. refl;
+        written = λ short room. absurd (⊎-elim (λ g. omega arith) (λ g. omega arith) h);
+      }
+
+  pub tree-written : {tree tree′ : List ℕ} → len ≤ longest → len ≤ length tree → tree′ ≡ over (tree-bytes M N s t) tree → TreePut M N s t len tree tree′
+  tree-written short room w =
+      record {
+        length-is = bytes-measured;
+        kept = λ h. absurd (⊎-elim (λ g. omega arith) (λ g. omega arith) h);
+        written = λ _ _. w;
+      }
+
+-- what is shown of a pair that is not kept
+module _ {M N : Table} {s t len : ℕ} {tree tree′ : List ℕ} (p : TreePut M N s t len tree tree′) where
+  pub tree-long : {a r : Answer} → longest < len → r ≡ refusal 23 0 0 → TreeShown M N s t a r tree tree′
   tree-long h er =
       record {
-        long = λ _. (er, refl);
-        refused = λ g _. absurd (omega (arith, bytes-long));
-        written = λ g _. absurd (omega (arith, bytes-long));
+        long = λ _. (er, p .kept (inl h));
+        refused = λ g _. absurd (omega (arith, p .length-is));
+        written = λ g _. absurd (omega (arith, p .length-is));
       }
 
   module _ (short : len ≤ longest) where
-    pub length-is : len ≡ length (tree-bytes M N s t)
-    length-is = omega (arith, bytes-long)
+    length-whole : len ≡ length (tree-bytes M N s t)
+    length-whole = omega (arith, p .length-is)
 
-    pub tree-refused : {r : Answer} → length tree < len → r ≡ refusal 22 0 len → TreeShown M N s t a r tree tree
+    pub tree-refused : {a r : Answer} → length tree < len → r ≡ refusal 22 0 len → TreeShown M N s t a r tree tree′
     tree-refused h er =
         record {
-          long = λ g. absurd (omega (arith, bytes-long));
-          refused = λ _ _. (er ∙ ap (refusal 22 0) length-is, refl);
-          written = λ _ g. absurd (omega (arith, bytes-long));
+          long = λ g. absurd (omega (arith, length-whole));
+          refused = λ _ _. (er ∙ ap (refusal 22 0) length-whole, p .kept (inr h));
+          written = λ _ g. absurd (omega (arith, length-whole));
         }
 
-    pub tree-shown : {r : Answer} {tree′ : List ℕ} → len ≤ length tree → tree′ ≡ over (tree-bytes M N s t) tree → r ≡ with-written len a → TreeShown M N s t a r tree tree′
-    tree-shown h w er =
+    pub tree-shown : {a r : Answer} → len ≤ length tree → r ≡ with-written len a → TreeShown M N s t a r tree tree′
+    tree-shown {a} h er =
         record {
-          long = λ g. absurd (omega (arith, bytes-long));
-          refused = λ _ g. absurd (omega (arith, bytes-long));
-          written = λ _ _. (er ∙ ap (λ (n : ℕ). with-written n a) length-is, w);
+          long = λ g. absurd (omega (arith, length-whole));
+          refused = λ _ g. absurd (omega (arith, length-whole));
+          written = λ _ _. (er ∙ ap (λ (n : ℕ). with-written n a) length-whole, p .written short h);
         }

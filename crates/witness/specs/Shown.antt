@@ -2,15 +2,12 @@
 -- Assumes nothing.
 use mathlib.Core.Path.{_≡_}
 use mathlib.Core.List.{List}
-use Prim.Native.Nat.{ℕ, _≤_, _<_}
+use mathlib.Core.Logic.{_⊎_}
+use Prim.Native.Nat.{ℕ, _+_, _≤_, _<_, min}
 use lib.ListN.{length}
 use Rattle.simulation.specs.Fit.{Amounts}
 use Rattle.simulation.specs.Table.{Table}
 use Rattle.simulation.specs.Tree.{tree, node-bytes}
-use Rattle.simulation.specs.Length.{tree-length}
-use Rattle.form.specs.Form.{table-of}
-use Rattle.tree.specs.Parts.{Given}
-use Rattle.measure.specs.Lengths.{Measured}
 use Rattle.flows.specs.Flow.{Right, flow-bytes, flow-room}
 use Rattle.buffer.specs.Buffer.{over}
 use Rattle.counting.specs.Count.{longest}
@@ -27,12 +24,11 @@ pub record FlowShown (M N : Table) (s t : ℕ) (a r : Answer) (flow flow′ : Li
   pub refused : length flow < flow-room M N s → (r ≡ refusal 21 0 (flow-room M N s)) × (flow′ ≡ flow)
   pub written : flow-room M N s ≤ length flow → (r ≡ with-written (length (flow-bytes M N s t amounts)) a) × (flow′ ≡ over (flow-bytes M N s t amounts) flow)
 
--- what the writing of a pair's tree rests on
-pub record TreeReady (first second ranks choices lengths : List ℕ) (s t : ℕ) (rel x tree : List ℕ) : Type 0 where
-  pub given : Given first second ranks choices lengths rel x
-  pub measured : Measured first second choices lengths s t
-  pub short : tree-length (table-of first) (table-of second) s t ≤ longest
-  pub room : tree-length (table-of first) (table-of second) s t ≤ length tree
+-- the tree of a pair that is not kept is written if it is short enough and there is room for it; its length is given, longest + 1 for any above longest
+pub record TreePut (M N : Table) (s t len : ℕ) (tree tree′ : List ℕ) : Type 0 where
+  pub length-is : len ≡ min (longest + 1) (length (tree-bytes M N s t))
+  pub kept : longest < len ⊎ length tree < len → tree′ ≡ tree
+  pub written : len ≤ longest → len ≤ length tree → tree′ ≡ over (tree-bytes M N s t) tree
 
 -- a pair that is not kept: the tree is written if it is short enough and there is room for it
 pub record TreeShown (M N : Table) (s t : ℕ) (a r : Answer) (tree tree′ : List ℕ) : Type 0 where

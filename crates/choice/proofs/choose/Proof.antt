@@ -1,192 +1,179 @@
--- `choice::choose` meets its contract. Assumes nothing.
+-- `choice::choose` meets its contract: the transitions of s passed fit one of t.
+-- Assumes nothing.
 use mathlib.Core.List.{List}
 use mathlib.Core.Path.{_≡_, refl, sym, ap, _∙_, subst}
 use mathlib.Core.Bool.{Bool, true, not, Bool·not-not}
 use Prim.Native.Nat.{ℕ, _-_, _+_, _≤_, _<_}
 use native.Mathlib.Omega.{arith}
 use lib.ListN.{length}
-use Rattle.simulation.specs.Limits.{most-states}
-use Rattle.simulation.specs.Round.{rank}
-use Rattle.form.proofs.FormLaws.{limits, start-bound}
-use Rattle.form.specs.Form.{table-of, start-of, transitions-of, transition-at}
-use Rattle.choice.proofs.Choosing.{matches, Trying, number-of, trying-start, trying-next, trying-end, tested-one}
-use Rattle.relate.proofs.Places.{few-places}
-use Rattle.relate.specs.Ranked.{Ranked, Lent}
-use Rattle.choice.specs.Choice.{Compared, Lost, Choice, Sets, fits-some, Tested}
+use Rattle.simulation.specs.Limits.{most-pairs, most-transitions}
+use Rattle.form.specs.Form.{Loaded, start-of, transitions-of}
+use Rattle.form.specs.Tables.{first-form, second-form, first-step}
+use Rattle.form.proofs.FormLaws.{limits}
+use Rattle.fit.specs.Ranked.{InRound}
+use Rattle.choice.specs.Choice.{Choice, Sets, round-fits-some, Tested}
+use Rattle.choice.proofs.Choosing.{LostPair, lost-compared, matches, Trying, number-of, trying-start, trying-next, trying-end, tested-one}
 use Rattle.choice.proofs.choose.Statement.{statement}
 use Rattle.choice.proofs.choose.Tie as tie
 
 -- the walk over the transitions of s; l is one of t that number j fits, or the end of those of t
-record Walk (first second : List ℕ) (s t r : ℕ) (sets₀ rel₀ x₀ : List ℕ) (end : ℕ) (sets rel x : List ℕ) (j l : ℕ) : Type 0 where
-  trying : Trying first second s t j
-  tested : Tested first second s t r j l sets
-  ends : end ≡ start-of second (t + 1)
+record Walk (tables : List ℕ) (s t r : ℕ) (sets₀ amounts₀ : List ℕ) (end : ℕ) (sets amounts : List ℕ) (j l : ℕ) : Type 0 where
+  trying : Trying tables s t j
+  tested : Tested tables s t r j l sets
+  ends : end ≡ start-of (second-form tables) (t + 1)
   same-sets : length sets ≡ length sets₀
-  same-rel : length rel ≡ length rel₀
-  same-x : length x ≡ length x₀
+  same-amounts : length amounts ≡ length amounts₀
 
-same-lent : {rel x rel′ x′ : List ℕ} → Lent rel x → length rel′ ≡ length rel → length x′ ≡ length x → Lent rel′ x′
-same-lent b er ex = record { rows = omega (arith, b .rows); amounts = omega (arith, b .amounts) }
+module _ {tables ranks : List ℕ} {s t r : ℕ} (p : LostPair tables ranks s t r) where
+  first : Loaded (first-form tables)
+  first = p .ranked .loaded .first
 
-module _ {first second ranks : List ℕ} {s t r : ℕ} (g : Ranked first second ranks) (p : Lost first second s t) (e : r ≡ rank (table-of first) (table-of second) s t) where
+  second : Loaded (second-form tables)
+  second = p .ranked .loaded .second
+
   -- what the test of j says, in the round before the pair's rank
-  matched : (j : ℕ) {v : Bool} → fits-some first second t r j ≡ v → matches first second s t (transition-at first j) ≡ v
-  matched j h = sym (ap (λ (q : ℕ). fits-some first second t q j) e) ∙ h
+  matched : (j : ℕ) {v : Bool} → round-fits-some tables t r j ≡ v → matches tables s t (first-step tables j) ≡ v
+  matched j h = sym (ap (λ (q : ℕ). round-fits-some tables t q j) (p .its-rank)) ∙ h
 
-  number : {j : ℕ} → Trying first second s t j → j < transitions-of first
-  number {j} y = number-of first (g .first-loaded) s (p .left) j (y .low) (y .high)
+  number : {j : ℕ} → Trying tables s t j → j < transitions-of (first-form tables)
+  number {j} y = number-of (first-form tables) first s (p .lost .left) j (y .low) (y .high)
 
-  few : {j : ℕ} → Trying first second s t j → length (transition-at first j .entries) ≤ most-states
-  few {j} y = few-places first j (g .first-loaded) (number y)
-
-  module _ {sets₀ rel₀ x₀ sets rel x : List ℕ} {end j l : ℕ} (w : Walk first second s t r sets₀ rel₀ x₀ end sets rel x j l) where
+  module _ {sets₀ amounts₀ sets amounts : List ℕ} {end j l : ℕ} (w : Walk tables s t r sets₀ amounts₀ end sets amounts j l) where
     -- number j fits one, so that it is not the last
-    next : l < end → Trying first second s t (j + 1)
-    next lt = trying-next first second s t (g .first-loaded) p (w .trying) (matched j (w .tested .one (omega (arith, w .ends))))
+    next : l < end → Trying tables s t (j + 1)
+    next lt = trying-next tables s t first (p .lost) (w .trying) (matched j (w .tested .one (omega (arith, w .ends))))
 
-    compared : l < end → Lent rel x → Compared first second ranks r (j + 1) l rel x
-    compared lt b = record {
-      ranked = g;
-      later = omega (arith, e, p .fell);
-      from-first = number (next lt);
-      from-second = number-of second (g .second-loaded) t (p .right) l (w .tested .low) (omega (arith, w .ends));
-      lent = b;
-    }
+    compared : most-pairs ≤ length amounts → l < end → InRound tables ranks r (j + 1) l amounts
+    compared room lt = lost-compared p (j + 1) l amounts (number (next lt)) (w .tested .low) (omega (arith, w .ends)) room
 
     -- the guess was right
-    guess : l < end → fits-some first second t r (j + 1) ≡ true → Tested first second s t r (j + 1) l sets
-    guess lt f = tested-one first second s t (g .first-loaded) p e (w .tested .low) (omega (arith, w .ends)) f
+    guess : {sets′ : List ℕ} → l < end → round-fits-some tables t r (j + 1) ≡ true → Tested tables s t r (j + 1) l sets′
+    guess lt f = tested-one tables s t first (p .lost) (p .its-rank) (w .tested .low) (omega (arith, w .ends)) f
 
     -- number j fits none
-    ended : end ≤ l → Choice first second s t j × Sets first second s t sets
+    ended : end ≤ l → Choice tables s t j × Sets tables s t sets
     ended le =
-        let c = trying-end first second s t (g .first-loaded) p (w .trying) (matched j (w .tested .none (omega (arith, w .ends)))) in
+        let c = trying-end tables s t first (p .lost) (w .trying) (matched j (w .tested .none (omega (arith, w .ends)))) in
         (c, w .tested .found c)
 
+    small : j < most-transitions
+    small = omega (arith, number (w .trying), limits (first-form tables) first .transitions-few)
+
 abbrev Inv-loop : tie.InvT-loop
-Inv-loop first second ranks s t r sets₀ rel₀ x₀ last j₀ l₀ sets rel x j l =
-    Walk first second s t r sets₀ rel₀ x₀ last sets rel x j l
+Inv-loop tables ranks s t r sets₀ amounts₀ last j₀ l₀ sets amounts j l = Walk tables s t r sets₀ amounts₀ last sets amounts j l
 
 abbrev μ-loop : tie.MeasureT-loop
-μ-loop first second ranks s t r sets₀ rel₀ x₀ last j₀ l₀ sets rel x j l =
-    start-of first (s + 1) - j
+μ-loop tables ranks s t r sets₀ amounts₀ last j₀ l₀ sets amounts j l = start-of (first-form tables) (s + 1) - j
 
-add-first : tie.Need-add-first Inv-loop μ-loop
-add-first c =
-    let entry = c .before .before .before .before .before .before in
-    record { fits = omega (arith, entry .pre .1 .right, limits (entry .args .second .now) (entry .pre .0 .second-loaded) .states-few) }
+asked : (c : tie.Start Inv-loop μ-loop) → let a = c .args in LostPair (a .tables .now) (a .ranks .now) (a .s) (a .t) (a .r)
+asked c = let p = c .pre in record { ranked = p .0; lost = p .1; its-rank = p .2 }
 
-first-requires : tie.Need-first-requires Inv-loop μ-loop
-first-requires c κs =
-    let entry = c .before .before .before .before .before .before in
-    let p = entry .pre in (p .0 .second-loaded, omega (arith, p .1 .right))
+-- the entry, from the loop on
+abbrev entry-of : tie.At-loop Inv-loop μ-loop → tie.Start Inv-loop μ-loop
+entry-of l = l .before .before .before .before .before .before .before .before .before .before .before .before .before .before
 
-first-requires-2 : tie.Need-first-requires-2 Inv-loop μ-loop
-first-requires-2 c κs =
-    let entry = c .before .before .before .before .before .before .before in
-    let p = entry .pre in (p .0 .first-loaded, omega (arith, p .1 .left))
+-- the lists are as long as at the entry
+sets-length : (l : tie.At-loop Inv-loop μ-loop) → length (l .loop .sets) ≡ length (entry-of l .args .sets .now)
+sets-length l = let at-sets = l .before .before .before .before in l .loop .inv .same-sets ∙ at-sets .sets .given
+
+amounts-length : (l : tie.At-loop Inv-loop μ-loop) → length (l .loop .amounts) ≡ length (entry-of l .args .amounts .now)
+amounts-length l = let at-amounts = l .before .before in l .loop .inv .same-amounts ∙ at-amounts .amounts .given
+
+add-start-of : tie.Need-add-start-of Inv-loop μ-loop
+add-start-of c =
+    let entry = c .before .before .before .before in
+    let p = asked entry in
+    record { fits = omega (arith, p .lost .right, limits (second-form (entry .args .tables .now)) (second p) .states-few) }
+
+start-of-requires : tie.Need-start-of-requires Inv-loop μ-loop
+start-of-requires c κs = let p = asked (c .before .before .before .before) in (second p, omega (arith, p .lost .right))
+
+start-of-requires-2 : tie.Need-start-of-requires-2 Inv-loop μ-loop
+start-of-requires-2 c κs = let p = asked (c .before .before .before .before .before) in (first p, omega (arith, p .lost .left))
 
 -- the walk begins at the first transition of s
-begun : (c : tie.After-first2 Inv-loop μ-loop) → let a = c .before .before .before .before .before .before .before .before .args in Trying (a .first .now) (a .second .now) (a .s) (a .t) (c .first2 .result)
+begun : (c : tie.After-start-of2 Inv-loop μ-loop) → let a = c .before .before .before .before .before .before .args in Trying (a .tables .now) (a .s) (a .t) (c .start-of2 .result)
 begun c =
-    let entry = c .before .before .before .before .before .before .before .before in
+    let entry = c .before .before .before .before .before .before in
     let a = entry .args in
-    subst (Trying (a .first .now) (a .second .now) (a .s) (a .t)) (sym (c .first2 .ensures)) (trying-start (a .first .now) (a .second .now) (a .s) (a .t) (entry .pre .0 .first-loaded) (entry .pre .1))
+    let p = asked entry in
+    subst (Trying (a .tables .now) (a .s) (a .t)) (sym (c .start-of2 .ensures)) (trying-start (a .tables .now) (a .s) (a .t) (first p) (p .lost))
 
 find-sets-requires : tie.Need-find-sets-requires Inv-loop μ-loop
 find-sets-requires c κs =
-    let at-first2 = c .before .before .before in
-    let entry = at-first2 .before .before .before .before .before .before .before .before in
-    let p = entry .pre in
-    let y = begun at-first2 in
-    (p .0, p .1, p .2, y .low, y .high, p .4, omega (arith, few (p .0) (p .1) (p .2) y, p .3))
+    let at-start = c .before .before in
+    let p = at-start .before .before .before .before .before .before .pre in
+    let y = begun at-start in
+    (p .0, p .1, p .2, y .low, y .high, p .3, p .4)
 
 loop-holds : tie.Need-loop-holds Inv-loop μ-loop
 loop-holds c =
-    let at-find-sets = c .before .before .before .before .before .before in
-    let at-first2 = at-find-sets .before .before .before .before in
+    let at-find-sets = c .before .before .before .before in
+    let at-start = at-find-sets .before .before .before in
     record {
-      trying = begun at-first2;
+      trying = begun at-start;
       tested = at-find-sets .find-sets .ensures;
-      ends = at-first2 .before .first .ensures;
+      ends = at-start .before .start-of .ensures;
       same-sets = refl;
-      same-rel = refl;
-      same-x = refl;
+      same-amounts = refl;
     }
 
 add-j : tie.Need-add-j Inv-loop μ-loop
-add-j c =
-    let at-loop = c .before in
-    let entry = at-loop .before .before .before .before .before .before .before .before .before .before .before .before .before .before .before .before .before .before .before in
-    let f = entry .args .first .now in
-    record {
-      fits = omega (
-        arith,
-        at-loop .loop .inv .trying .high,
-        start-bound f (entry .pre .0 .first-loaded) (entry .args .s + 1) (omega (arith, entry .pre .1 .left)),
-        limits f (entry .pre .0 .first-loaded) .transitions-few,
-      );
-    }
+add-j c = let at-loop = c .before in record { fits = omega (arith, small (asked (entry-of at-loop)) (at-loop .loop .inv)) }
 
 guessed-requires : tie.Need-guessed-requires Inv-loop μ-loop
 guessed-requires c κs =
     let at-loop-test = c .before .before in
     let at-loop = at-loop-test .before in
-    let at-x = at-loop .before .before in
-    let at-rel = at-x .before .before in
-    let entry = at-rel .before .before .before .before .before .before .before .before .before .before .before .before .before .before .before in
-    let p = entry .pre in
+    let entry = entry-of at-loop in
     let w = at-loop .loop .inv in
-    let lt = at-loop-test .loop-test .taken in
-    (compared (p .0) (p .1) (p .2) w lt (same-lent (p .4) (w .same-rel ∙ at-rel .rel .given) (w .same-x ∙ at-x .x .given)), p .1 .right, w .tested .low, omega (arith, w .ends))
+    let lt = at-loop-test .loop-test .taken in (
+      compared (asked entry) w (omega (arith, entry .pre .4, amounts-length at-loop)) lt,
+      omega (arith, entry .pre .3, sets-length at-loop),
+      entry .pre .1 .right,
+      w .tested .low,
+      omega (arith, w .ends),
+    )
 
 find-sets-requires-2 : tie.Need-find-sets-requires-2 Inv-loop μ-loop
 find-sets-requires-2 c κs =
-    let at-x2 = c .before .before .before .before .before in
-    let at-rel2 = at-x2 .before .before in
-    let at-loop-test = at-rel2 .before .before .before .before in
+    let at-amounts2 = c .before .before .before .before in
+    let at-sets2 = at-amounts2 .before .before in
+    let at-loop-test = at-sets2 .before .before .before .before in
     let at-loop = at-loop-test .before in
-    let at-x = at-loop .before .before in
-    let at-rel = at-x .before .before in
-    let at-sets = at-rel .before .before in
-    let entry = at-sets .before .before .before .before .before .before .before .before .before .before .before .before .before in
+    let entry = entry-of at-loop in
     let p = entry .pre in
-    let w = at-loop .loop .inv in
-    let y = next (p .0) (p .1) (p .2) w (at-loop-test .loop-test .taken) in (
+    let y = next (asked entry) (at-loop .loop .inv) (at-loop-test .loop-test .taken) in (
       p .0,
       p .1,
       p .2,
       y .low,
       y .high,
-      same-lent (p .4) (at-rel2 .rel2 .given ∙ w .same-rel ∙ at-rel .rel .given) (at-x2 .x2 .given ∙ w .same-x ∙ at-x .x .given),
-      omega (arith, few (p .0) (p .1) (p .2) y, p .3, w .same-sets, at-sets .sets .given),
+      omega (arith, p .3, at-sets2 .sets2 .given, sets-length at-loop),
+      omega (arith, p .4, at-amounts2 .amounts2 .given, amounts-length at-loop),
     )
 
 loop-less : tie.Need-loop-less Inv-loop μ-loop
 loop-less c =
-    let at-loop = c .before .before .before .before .before .before .before .before .before .before .before .before .before .before .before .before .before .before .before in
+    let at-loop = c .before .before .before .before .before .before .before .before .before .before .before .before .before .before .before .before in
     omega (arith, at-loop .loop .inv .trying .high)
 
 loop-again : tie.Need-loop-again Inv-loop μ-loop
 loop-again c =
-    let at-x3 = c .before in
-    let at-rel3 = at-x3 .before .before in
-    let at-sets2 = at-rel3 .before .before in
-    let at-find-sets2 = at-sets2 .before in
-    let at-x2 = at-find-sets2 .before .before .before .before .before .before in
-    let at-rel2 = at-x2 .before .before in
-    let at-loop-test = at-rel2 .before .before .before .before in
+    let at-amounts3 = c .before in
+    let at-sets3 = at-amounts3 .before .before in
+    let at-find-sets2 = at-sets3 .before in
+    let at-amounts2 = at-find-sets2 .before .before .before .before .before in
+    let at-sets2 = at-amounts2 .before .before in
+    let at-loop-test = at-sets2 .before .before .before .before in
     let at-loop = at-loop-test .before in
-    let entry = at-loop .before .before .before .before .before .before .before .before .before .before .before .before .before .before .before .before .before .before .before in
-    let p = entry .pre in
     let w = at-loop .loop .inv in
     record {
-      trying = next (p .0) (p .1) (p .2) w (at-loop-test .loop-test .taken);
+      trying = next (asked (entry-of at-loop)) w (at-loop-test .loop-test .taken);
       tested = at-find-sets2 .find-sets2 .ensures;
       ends = w .ends;
-      same-sets = at-sets2 .sets2 .given ∙ w .same-sets;
-      same-rel = at-rel3 .rel3 .given ∙ at-rel2 .rel2 .given ∙ w .same-rel;
-      same-x = at-x3 .x3 .given ∙ at-x2 .x2 .given ∙ w .same-x;
+      same-sets = at-sets3 .sets3 .given ∙ at-sets2 .sets2 .given ∙ w .same-sets;
+      same-amounts = at-amounts3 .amounts3 .given ∙ at-amounts2 .amounts2 .given ∙ w .same-amounts;
     }
 
 loop-less-2 : tie.Need-loop-less-2 Inv-loop μ-loop
@@ -196,43 +183,30 @@ loop-less-2 c =
 
 loop-again-2 : tie.Need-loop-again-2 Inv-loop μ-loop
 loop-again-2 c =
-    let at-x2 = c .before .before in
-    let at-rel2 = at-x2 .before .before in
-    let at-guessed = at-rel2 .before in
+    let at-amounts2 = c .before .before in
+    let at-sets2 = at-amounts2 .before .before in
+    let at-guessed = at-sets2 .before in
     let at-loop-test = at-guessed .before .before .before in
     let at-loop = at-loop-test .before in
-    let entry = at-loop .before .before .before .before .before .before .before .before .before .before .before .before .before .before .before .before .before .before .before in
-    let p = entry .pre in
+    let p = asked (entry-of at-loop) in
     let w = at-loop .loop .inv in
     let lt = at-loop-test .loop-test .taken in
     record {
-      trying = next (p .0) (p .1) (p .2) w lt;
-      tested = guess (p .0) (p .1) (p .2) w lt (at-guessed .guessed .ensures (sym (Bool·not-not (at-guessed .guessed .result)) ∙ ap not (c .if1 .left)));
+      trying = next p w lt;
+      tested = guess p w lt (at-guessed .guessed .ensures (sym (Bool·not-not (at-guessed .guessed .result)) ∙ ap not (c .if1 .left)));
       ends = w .ends;
-      same-sets = w .same-sets;
-      same-rel = at-rel2 .rel2 .given ∙ w .same-rel;
-      same-x = at-x2 .x2 .given ∙ w .same-x;
+      same-sets = at-sets2 .sets2 .given ∙ w .same-sets;
+      same-amounts = at-amounts2 .amounts2 .given ∙ w .same-amounts;
     }
 
 same-length : tie.Need-same-length Inv-loop μ-loop
-same-length c =
-    let at-sets = c .before .before .before .before .before .before .before in
-    c .before .loop .inv .same-sets ∙ at-sets .sets .given
+same-length c = sets-length (c .before)
 
 same-length-2 : tie.Need-same-length-2 Inv-loop μ-loop
-same-length-2 c =
-    let at-rel = c .before .before .before .before .before in
-    c .before .loop .inv .same-rel ∙ at-rel .rel .given
-
-same-length-3 : tie.Need-same-length-3 Inv-loop μ-loop
-same-length-3 c =
-    let at-x = c .before .before .before in
-    c .before .loop .inv .same-x ∙ at-x .x .given
+same-length-2 c = amounts-length (c .before)
 
 returns : tie.Need-returns Inv-loop μ-loop
-returns c =
-    let entry = c .before .before .before .before .before .before .before .before .before .before .before .before .before .before .before .before .before .before .before .before in
-    let p = entry .pre in ended (p .0) (p .1) (p .2) (c .before .loop .inv) (c .loop-test .left)
+returns c = let at-loop = c .before in ended (asked (entry-of at-loop)) (at-loop .loop .inv) (c .loop-test .left)
 
 pub choose-spec : {M : Type 1} → statement M
 choose-spec =
@@ -240,9 +214,9 @@ choose-spec =
     (tie.spec
     Inv-loop
     μ-loop
-    add-first
-    first-requires
-    first-requires-2
+    add-start-of
+    start-of-requires
+    start-of-requires-2
     find-sets-requires
     loop-holds
     add-j
@@ -254,5 +228,4 @@ choose-spec =
     loop-again-2
     same-length
     same-length-2
-    same-length-3
     returns)

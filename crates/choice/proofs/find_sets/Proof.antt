@@ -1,226 +1,221 @@
--- `choice::find_sets` meets its contract. Assumes nothing.
+-- `choice::find_sets` meets its contract: the transitions of t passed are gathered into the sets.
+-- Assumes nothing.
 use mathlib.Core.List.{List}
 use mathlib.Core.Path.{_≡_, refl, sym, ap₂, _∙_, subst}
-use mathlib.Core.Bool.{Bool, true}
+use mathlib.Core.Bool.{Bool, true, false}
 use Prim.Native.Nat.{ℕ, _-_, _+_, _<_, _≤_, pred}
 use native.Mathlib.Omega.{arith}
 use lib.ListN.{length}
+use Rattle.simulation.specs.Limits.{most-pairs, most-states, most-transitions}
 use Rattle.simulation.specs.Tree.{apart}
-use Rattle.simulation.specs.Round.{Relation, round, rank}
+use Rattle.simulation.specs.Round.{Relation, round}
 use Rattle.simulation.specs.Table.{Transition, steps}
+use Rattle.form.specs.Form.{Loaded, start-of, transitions-of}
+use Rattle.form.specs.Tables.{first-form, second-form, first-table, second-table, first-step, second-step}
 use Rattle.form.proofs.FormLaws.{limits, start-bound}
-use Rattle.form.specs.Form.{table-of, start-of, transitions-of, transition-at}
-use Rattle.choice.proofs.Choosing.{Gathering, number-of, one-passes, none-passes, tested-one, gathering-start, gathering-next, gathering-end}
-use Rattle.choice.proofs.Choices.{choice-width}
 use Rattle.relate.proofs.Places.{few-places, targets-count}
-use Rattle.relate.specs.Ranked.{Ranked, Lent}
-use Rattle.choice.specs.Choice.{Parted, Lost, Compared, Tested}
+use Rattle.fit.specs.Ranked.{InRound}
+use Rattle.fit.proofs.Steps.{one-passes}
+use Rattle.choice.specs.Choice.{Parted, Tested}
+use Rattle.choice.proofs.Choices.{choice-width}
+use Rattle.choice.proofs.Choosing.{LostPair, lost-compared, Gathering, number-of, scan-end, tested-one, gathering-start, gathering-next, gathering-end}
 use Rattle.choice.proofs.find_sets.Statement.{statement}
 use Rattle.choice.proofs.find_sets.Tie as tie
 
--- the walk over the transitions of t
-record Walk (first second : List ℕ) (t r j : ℕ) (sets₀ rel₀ x₀ : List ℕ) (end : ℕ) (sets rel x : List ℕ) (k : ℕ) : Type 0 where
-  gathering : Gathering (round (table-of first) (table-of second) (pred r)) (transition-at first j) second t k sets
-  ends : end ≡ start-of second (t + 1)
+-- the walk over the transitions of t, from the lists sets₀ and amounts₀ on
+record Walk (tables : List ℕ) (t r j : ℕ) (sets₀ amounts₀ : List ℕ) (end : ℕ) (sets amounts : List ℕ) (k : ℕ) : Type 0 where
+  gathering : Gathering (round (first-table tables) (second-table tables) (pred r)) (first-step tables j) tables t k sets
+  ends : end ≡ start-of (second-form tables) (t + 1)
   same-sets : length sets ≡ length sets₀
-  same-rel : length rel ≡ length rel₀
-  same-x : length x ≡ length x₀
+  same-amounts : length amounts ≡ length amounts₀
 
-module _ {first second ranks : List ℕ} {s t r j : ℕ} (g : Ranked first second ranks) (p : Lost first second s t) (e : r ≡ rank (table-of first) (table-of second) s t)
-    (low : start-of first s ≤ j) (high : j < start-of first (s + 1)) where
-  number : j < transitions-of first
-  number = number-of first (g .first-loaded) s (p .left) j low high
+-- the pair, and a transition of its first state
+record Asked (tables ranks : List ℕ) (s t r j : ℕ) : Type 0 where
+  pair : LostPair tables ranks s t r
+  low : start-of (first-form tables) s ≤ j
+  high : j < start-of (first-form tables) (s + 1)
 
-  module _ {sets₀ rel₀ x₀ sets rel x : List ℕ} {end k : ℕ} (l : Walk first second t r j sets₀ rel₀ x₀ end sets rel x k) where
+module _ {tables ranks : List ℕ} {s t r j : ℕ} (p : Asked tables ranks s t r j) where
+  abbrev f : List ℕ
+  f = first-form tables
+
+  abbrev g : List ℕ
+  g = second-form tables
+
+  first : Loaded f
+  first = p .pair .ranked .loaded .first
+
+  second : Loaded g
+  second = p .pair .ranked .loaded .second
+
+  number : j < transitions-of f
+  number = number-of f first s (p .pair .lost .left) j (p .low) (p .high)
+
+  few : length (first-step tables j .entries) ≤ most-states
+  few = few-places f j first number
+
+  module _ {sets₀ amounts₀ sets amounts : List ℕ} {end k : ℕ} (l : Walk tables t r j sets₀ amounts₀ end sets amounts k) where
     abbrev R : Relation
-    R = round (table-of first) (table-of second) (pred r)
+    R = round (first-table tables) (second-table tables) (pred r)
 
-    compared : Lent rel₀ x₀ → k < end → Compared first second ranks r j k rel x
-    compared b lt =
-        record {
-          ranked = g;
-          later = omega (arith, e, p .fell);
-          from-first = number;
-          from-second = number-of second (g .second-loaded) t (p .right) k (l .gathering .scan .low) (omega (arith, l .ends));
-          lent = record { rows = omega (arith, b .rows, l .same-rel); amounts = omega (arith, b .amounts, l .same-x) };
-        }
+    abbrev m : Transition
+    m = first-step tables j
+
+    compared : most-pairs ≤ length amounts₀ → k < end → InRound tables ranks r j k amounts
+    compared room lt = lost-compared (p .pair) j k amounts number (l .gathering .scan .low) (omega (arith, l .ends)) (omega (arith, l .same-amounts))
 
     -- number k is one that j fits
-    stopped : {b : Bool} {sets′ : List ℕ} → k < end → Parted R (transition-at first j) (transition-at second k) b sets sets′ → b ≡ true
-        → Tested first second s t r j k sets′
-    stopped lt a f =
+    stopped : {b : Bool} {sets′ : List ℕ} → k < end → Parted R m (second-step tables k) b sets sets′ → b ≡ true → Tested tables s t r j k sets′
+    stopped lt a e =
         let low = l .gathering .scan .low in
-        let h : k < start-of second (t + 1) = omega (arith, l .ends) in
-        tested-one first second s t (g .first-loaded) p e low h (one-passes second (g .second-loaded) t (p .right) _ low h (sym (a .fit) ∙ f))
+        let h : k < start-of g (t + 1) = omega (arith, l .ends) in
+        tested-one tables s t first (p .pair .lost) (p .pair .its-rank) low h (sym (one-passes g second t (p .pair .lost .right) _ k low h (a .fit) e))
+
+    -- number k adds to the sets
+    added : {b : Bool} {sets′ amounts′ : List ℕ} → k < end → Parted R m (second-step tables k) b sets sets′ → b ≡ false
+        → length sets′ ≡ length sets → length amounts′ ≡ length amounts → Walk tables t r j sets₀ amounts₀ end sets′ amounts′ (k + 1)
+    added lt a e es ea =
+        record {
+          gathering = gathering-next R m tables second t (p .pair .lost .right) (l .gathering) (omega (arith, l .ends)) a e;
+          ends = l .ends;
+          same-sets = es ∙ l .same-sets;
+          same-amounts = ea ∙ l .same-amounts;
+        }
 
     -- all of t are passed
-    passed : end ≤ k → Tested first second s t r j k sets
+    passed : end ≤ k → Tested tables s t r j k sets
     passed le =
-        let f : start-of second (t + 1) ≤ k = omega (arith, l .ends) in
+        let h : start-of g (t + 1) ≤ k = omega (arith, l .ends) in
         record {
           low = l .gathering .scan .low;
           high = l .gathering .scan .high;
           one = λ h. absurd (omega (arith, h));
-          none = none-passes second (g .second-loaded) t (p .right) _ (l .gathering .scan);
+          none = scan-end g second t (p .pair .lost .right) _ (l .gathering .scan);
           found = λ w. record {
             set = λ i b.
-                gathering-end R (transition-at first j) second (g .second-loaded) t (p .right) (l .gathering) f i
-                (omega (arith, choice-width first second (g .first-loaded) s t j (p .left) w))
-                ∙ ap₂ (λ (q : ℕ) (m : Transition). apart (round (table-of first) (table-of second) (pred q)) m (steps (table-of second) t) i) e (w .is);
+                gathering-end R m tables second t (p .pair .lost .right) (l .gathering) h i (omega (arith, choice-width tables first s t j (p .pair .lost .left) w))
+                ∙ ap₂ (λ (q : ℕ) (m : Transition). apart (round (first-table tables) (second-table tables) (pred q)) m (steps (second-table tables) t) i) (p .pair .its-rank) (w .is);
           };
         }
 
+    small : k < end → k < most-transitions
+    small lt = omega (arith, l .ends, start-bound g second (t + 1) (omega (arith, p .pair .lost .right)), limits g second .transitions-few)
+
 abbrev Inv-loop : tie.InvT-loop
-Inv-loop first second ranks s t r j sets₀ rel₀ x₀ last l₀ sets rel x l =
-    Walk first second t r j sets₀ rel₀ x₀ last sets rel x l
+Inv-loop tables ranks s t r j sets₀ amounts₀ last l₀ sets amounts l = Walk tables t r j sets₀ amounts₀ last sets amounts l
 
 abbrev μ-loop : tie.MeasureT-loop
-μ-loop first second ranks s t r j sets₀ rel₀ x₀ last l₀ sets rel x l =
-    last - l
+μ-loop tables ranks s t r j sets₀ amounts₀ last l₀ sets amounts l = last - l
+
+asked : (c : tie.Start Inv-loop μ-loop) → let a = c .args in Asked (a .tables .now) (a .ranks .now) (a .s) (a .t) (a .r) (a .j)
+asked c = let p = c .pre in record { pair = record { ranked = p .0; lost = p .1; its-rank = p .2 }; low = p .3; high = p .4 }
+
+-- the entry, from the loop on
+abbrev entry-of : tie.At-loop Inv-loop μ-loop → tie.Start Inv-loop μ-loop
+entry-of l = l .before .before .before .before .before .before .before .before .before .before .before .before
 
 targets-requires : tie.Need-targets-requires Inv-loop μ-loop
-targets-requires c κs =
-    let entry = c .before .before .before .before .before .before .before in
-    let p = entry .pre in (p .0 .first-loaded, number (p .0) (p .1) (p .2) (p .3) (p .4))
+targets-requires c κs = let p = asked (c .before .before .before .before .before) in (first p, number p)
 
 clear-requires : tie.Need-clear-requires Inv-loop μ-loop
 clear-requires c κs =
-    let entry = c .before .before .before .before .before .before .before .before in
-    let p = entry .pre in
-    let f = entry .args .first .now in
-    let few = few-places f (entry .args .j) (p .0 .first-loaded) (number (p .0) (p .1) (p .2) (p .3) (p .4)) in
-    let count = targets-count f (entry .args .j) (p .0 .first-loaded) (number (p .0) (p .1) (p .2) (p .3) (p .4)) _ (c .targets .ensures) in
-    (omega arith, omega (arith, p .6))
+    let entry = c .before .before .before .before .before .before in
+    let p = asked entry in
+    let count = targets-count (first-form (entry .args .tables .now)) (entry .args .j) (first p) (number p) _ (c .targets .ensures) in
+    (omega (arith, few p), omega (arith, few p, entry .pre .5))
 
-add-first : tie.Need-add-first Inv-loop μ-loop
-add-first c =
-    let entry = c .before .before .before .before .before .before .before .before .before .before .before in
-    record { fits = omega (arith, entry .pre .1 .right, limits (entry .args .second .now) (entry .pre .0 .second-loaded) .states-few) }
+add-start-of : tie.Need-add-start-of Inv-loop μ-loop
+add-start-of c =
+    let entry = c .before .before .before .before .before .before .before .before .before in
+    record { fits = omega (arith, entry .pre .1 .right, limits (second-form (entry .args .tables .now)) (second (asked entry)) .states-few) }
 
-first-requires : tie.Need-first-requires Inv-loop μ-loop
-first-requires c κs =
-    let entry = c .before .before .before .before .before .before .before .before .before .before .before in
-    let p = entry .pre in (p .0 .second-loaded, omega (arith, p .1 .right))
+start-of-requires : tie.Need-start-of-requires Inv-loop μ-loop
+start-of-requires c κs =
+    let p = asked (c .before .before .before .before .before .before .before .before .before) in
+    (second p, omega (arith, p .pair .lost .right))
 
-first-requires-2 : tie.Need-first-requires-2 Inv-loop μ-loop
-first-requires-2 c κs =
-    let entry = c .before .before .before .before .before .before .before .before .before .before .before .before in
-    let p = entry .pre in (p .0 .second-loaded, omega (arith, p .1 .right))
+start-of-requires-2 : tie.Need-start-of-requires-2 Inv-loop μ-loop
+start-of-requires-2 c κs =
+    let p = asked (c .before .before .before .before .before .before .before .before .before .before) in
+    (second p, omega (arith, p .pair .lost .right))
 
 loop-holds : tie.Need-loop-holds Inv-loop μ-loop
 loop-holds c =
     let at-clear = c .before .before .before .before in
     let at-targets = at-clear .before in
-    let entry = at-targets .before .before .before .before .before .before .before .before in
+    let entry = at-targets .before .before .before .before .before .before in
     let a = entry .args in
-    let p = entry .pre in
-    let R = round (table-of (a .first .now)) (table-of (a .second .now)) (pred (a .r)) in
-    let m = transition-at (a .first .now) (a .j) in
-    let count = targets-count (a .first .now) (a .j) (p .0 .first-loaded) (number (p .0) (p .1) (p .2) (p .3) (p .4)) _ (at-targets .targets .ensures) in
+    let p = asked entry in
+    let tables = a .tables .now in
+    let R = round (first-table tables) (second-table tables) (pred (a .r)) in
+    let m = first-step tables (a .j) in
+    let count = targets-count (first-form tables) (a .j) (first p) (number p) _ (at-targets .targets .ensures) in
     record {
-      gathering = subst (λ (n : ℕ). Gathering R m (a .second .now) (a .t) n (at-clear .clear .last .0)) (sym (c .first2 .ensures))
-          (gathering-start R m (a .second .now) (p .0 .second-loaded) (a .t) (p .1 .right) (at-clear .clear .last .0) (λ i b. at-clear .clear .ensures i (omega (arith, count))));
-      ends = c .before .first .ensures;
+      gathering = subst (λ (n : ℕ). Gathering R m tables (a .t) n (at-clear .clear .last .0)) (sym (c .start-of2 .ensures))
+          (gathering-start R m tables (second p) (a .t) (p .pair .lost .right) (at-clear .clear .last .0) (λ i b. at-clear .clear .ensures i (omega (arith, count))));
+      ends = c .before .start-of .ensures;
       same-sets = refl;
-      same-rel = refl;
-      same-x = refl;
+      same-amounts = refl;
     }
 
-add-sets-requires : tie.Need-add-sets-requires Inv-loop μ-loop
-add-sets-requires c κs =
-    let at-loop-test = c .before .before .before in
+part-sets-requires : tie.Need-part-sets-requires Inv-loop μ-loop
+part-sets-requires c κs =
+    let at-loop-test = c .before .before in
     let at-loop = at-loop-test .before in
     let at-sets = at-loop .before .before .before .before in
-    let entry = at-sets .before .before .before .before .before .before .before .before .before .before in
-    let p = entry .pre in
+    let entry = entry-of at-loop in
     let l = at-loop .loop .inv in
-    (compared (p .0) (p .1) (p .2) (p .3) (p .4) l (p .5) (at-loop-test .loop-test .taken), omega (arith, p .6, l .same-sets, at-sets .sets .given))
+    (compared (asked entry) l (entry .pre .6) (at-loop-test .loop-test .taken), omega (arith, entry .pre .5, l .same-sets, at-sets .sets .given))
 
 same-length : tie.Need-same-length Inv-loop μ-loop
 same-length c =
-    let at-sets2 = c .before .before .before .before .before .before in
-    let at-loop = at-sets2 .before .before .before .before .before .before in
+    let at-sets2 = c .before .before .before .before in
+    let at-loop = at-sets2 .before .before .before .before .before in
     let at-sets = at-loop .before .before .before .before in
     at-sets2 .sets2 .given ∙ at-loop .loop .inv .same-sets ∙ at-sets .sets .given
 
 same-length-2 : tie.Need-same-length-2 Inv-loop μ-loop
 same-length-2 c =
-    let at-rel = c .before .before .before .before in
-    let at-loop = at-rel .before .before .before .before .before .before .before .before in
-    at-rel .rel .given ∙ at-loop .loop .inv .same-rel
-
-same-length-3 : tie.Need-same-length-3 Inv-loop μ-loop
-same-length-3 c =
-    let at-loop = c .before .before .before .before .before .before .before .before .before .before .before .before in
-    c .before .before .x .given ∙ at-loop .loop .inv .same-x
+    let at-amounts = c .before .before in
+    let at-loop = at-amounts .before .before .before .before .before .before .before in
+    at-amounts .amounts .given ∙ at-loop .loop .inv .same-amounts
 
 returns : tie.Need-returns Inv-loop μ-loop
 returns c =
-    let at-add-sets = c .before .before .before .before .before .before .before in
-    let at-loop-test = at-add-sets .before .before .before .before in
+    let at-part-sets = c .before .before .before .before .before in
+    let at-loop-test = at-part-sets .before .before .before in
     let at-loop = at-loop-test .before in
-    let entry = at-loop .before .before .before .before .before .before .before .before .before .before .before .before .before .before in
-    let p = entry .pre in
-    stopped (p .0) (p .1) (p .2) (p .3) (p .4) (at-loop .loop .inv) (at-loop-test .loop-test .taken) (at-add-sets .add-sets .ensures) (c .if1 .taken)
+    stopped (asked (entry-of at-loop)) (at-loop .loop .inv) (at-loop-test .loop-test .taken) (at-part-sets .part-sets .ensures) (c .if1 .taken)
 
 add-l : tie.Need-add-l Inv-loop μ-loop
 add-l c =
-    let at-loop-test = c .before .before .before .before .before .before .before .before .before .before .before in
+    let at-loop-test = c .before .before .before .before .before .before .before .before in
     let at-loop = at-loop-test .before in
-    let entry = at-loop .before .before .before .before .before .before .before .before .before .before .before .before .before .before in
-    let f = entry .args .second .now in
-    record {
-      fits = omega (
-        arith,
-        at-loop-test .loop-test .taken,
-        at-loop .loop .inv .ends,
-        start-bound f (entry .pre .0 .second-loaded) (entry .args .t + 1) (omega (arith, entry .pre .1 .right)),
-        limits f (entry .pre .0 .second-loaded) .transitions-few,
-      );
-    }
+    record { fits = omega (arith, small (asked (entry-of at-loop)) (at-loop .loop .inv) (at-loop-test .loop-test .taken)) }
 
 loop-less : tie.Need-loop-less Inv-loop μ-loop
-loop-less c =
-    let at-loop-test = c .before .before .before .before .before .before .before .before .before .before .before in
-    omega (arith, at-loop-test .loop-test .taken)
+loop-less c = let at-loop-test = c .before .before .before .before .before .before .before .before in omega (arith, at-loop-test .loop-test .taken)
 
 loop-again : tie.Need-loop-again Inv-loop μ-loop
 loop-again c =
-    let at-rel = c .before .before .before .before in
-    let at-sets2 = at-rel .before .before in
-    let at-add-sets = at-sets2 .before in
-    let at-loop-test = at-add-sets .before .before .before .before in
+    let at-amounts = c .before .before in
+    let at-sets2 = at-amounts .before .before in
+    let at-part-sets = at-sets2 .before in
+    let at-loop-test = at-part-sets .before .before .before in
     let at-loop = at-loop-test .before in
-    let entry = at-loop .before .before .before .before .before .before .before .before .before .before .before .before .before .before in
-    let l = at-loop .loop .inv in
-    let a = entry .args in
-    let p = entry .pre in
-    record {
-      gathering = gathering-next (round (table-of (a .first .now)) (table-of (a .second .now)) (pred (a .r))) (transition-at (a .first .now) (a .j)) (a .second .now) (p .0 .second-loaded) (a .t) (p .1 .right)
-          (l .gathering) (omega (arith, at-loop-test .loop-test .taken, l .ends)) (at-add-sets .add-sets .ensures) (c .if1 .left);
-      ends = l .ends;
-      same-sets = at-sets2 .sets2 .given ∙ l .same-sets;
-      same-rel = at-rel .rel .given ∙ l .same-rel;
-      same-x = c .before .before .x .given ∙ l .same-x;
-    }
+    added (asked (entry-of at-loop)) (at-loop .loop .inv) (at-loop-test .loop-test .taken) (at-part-sets .part-sets .ensures) (c .if1 .left) (at-sets2 .sets2 .given) (at-amounts .amounts .given)
+
+same-length-3 : tie.Need-same-length-3 Inv-loop μ-loop
+same-length-3 c =
+    let at-loop = c .before in
+    let at-sets = at-loop .before .before .before .before in
+    at-loop .loop .inv .same-sets ∙ at-sets .sets .given
 
 same-length-4 : tie.Need-same-length-4 Inv-loop μ-loop
-same-length-4 c =
-    let at-sets = c .before .before .before .before .before in
-    c .before .loop .inv .same-sets ∙ at-sets .sets .given
-
-same-length-5 : tie.Need-same-length-5 Inv-loop μ-loop
-same-length-5 c =
-    c .before .loop .inv .same-rel
-
-same-length-6 : tie.Need-same-length-6 Inv-loop μ-loop
-same-length-6 c =
-    c .before .loop .inv .same-x
+same-length-4 c = c .before .loop .inv .same-amounts
 
 returns-2 : tie.Need-returns-2 Inv-loop μ-loop
-returns-2 c =
-    let entry = c .before .before .before .before .before .before .before .before .before .before .before .before .before .before .before in
-    let p = entry .pre in passed (p .0) (p .1) (p .2) (p .3) (p .4) (c .before .loop .inv) (c .loop-test .left)
+returns-2 c = let at-loop = c .before in passed (asked (entry-of at-loop)) (at-loop .loop .inv) (c .loop-test .left)
 
 pub find-sets-spec : {M : Type 1} → statement M
 find-sets-spec =
@@ -230,19 +225,17 @@ find-sets-spec =
     μ-loop
     targets-requires
     clear-requires
-    add-first
-    first-requires
-    first-requires-2
+    add-start-of
+    start-of-requires
+    start-of-requires-2
     loop-holds
-    add-sets-requires
+    part-sets-requires
     same-length
     same-length-2
-    same-length-3
     returns
     add-l
     loop-less
     loop-again
+    same-length-3
     same-length-4
-    same-length-5
-    same-length-6
     returns-2)

@@ -9,30 +9,30 @@ use borrow.Author.Needs.{needs}
 use Rattle.simulation.specs.Limits.{most-pairs, most-states}
 use Rattle.simulation.specs.Table.{states-of}
 use Rattle.form.proofs.FormLaws.{limits}
-use Rattle.form.specs.Form.{Loaded, table-of}
+use Rattle.form.specs.Tables.{second-form, second-table, BothLoaded}
 use Rattle.choice.proofs.rank_at.Statement.{statement}
 use Rattle.choice.proofs.rank_at.Tie as tie
 
-small : (f : List ℕ) (s n : ℕ) → Loaded f → s < most-states → n ≡ states-of (table-of f) → s * n < most-pairs
-small f s n l a e = omega (arith, mul-le-mul-left s (let h : n ≤ most-states = omega (arith, limits f l .states-few) in h))
+-- at a sum within the row of s: the row begins within the limit
+small : (tables : List ℕ) (s n : ℕ) → BothLoaded tables → s < most-states → n ≡ states-of (second-table tables) → s * n < most-pairs
+small tables s n l a e = omega (arith, mul-le-mul-left s (let h : n ≤ most-states = omega (arith, limits (second-form tables) (l .second) .states-few) in h))
+
+row-small : (c : tie.After-states) → c .before .before .before .args .s * c .states .result < most-pairs
+row-small c =
+    let entry = c .before .before .before in
+    small (entry .args .tables .now) (entry .args .s) _ (entry .pre .0) (entry .pre .1) (c .states .ensures)
 
 states-requires : tie.Need-states-requires
 states-requires c κs = search needs
 
 mul-result : tie.Need-mul-result
-mul-result c =
-    let entry = c .before .before .before in
-    record { fits = omega (arith, small (entry .args .second .now) (entry .args .s) _ (entry .pre .0) (entry .pre .1) (c .states .ensures)) }
+mul-result c = record { fits = omega (arith, row-small c) }
 
 add-result : tie.Need-add-result
-add-result c =
-    let entry = c .before .before .before in
-    record { fits = omega (arith, small (entry .args .second .now) (entry .args .s) _ (entry .pre .0) (entry .pre .1) (c .states .ensures), entry .pre .2) }
+add-result c = record { fits = omega (arith, row-small c, c .before .before .before .pre .2) }
 
 mul-result-2 : tie.Need-mul-result-2
-mul-result-2 c =
-    let entry = c .before .before .before in
-    record { fits = omega (arith, small (entry .args .second .now) (entry .args .s) _ (entry .pre .0) (entry .pre .1) (c .states .ensures), entry .pre .2) }
+mul-result-2 c = record { fits = omega (arith, row-small c, c .before .before .before .pre .2) }
 
 shared-slice-read-result : tie.Need-shared-slice-read-result
 shared-slice-read-result c =
@@ -41,8 +41,8 @@ shared-slice-read-result c =
 
 returns : tie.Need-returns
 returns c =
-    let entry = c .before .before .before .before in
-    ap (λ (n : ℕ). getD (entry .args .ranks .now) (entry .args .s * n + entry .args .t) 0) (c .before .states .ensures)
+    let a = c .before .before .before .before .args in
+    ap (λ (n : ℕ). getD (a .ranks .now) (a .s * n + a .t) 0) (c .before .states .ensures)
 
 pub rank-at-spec : {M : Type 1} → statement M
 rank-at-spec =

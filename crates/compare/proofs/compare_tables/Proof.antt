@@ -14,11 +14,14 @@ states-requires c κs = search needs
 states-requires-2 : tie.Need-states-requires-2
 states-requires-2 c κs = search needs
 
+abbrev entry : tie.After-states2 → tie.Start
+entry d = d .before .before .before .before .before .before
+
 mul-pairs : tie.Need-mul-pairs
-mul-pairs c = let p = c .before .before .before .before .before .before .before .pre in omega (arith, count-small _ _ (p .0) (p .1) (c .before .states .ensures) (c .states2 .ensures))
+mul-pairs c = let p = entry c .pre in omega (arith, count-small _ _ (p .first) (p .second) (c .before .states .ensures) (c .states2 .ensures))
 
 cast-needed : tie.Need-cast-needed
-cast-needed c = let p = c .before .before .before .before .before .before .before .pre in omega (arith, count-small _ _ (p .0) (p .1) (c .before .states .ensures) (c .states2 .ensures))
+cast-needed c = let p = entry c .pre in omega (arith, count-small _ _ (p .first) (p .second) (c .before .states .ensures) (c .states2 .ensures))
 
 is-outside-requires : tie.Need-is-outside-requires
 is-outside-requires c κs = search needs
@@ -39,8 +42,8 @@ returns-2 c =
     let at-outside = c .before .before .before in
     let ep = at-outside .before .before .states .ensures in
     let eq = at-outside .before .states2 .ensures in
-    let p = at-outside .before .before .before .before .before .before .before .before .pre in
-    has-short-ranks _ _ _ _ _ (inside ep eq (at-outside .is-outside .ensures) (c .before .before .if1 .left)) (count-is _ _ (p .0) (p .1) ep eq) (ltb-true _ _ (c .before .if2 .taken)) (c .refused2 .ensures)
+    let p = entry (at-outside .before) .pre in
+    has-short-ranks _ _ _ _ _ (inside ep eq (at-outside .is-outside .ensures) (c .before .before .if1 .left)) (count-is _ _ (p .first) (p .second) ep eq) (ltb-true _ _ (c .before .if2 .taken)) (c .refused2 .ensures)
 
 show-requires : tie.Need-show-requires
 show-requires c κs =
@@ -48,9 +51,9 @@ show-requires c κs =
     let at-outside = at-if2 .before .before in
     let ep = at-outside .before .before .states .ensures in
     let eq = at-outside .before .states2 .ensures in
-    let p = at-outside .before .before .before .before .before .before .before .before .pre in
+    let p = entry (at-outside .before) .pre in
     let i = inside ep eq (at-outside .is-outside .ensures) (at-if2 .before .if1 .left) in
-    (p .0, p .1, i .0, i .1, has-room (count-is _ _ (p .0) (p .1) ep eq) (at-if2 .if2 .left))
+    (p, i .0, i .1, has-room (count-is _ _ (p .first) (p .second) ep eq) (at-if2 .if2 .left))
 
 same-length : tie.Need-same-length
 same-length c = search needs

@@ -1,5 +1,5 @@
 -- `corner::corner` meets its contract: the loop's turns are those of `Turn`, over the lists and sums of the code. Assumes nothing.
-use mathlib.Core.Path.{_≡_, ap, ap₂}
+use mathlib.Core.Path.{_≡_, ap}
 use mathlib.Core.Bool.{Bool}
 use Prim.Native.Nat.{ℕ, _+_, _-_, _*_, _<_, _^_}
 use native.Mathlib.Omega.{arith}
@@ -25,47 +25,38 @@ given c = c .before .before .before .before .before .before .before .before
 abbrev joined : tie.At-loop Inv-loop μ-loop → ℕ → ℕ → Bool
 joined c = let x = given c .args in joins (x .rows .now) (x .from .now) (x .to .now)
 
--- a share of the code is that of the laws
-row-share : (c : tie.After-wide Inv-loop μ-loop) → let l = c .before .before .before .before .before .before in
-    let x = given l .args in
-    c .wide .result * l .before .total-weight2 .result ≡ weight (x .m .now) (l .loop .i) * total (x .n .now)
-row-share c = ap₂ _*_ (c .wide .ensures) (c .before .before .before .before .before .before .before .total-weight2 .ensures)
+-- the loop's test, from where a turn has read the row's bit, its weight and the column's
+abbrev tested : tie.After-bit Inv-loop μ-loop → tie.In-loop Inv-loop μ-loop
+tested c = c .before .before .before
 
-column-share : (c : tie.After-wide2 Inv-loop μ-loop) → let l = c .before .before .before .before .before .before .before .before in
-    let x = given l .args in
-    c .wide2 .result * l .before .before .total-weight .result ≡ weight (x .n .now) (l .loop .j) * total (x .m .now)
-column-share c = ap₂ _*_ (c .wide2 .ensures) (c .before .before .before .before .before .before .before .before .before .before .total-weight .ensures)
+-- where the shares of a turn end
+abbrev row-end : tie.At-loop Inv-loop μ-loop → ℕ
+row-end l = l .loop .a + weight (given l .args .m .now) (l .loop .i) * l .before .total-weight2 .result
 
--- the sums of a turn fit 32 bits
-row-room : (c : tie.After-wide Inv-loop μ-loop) → let l = c .before .before .before .before .before .before in
-    l .loop .a + c .wide .result * l .before .total-weight2 .result < 2 ^ 32
-row-room c =
-    let l = c .before .before .before .before .before .before in
-    let h = given l .pre in
-    omega (arith, row-share c, row-fits (l .loop .inv) (h .total-ws) (h .total-vs) (c .before .before .before .before .before .loop-test .taken))
+abbrev column-end : tie.At-loop Inv-loop μ-loop → ℕ
+column-end l = l .loop .b + weight (given l .args .n .now) (l .loop .j) * l .before .before .total-weight .result
 
-column-room : (c : tie.After-wide2 Inv-loop μ-loop) → let l = c .before .before .before .before .before .before .before .before in
-    l .loop .b + c .wide2 .result * l .before .before .total-weight .result < 2 ^ 32
-column-room c =
-    let l = c .before .before .before .before .before .before .before .before in
-    let h = given l .pre in
-    omega (arith, column-share c, column-fits (l .loop .inv) (h .total-ws) (h .total-vs) (c .before .before .before .before .before .before .before .loop-test .taken))
+-- they are those of the laws, and fit 32 bits
+row-is : (l : tie.At-loop Inv-loop μ-loop) → row-end l ≡ l .loop .a + weight (given l .args .m .now) (l .loop .i) * total (given l .args .n .now)
+row-is l = ap (λ k. l .loop .a + weight (given l .args .m .now) (l .loop .i) * k) (l .before .total-weight2 .ensures)
+
+column-is : (l : tie.At-loop Inv-loop μ-loop) → column-end l ≡ l .loop .b + weight (given l .args .n .now) (l .loop .j) * total (given l .args .m .now)
+column-is l = ap (λ k. l .loop .b + weight (given l .args .n .now) (l .loop .j) * k) (l .before .before .total-weight .ensures)
+
+row-room : (c : tie.In-loop Inv-loop μ-loop) → row-end (c .before) < 2 ^ 32
+row-room c = let h = given (c .before) .pre in omega (arith, row-is (c .before), row-fits (c .before .loop .inv) (h .total-ws) (h .total-vs) (c .loop-test .taken))
+
+column-room : (c : tie.In-loop Inv-loop μ-loop) → column-end (c .before) < 2 ^ 32
+column-room c = let h = given (c .before) .pre in omega (arith, column-is (c .before), column-fits (c .before .loop .inv) (h .total-ws) (h .total-vs) (c .loop-test .taken))
+
+-- the rule's column is there in every turn
+column-there : (c : tie.In-loop Inv-loop μ-loop) → c .before .loop .j < length (given (c .before) .args .n .now)
+column-there c = c .before .loop .inv .column (c .loop-test .taken)
 
 -- what the code has computed before it chooses where to go on
-found : (c : tie.After-wide2 Inv-loop μ-loop) → let l = c .before .before .before .before .before .before .before .before in
-    let x = given l .args in
-    Turn
-    (joined l)
-    (x .m .now)
-    (x .n .now)
-    (l .loop .i)
-    (l .loop .j)
-    (l .loop .a + c .before .before .wide .result * l .before .total-weight2 .result)
-    (l .loop .b + c .wide2 .result * l .before .before .total-weight .result)
-    (bitAnd (l .loop .related) (c .before .before .before .before .bit .result))
-found c =
-    let l = c .before .before .before .before .before .before .before .before in
-    turn (l .loop .inv) (c .before .before .before .before .before .before .before .loop-test .taken) (ap (λ n. l .loop .a + n) (row-share (c .before .before))) (ap (λ n. l .loop .b + n) (column-share c)) (c .before .before .before .before .bit .ensures)
+found : (c : tie.After-bit Inv-loop μ-loop) → let l = tested c .before in
+    Turn (joined l) (given l .args .m .now) (given l .args .n .now) (l .loop .i) (l .loop .j) (row-end l) (column-end l) (bitAnd (l .loop .related) (c .bit .result))
+found c = let l = tested c .before in turn (l .loop .inv) (tested c .loop-test .taken) (row-is l) (column-is l) (c .bit .ensures)
 
 total-weight-requires : tie.Need-total-weight-requires Inv-loop μ-loop
 total-weight-requires c κs = omega arith
@@ -86,10 +77,10 @@ cast-bit : tie.Need-cast-bit Inv-loop μ-loop
 cast-bit c = omega (arith, c .shared-slice-known6 .given (c .before .before .loop .i))
 
 mul-bit-2 : tie.Need-mul-bit-2 Inv-loop μ-loop
-mul-bit-2 c = omega (arith, c .before .before .loop .inv .column (c .before .loop-test .taken))
+mul-bit-2 c = omega (arith, column-there (c .before))
 
 shared-slice-read-bit-2 : tie.Need-shared-slice-read-bit-2 Inv-loop μ-loop
-shared-slice-read-bit-2 c = omega (arith, c .before .before .before .loop .inv .column (c .before .before .loop-test .taken))
+shared-slice-read-bit-2 c = omega (arith, column-there (c .before .before))
 
 cast-bit-2 : tie.Need-cast-bit-2 Inv-loop μ-loop
 cast-bit-2 c = omega (arith, c .shared-slice-known7 .given (c .before .before .before .loop .j))
@@ -98,68 +89,67 @@ bit-requires : tie.Need-bit-requires Inv-loop μ-loop
 bit-requires c κs =
     let l = c .before .before .before in
     let h = given l .pre in
-    let r = c .before .before .loop-test .taken in
-    (h .row-states (l .loop .i) (omega (arith, h .rows-paired)), h .column-states (l .loop .j) (omega (arith, h .columns-paired, l .loop .inv .column r)))
-
-mul-wide : tie.Need-mul-wide Inv-loop μ-loop
-mul-wide c = omega arith
-
-shared-slice-read-wide : tie.Need-shared-slice-read-wide Inv-loop μ-loop
-shared-slice-read-wide c = omega arith
-
-wide-requires : tie.Need-wide-requires Inv-loop μ-loop
-wide-requires c κs = tt
+    (h .row-states (l .loop .i) (omega (arith, h .rows-paired)), h .column-states (l .loop .j) (omega (arith, h .columns-paired, column-there (c .before .before))))
 
 mul-x : tie.Need-mul-x Inv-loop μ-loop
-mul-x c = omega (arith, row-room c)
+mul-x c = omega arith
+
+shared-slice-read-x : tie.Need-shared-slice-read-x Inv-loop μ-loop
+shared-slice-read-x c = omega arith
+
+cast-x : tie.Need-cast-x Inv-loop μ-loop
+cast-x c = omega (arith, c .shared-slice-known8 .given (tested (c .before) .before .loop .i))
+
+mul-x-2 : tie.Need-mul-x-2 Inv-loop μ-loop
+mul-x-2 c = omega (arith, row-room (tested (c .before)))
 
 add-x : tie.Need-add-x Inv-loop μ-loop
-add-x c = omega (arith, row-room c)
-
-mul-wide-2 : tie.Need-mul-wide-2 Inv-loop μ-loop
-mul-wide-2 c = omega (arith, c .before .before .before .before .before .before .loop .inv .column (c .before .before .before .before .before .loop-test .taken))
-
-shared-slice-read-wide-2 : tie.Need-shared-slice-read-wide-2 Inv-loop μ-loop
-shared-slice-read-wide-2 c = c .before .before .before .before .before .before .before .loop .inv .column (c .before .before .before .before .before .before .loop-test .taken)
-
-wide-requires-2 : tie.Need-wide-requires-2 Inv-loop μ-loop
-wide-requires-2 c κs = tt
+add-x c = omega (arith, row-room (tested (c .before)))
 
 mul-y : tie.Need-mul-y Inv-loop μ-loop
-mul-y c = omega (arith, column-room c)
+mul-y c = omega (arith, column-there (tested (c .before)))
+
+shared-slice-read-y : tie.Need-shared-slice-read-y Inv-loop μ-loop
+shared-slice-read-y c = column-there (tested (c .before .before))
+
+cast-y : tie.Need-cast-y Inv-loop μ-loop
+cast-y c = omega (arith, c .shared-slice-known9 .given (tested (c .before .before) .before .loop .j))
+
+mul-y-2 : tie.Need-mul-y-2 Inv-loop μ-loop
+mul-y-2 c = omega (arith, column-room (tested (c .before .before)))
 
 add-y : tie.Need-add-y Inv-loop μ-loop
-add-y c = omega (arith, column-room c)
+add-y c = omega (arith, column-room (tested (c .before .before)))
 
 add-i : tie.Need-add-i Inv-loop μ-loop
 add-i c = omega arith
 
 add-j : tie.Need-add-j Inv-loop μ-loop
-add-j c = omega (arith, found (c .before) .column)
+add-j c = omega (arith, found (c .before .before .before) .column)
 
 loop-less : tie.Need-loop-less Inv-loop μ-loop
-loop-less c = omega (arith, found (c .before) .row)
+loop-less c = omega (arith, found (c .before .before .before) .row)
 
 loop-again : tie.Need-loop-again Inv-loop μ-loop
-loop-again c = let h = given (c .before .before .before .before .before .before .before .before .before) .pre in both-done (found (c .before)) (h .positive-ws) (h .positive-vs) (c .if1 .taken)
+loop-again c = let b = c .before .before .before in let h = given (tested b .before) .pre in both-done (found b) (h .positive-ws) (h .positive-vs) (c .if1 .taken)
 
 add-i-2 : tie.Need-add-i-2 Inv-loop μ-loop
 add-i-2 c = omega arith
 
 loop-less-2 : tie.Need-loop-less-2 Inv-loop μ-loop
-loop-less-2 c = omega (arith, found (c .before .before) .row)
+loop-less-2 c = omega (arith, found (c .before .before .before .before) .row)
 
 loop-again-2 : tie.Need-loop-again-2 Inv-loop μ-loop
-loop-again-2 c = row-done (found (c .before .before)) (c .if2 .taken) (c .before .before .before .before .before .before .before .before .before .before .loop .inv .column-start)
+loop-again-2 c = let b = c .before .before .before .before in row-done (found b) (c .if2 .taken) (tested b .before .loop .inv .column-start)
 
 add-j-2 : tie.Need-add-j-2 Inv-loop μ-loop
-add-j-2 c = omega (arith, found (c .before .before) .column)
+add-j-2 c = omega (arith, found (c .before .before .before .before) .column)
 
 loop-less-3 : tie.Need-loop-less-3 Inv-loop μ-loop
-loop-less-3 c = omega (arith, found (c .before .before) .column)
+loop-less-3 c = omega (arith, found (c .before .before .before .before) .column)
 
 loop-again-3 : tie.Need-loop-again-3 Inv-loop μ-loop
-loop-again-3 c = column-done (found (c .before .before)) (omega (arith, c .if2 .left, c .before .if1 .left)) (c .before .before .before .before .before .before .before .before .before .before .loop .inv .row-start)
+loop-again-3 c = let b = c .before .before .before .before in column-done (found b) (omega (arith, c .if2 .left, c .before .if1 .left)) (tested b .before .loop .inv .row-start)
 
 returns : tie.Need-returns Inv-loop μ-loop
 returns c = λ e. all-passed (c .before .loop .inv) (c .loop-test .left) (eqb→eq (c .before .loop .related) 1 (true-T e))
@@ -180,15 +170,15 @@ corner-spec =
     shared-slice-read-bit-2
     cast-bit-2
     bit-requires
-    mul-wide
-    shared-slice-read-wide
-    wide-requires
     mul-x
+    shared-slice-read-x
+    cast-x
+    mul-x-2
     add-x
-    mul-wide-2
-    shared-slice-read-wide-2
-    wide-requires-2
     mul-y
+    shared-slice-read-y
+    cast-y
+    mul-y-2
     add-y
     add-i
     add-j

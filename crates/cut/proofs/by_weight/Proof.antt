@@ -30,16 +30,16 @@ mul-if1-2 c =
 
 returns : tie.Need-returns
 returns c =
-    let test = c .before in
-    heavier-rows _ _ _ _ (test .before .before .before .before .weight-of .ensures) (test .before .before .before .total-weight .ensures) (test .before .before .weight-of2 .ensures) (test .before .total-weight2 .ensures) (test .if1 .taken)
+    let w = c .before .before in
+    heavier-rows _ _ _ _ (w .before .before .before .weight-of .ensures) (w .before .before .total-weight .ensures) (w .before .weight-of2 .ensures) (w .total-weight2 .ensures) (c .before .if1 .taken)
 
 empty-requires : tie.Need-empty-requires
 empty-requires c κs = search needs
 
 returns-2 : tie.Need-returns-2
 returns-2 c =
-    let test = c .before in
-    heavier-none _ _ _ _ (test .before .before .before .before .weight-of .ensures) (test .before .before .before .total-weight .ensures) (test .before .before .weight-of2 .ensures) (test .before .total-weight2 .ensures) (test .if1 .left) (c .empty .ensures)
+    let w = c .before .before in
+    heavier-none _ _ _ _ (w .before .before .before .weight-of .ensures) (w .before .before .total-weight .ensures) (w .before .weight-of2 .ensures) (w .total-weight2 .ensures) (c .before .if1 .left) (c .empty .ensures)
 
 pub by-weight-spec : {M : Type 1} → statement M
 by-weight-spec =

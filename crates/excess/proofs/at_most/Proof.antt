@@ -5,6 +5,7 @@ use Prim.Native.Nat.{ℕ, _-_, _≤_, _<_}
 use native.Mathlib.Nat.{not-suc-le-zero}
 use native.Mathlib.Omega.{arith}
 use lib.ListN.{getD}
+use Rattle.simulation.specs.Sum.{when}
 use Rattle.simulation.proofs.Finite.Sums.{when-most}
 use Rattle.relation.specs.Mask.{member}
 use Rattle.excess.specs.Excess.{sets, parts}
@@ -18,6 +19,12 @@ Inv-loop sums a b c d k₀ k = (k ≤ sets) × ((s : ℕ) → s < k → getD sum
 abbrev μ-loop : tie.MeasureT-loop
 μ-loop sums a b c d k₀ k = sets - k
 
+-- no member has more than its amount
+each-most : (l : tie.At-loop Inv-loop μ-loop) → let k = l .loop .k in let g = l .before .before .args in
+    (when (member k 0) (g .a) ≤ g .a) × (when (member k 1) (g .b) ≤ g .b) × (when (member k 2) (g .c) ≤ g .c) × (when (member k 3) (g .d) ≤ g .d)
+each-most l = let k = l .loop .k in let g = l .before .before .args in
+    (when-most (member k 0) (g .a), when-most (member k 1) (g .b), when-most (member k 2) (g .c), when-most (member k 3) (g .d))
+
 loop-holds : tie.Need-loop-holds Inv-loop μ-loop
 loop-holds c = (omega arith, λ s lt. absurd (not-suc-le-zero lt))
 
@@ -28,31 +35,19 @@ if-member-requires-2 : tie.Need-if-member-requires-2 Inv-loop μ-loop
 if-member-requires-2 c κs = omega arith
 
 add-most : tie.Need-add-most Inv-loop μ-loop
-add-most c =
-    let at-loop = c .before .before .before in
-    let k = at-loop .loop .k in
-    let args = at-loop .before .before .args in
-    omega (arith, when-most (member k 0) (args .a), when-most (member k 1) (args .b))
+add-most c = omega (arith, each-most (c .before .before .before))
 
 if-member-requires-3 : tie.Need-if-member-requires-3 Inv-loop μ-loop
 if-member-requires-3 c κs = omega arith
 
 add-most-2 : tie.Need-add-most-2 Inv-loop μ-loop
-add-most-2 c =
-    let at-loop = c .before .before .before .before in
-    let k = at-loop .loop .k in
-    let args = at-loop .before .before .args in
-    omega (arith, when-most (member k 0) (args .a), when-most (member k 1) (args .b), when-most (member k 2) (args .c))
+add-most-2 c = omega (arith, each-most (c .before .before .before .before))
 
 if-member-requires-4 : tie.Need-if-member-requires-4 Inv-loop μ-loop
 if-member-requires-4 c κs = omega arith
 
 add-most-3 : tie.Need-add-most-3 Inv-loop μ-loop
-add-most-3 c =
-    let at-loop = c .before .before .before .before .before in
-    let k = at-loop .loop .k in
-    let args = at-loop .before .before .args in
-    omega (arith, when-most (member k 0) (args .a), when-most (member k 1) (args .b), when-most (member k 2) (args .c), when-most (member k 3) (args .d))
+add-most-3 c = omega (arith, each-most (c .before .before .before .before .before))
 
 mul-if1 : tie.Need-mul-if1 Inv-loop μ-loop
 mul-if1 c = omega arith

@@ -1,30 +1,27 @@
 -- `excess::row` meets its contract: the places passed are gathered.
 -- Assumes nothing.
-use mathlib.Core.Path.{_≡_, ap, _∙_}
 use mathlib.Core.List.{List}
-use Prim.Native.Nat.{ℕ, _-_, _≤_}
+use Prim.Native.Nat.{ℕ, _-_}
 use native.Mathlib.Omega.{arith}
 use lib.ListN.{length, getD}
-use Rattle.relation.specs.Mask.{Test, member, part}
+use Rattle.relation.specs.Mask.{Test}
 use Rattle.relation.specs.Related.{holds}
-use Rattle.relation.proofs.Mask.{part-start, part-bit}
-use Rattle.simulation.proofs.Finite.Sums.{one-most}
-use Rattle.excess.proofs.Sets.{is-set}
+use Rattle.excess.proofs.Sets.{Placed, placed-none, placed-next, placed-all, bit-fits}
 use Rattle.excess.proofs.row.Statement.{statement}
 use Rattle.excess.proofs.row.Tie as tie
 
 -- the targets of n that s is related to, by place
-abbrev passes : List ℕ → ℕ → List ℕ → Test
+abbrev passes : (rows : List ℕ) → ℕ → (to : List ℕ) → Test
 passes rows s to j = holds rows s (getD to j 0)
 
 abbrev Inv-loop : tie.InvT-loop
-Inv-loop rows s to r₀ j₀ r j = (j ≤ length to) × (member r ≡ part j (passes rows s to))
+Inv-loop rows s to r₀ j₀ r j = Placed (passes rows s to) (length to) j r
 
 abbrev μ-loop : tie.MeasureT-loop
 μ-loop rows s to r₀ j₀ r j = length to - j
 
 loop-holds : tie.Need-loop-holds Inv-loop μ-loop
-loop-holds c = (omega arith, part-start _)
+loop-holds c = placed-none
 
 mul-bit : tie.Need-mul-bit Inv-loop μ-loop
 mul-bit c = omega arith
@@ -39,7 +36,9 @@ bit-requires : tie.Need-bit-requires Inv-loop μ-loop
 bit-requires c κs = let h = c .before .before .before .before .before .pre in (h .0, h .1 (c .before .before .loop .j) (omega arith))
 
 with-bit-requires : tie.Need-with-bit-requires Inv-loop μ-loop
-with-bit-requires c κs = let a = c .before .before .before .before .before .before .args in (omega (arith, c .before .before .before .before .before .before .pre .2), omega (arith, c .bit .ensures, one-most (holds (a .rows .now) (a .s) (getD (a .to .now) (c .before .before .before .loop .j) 0))))
+with-bit-requires c κs =
+    let l = c .before .before .before in
+    bit-fits (l .loop .inv) (l .before .before .before .pre .2) (c .before .before .loop-test .taken) (c .bit .ensures)
 
 add-j : tie.Need-add-j Inv-loop μ-loop
 add-j c = omega arith
@@ -48,19 +47,10 @@ loop-less : tie.Need-loop-less Inv-loop μ-loop
 loop-less c = omega arith
 
 loop-again : tie.Need-loop-again Inv-loop μ-loop
-loop-again c =
-    let a = c .before .before .before .before .before .before .before .args in
-    let l = c .before .before .before .before .loop in (
-      omega arith,
-      part-bit (passes (a .rows .now) (a .s) (a .to .now)) (l .j) (l .r) (c .with-bit .result) (c .before .bit .result) (l .inv .1) (c .before .bit .ensures) (c .with-bit .ensures),
-    )
+loop-again c = placed-next (c .before .before .before .before .loop .inv) (c .before .before .before .loop-test .taken) (c .before .bit .ensures) (c .with-bit .ensures)
 
 returns : tie.Need-returns Inv-loop μ-loop
-returns c =
-    let a = c .before .before .before .before .args in
-    let l = c .before .loop in
-    let X = passes (a .rows .now) (a .s) (a .to .now) in
-    is-set (length (a .to .now)) X (l .r) (c .before .before .before .before .pre .2) (l .inv .1 ∙ ap (λ (n : ℕ). part n X) (omega arith))
+returns c = placed-all (c .before .loop .inv) (c .loop-test .left) (c .before .before .before .before .pre .2)
 
 pub row-spec : {M : Type 1} → statement M
 row-spec =

@@ -13,6 +13,9 @@ use Rattle.excess.proofs.Subsets.{member-room}
 use Rattle.excess.proofs.without.Statement.{statement}
 use Rattle.excess.proofs.without.Tie as tie
 
+in-set : (c : tie.Then1) → member (c .before .args .set) (c .before .args .i) ≡ true
+in-set c = let a = c .before .args in sym (member-shift (a .set) (a .i)) ∙ eq-eqb _ 1 (c .if1 .taken)
+
 shr-if1 : tie.Need-shr-if1
 shr-if1 c = search needs
 
@@ -22,8 +25,7 @@ shl-result c = search needs
 sub-result : tie.Need-sub-result
 sub-result c =
     let a = c .before .args in
-    let in-set : member (a .set) (a .i) ≡ true = sym (member-shift (a .set) (a .i)) ∙ eq-eqb _ 1 (c .if1 .taken) in
-    omega (arith, power-is (a .i) (omega arith), member-room (a .i) (a .set) in-set)
+    omega (arith, power-is (a .i) (omega arith), member-room (a .i) (a .set) (in-set c))
 
 mul-result : tie.Need-mul-result
 mul-result c = search needs
@@ -34,8 +36,7 @@ shared-slice-read-result c = search needs
 returns : tie.Need-returns
 returns c =
     let a = c .before .before .args in
-    let in-set : member (a .set) (a .i) ≡ true = sym (member-shift (a .set) (a .i)) ∙ eq-eqb _ 1 (c .before .if1 .taken) in
-    ap (λ (n : ℕ). getD (a .sums .now) (a .set - n) 0) (power-is (a .i) (omega arith)) ∙ ap (λ b. when b (getD (a .sums .now) (a .set - 2 ^ a .i) 0)) (sym in-set)
+    ap (λ (n : ℕ). getD (a .sums .now) (a .set - n) 0) (power-is (a .i) (omega arith)) ∙ ap (λ b. when b (getD (a .sums .now) (a .set - 2 ^ a .i) 0)) (sym (in-set (c .before)))
 
 returns-2 : tie.Need-returns-2
 returns-2 c =

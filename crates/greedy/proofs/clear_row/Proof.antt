@@ -1,4 +1,4 @@
--- `greedy::clear_row` meets its contract. Assumes nothing.
+-- `clear_row` meets its contract. Assumes nothing.
 use mathlib.Core.Path.{_≡_, refl}
 use Prim.Native.Nat.{_≤_, _-_}
 use native.Mathlib.Omega.{arith}
@@ -9,10 +9,10 @@ use Rattle.greedy.proofs.clear_row.Statement.{statement}
 use Rattle.greedy.proofs.clear_row.Tie as tie
 
 abbrev Inv-loop : tie.InvT-loop
-Inv-loop x₀ i q j₀ x j = (j ≤ q) × (length x ≡ length x₀) × RowCleared i j x₀ x
+Inv-loop amounts₀ i q j₀ amounts j = (j ≤ q) × (length amounts ≡ length amounts₀) × RowCleared i j amounts₀ amounts
 
 abbrev μ-loop : tie.MeasureT-loop
-μ-loop x₀ i q j₀ x j = q - j
+μ-loop amounts₀ i q j₀ amounts j = q - j
 
 loop-holds : tie.Need-loop-holds Inv-loop μ-loop
 loop-holds c = (omega arith, refl, row-cleared-none _)
@@ -23,11 +23,11 @@ mul-at c = omega arith
 add-at : tie.Need-add-at Inv-loop μ-loop
 add-at c = omega arith
 
-mul-x : tie.Need-mul-x Inv-loop μ-loop
-mul-x c = omega arith
+mul-amounts : tie.Need-mul-amounts Inv-loop μ-loop
+mul-amounts c = omega arith
 
-slice-write-x : tie.Need-slice-write-x Inv-loop μ-loop
-slice-write-x c = omega arith
+slice-write-amounts : tie.Need-slice-write-amounts Inv-loop μ-loop
+slice-write-amounts c = omega arith
 
 add-j : tie.Need-add-j Inv-loop μ-loop
 add-j c = omega arith
@@ -53,8 +53,8 @@ clear-row-spec =
     loop-holds
     mul-at
     add-at
-    mul-x
-    slice-write-x
+    mul-amounts
+    slice-write-amounts
     add-j
     loop-less
     loop-again

@@ -1,33 +1,27 @@
 -- `links::add_doubts` meets its contract: the rows passed have the doubts. Assumes nothing.
-use mathlib.Core.Path.{_≡_, refl, sym, ap, _∙_, subst}
-use mathlib.Core.Bool.{true, false}
-use Prim.Native.Nat.{ℕ, _≤_, _<_, _-_}
-use mathlib.Core.List.{List}
-use lib.ListN.{length}
-use Rattle.relation.specs.Mask.{member, either}
-use Rattle.relation.specs.Words.{words, mask, row-of, height, after, rest}
-use Rattle.relation.proofs.Sets.{walk-begin, walk-into, walk-on, walk-done, length-put}
-use Rattle.relation.specs.Related.{holds}
-use Rattle.links.specs.Links.{Grown}
-use Rattle.links.proofs.Growing.{union-left, union-right, grown-none, grown-more, grown-set, set-here, walk-start, walk-next, walk-end}
+use Prim.Native.Nat.{_≤_, _-_}
 use native.Mathlib.Omega.{arith}
+use Rattle.relation.specs.Words.{words, mask, after, rest}
+use Rattle.links.specs.Places.{HasMarks}
+use Rattle.links.proofs.Walks.{Passed, passed-none, passed-into, passed-on, passed-all}
+use Rattle.links.proofs.Doubting.{InDoubt, MoreDoubts, more-none, more-then, more-next}
 use Rattle.links.proofs.add_doubts.Statement.{statement}
 use Rattle.links.proofs.add_doubts.Tie as tie
 
 abbrev Inv-loop2 : tie.InvT-loop2
-Inv-loop2 more doubt₀ set w left₀ doubt left = (length doubt ≡ length doubt₀) × Grown doubt₀ doubt × ((s : ℕ) → member (mask set) s ≡ true → member (rest w left set) s ≡ false → (t : ℕ) → member (mask more) t ≡ true → holds doubt s t ≡ true)
+Inv-loop2 more marks₀ set w left₀ marks left = MoreDoubts marks₀ marks × Passed set (rest w left set) (InDoubt (mask more) marks)
 
 abbrev μ-loop2 : tie.MeasureT-loop2
-μ-loop2 more doubt₀ set w left₀ doubt left = left
+μ-loop2 more marks₀ set w left₀ marks left = left
 
 abbrev Inv-loop : tie.InvT-loop
-Inv-loop more doubt₀ set w₀ doubt w = (w ≤ words) × (length doubt ≡ length doubt₀) × Grown doubt₀ doubt × ((s : ℕ) → member (mask set) s ≡ true → member (after w set) s ≡ false → (t : ℕ) → member (mask more) t ≡ true → holds doubt s t ≡ true)
+Inv-loop more marks₀ set w₀ marks w = (w ≤ words) × MoreDoubts marks₀ marks × Passed set (after w set) (InDoubt (mask more) marks)
 
 abbrev μ-loop : tie.MeasureT-loop
-μ-loop more doubt₀ set w₀ doubt w = words - w
+μ-loop more marks₀ set w₀ marks w = words - w
 
 loop-holds : tie.Need-loop-holds Inv-loop2 μ-loop2 Inv-loop μ-loop
-loop-holds c = let a = c .before .args in (omega arith, refl, grown-none, walk-begin (a .t1) (λ (n : ℕ). (s : ℕ) → member (mask (a .t1)) s ≡ true → member n s ≡ false → (t : ℕ) → member (mask (a .more)) t ≡ true → holds (a .doubt .now) s t ≡ true) (walk-start (member (mask (a .t1))) _ (mask (a .t1)) refl))
+loop-holds c = let a = c .before .args in (omega arith, more-none, passed-none (a .t1) (InDoubt (mask (a .more)) (a .marks .now)))
 
 mul-left : tie.Need-mul-left Inv-loop2 μ-loop2 Inv-loop μ-loop
 mul-left c = omega arith
@@ -36,44 +30,48 @@ element-copy-out-left : tie.Need-element-copy-out-left Inv-loop2 μ-loop2 Inv-lo
 element-copy-out-left c = omega arith
 
 loop2-holds : tie.Need-loop2-holds Inv-loop2 μ-loop2 Inv-loop μ-loop
-loop2-holds c = let a = c .before .before .before .before .args in (refl, grown-none, walk-into (a .t1) (λ (n : ℕ). (s : ℕ) → member (mask (a .t1)) s ≡ true → member n s ≡ false → (t : ℕ) → member (mask (a .more)) t ≡ true → holds (c .before .before .loop .doubt) s t ≡ true) (c .before .before .loop .w) (c .before .before .loop .inv .3))
+loop2-holds c =
+    let a = c .before .before .before .before .args in
+    let o = c .before .before .loop in
+    (more-none, passed-into (a .t1) (InDoubt (mask (a .more)) (o .marks)) (o .w) (o .inv .2))
 
 lowest-requires : tie.Need-lowest-requires Inv-loop2 μ-loop2 Inv-loop μ-loop
 lowest-requires c κs = (omega arith, omega arith)
 
+add-get : tie.Need-add-get Inv-loop2 μ-loop2 Inv-loop μ-loop
+add-get c = omega arith
+
 get-requires : tie.Need-get-requires Inv-loop2 μ-loop2 Inv-loop μ-loop
-get-requires c κs = omega (arith, c .before .before .lowest .ensures .0, c .before .before .before .before .loop2 .inv .0, c .before .before .before .before .before .before .before .loop .inv .1)
+get-requires c κs = omega arith
+
+add-put : tie.Need-add-put Inv-loop2 μ-loop2 Inv-loop μ-loop
+add-put c = omega arith
 
 union-requires : tie.Need-union-requires Inv-loop2 μ-loop2 Inv-loop μ-loop
 union-requires c κs = tt
 
 put-requires : tie.Need-put-requires Inv-loop2 μ-loop2 Inv-loop μ-loop
-put-requires c κs = omega (arith, c .before .before .before .before .lowest .ensures .0, c .before .before .before .before .before .before .loop2 .inv .0, c .before .before .before .before .before .before .before .before .before .loop .inv .1)
+put-requires c κs = omega arith
 
 without-lowest-requires : tie.Need-without-lowest-requires Inv-loop2 μ-loop2 Inv-loop μ-loop
-without-lowest-requires c κs = (omega (arith, c .before .before .before .before .before .before .before .before .before .before .before .loop-test .taken), omega (arith, c .before .before .before .before .before .before .before .before .loop2-test .taken))
+without-lowest-requires c κs = (omega arith, omega arith)
 
 loop2-less : tie.Need-loop2-less Inv-loop2 μ-loop2 Inv-loop μ-loop
 loop2-less c = c .without-lowest .ensures .1
 
 loop2-again : tie.Need-loop2-again Inv-loop2 μ-loop2 Inv-loop μ-loop
 loop2-again c =
-    let a = c .before .before .before .before .before .before .before .before .before .before .before .before .before .before .before .args in
-    let o = c .before .before .before .before .before .before .before .before .before .before .loop2 in
-    let s = c .before .before .before .before .before .before .before .before .lowest .result in
-    let x = c .before .before .before .before .union .result in
-    let row = row-of (o .doubt) s in
-    let p = c .before .before .before .put .ensures in
-    let e = c .before .before .before .before .union .ensures ∙ ap (λ (n : ℕ). either (member n) (member (mask (a .more)))) (c .before .before .before .before .before .get .ensures) in
-    let room : s < height (o .doubt) = omega (arith, c .before .before .before .before .before .before .before .before .lowest .ensures .0, o .inv .0, c .before .before .before .before .before .before .before .before .before .before .before .before .before .loop .inv .1, c .before .before .before .before .before .before .before .before .before .before .before .before .before .before .before .pre) in
-    let grows = grown-set (o .doubt) s x room (λ t h. union-left row (mask (a .more)) (mask x) t e h) in (
-      ap length p ∙ length-put (o .doubt) s x ∙ o .inv .0,
-      subst (Grown (c .before .before .before .before .before .before .before .before .before .before .before .before .before .loop .doubt)) (sym p) (grown-more (o .inv .1) grows),
-      subst (λ (l : List ℕ). (u : ℕ) → member (mask (a .t1)) u ≡ true → member (rest (c .before .before .before .before .before .before .before .before .before .before .before .before .before .loop .w) (c .without-lowest .result) (a .t1)) u ≡ false → (t : ℕ) → member (mask (a .more)) t ≡ true → holds l u t ≡ true) (sym p)
-          (walk-next (member (mask (a .t1))) _ (rest (c .before .before .before .before .before .before .before .before .before .before .before .before .before .loop .w) (o .left) (a .t1)) (rest (c .before .before .before .before .before .before .before .before .before .before .before .before .before .loop .w) (c .without-lowest .result) (a .t1)) s (c .without-lowest .ensures .0 s (c .before .before .before .before .before .before .before .before .lowest .ensures .1))
-          (λ t h. set-here (o .doubt) s x t room (union-right row (mask (a .more)) (mask x) t e h))
-          (λ u m f t h. grows .still u t (o .inv .2 u m f t h))),
-    )
+    let u = c .before .before .before .before in
+    let l = u .before .before .before .before in
+    let i = l .before .before in
+    let o = i .before .before .before in
+    let a = o .before .before in
+    let s = l .lowest in
+    let old = u .before .before .get in
+    let room : HasMarks (i .loop2 .marks) = omega (arith, i .loop2 .inv .0 .same-length, o .loop .inv .1 .same-length, a .pre) in
+    more-next (i .loop2 .marks) (mask (a .args .more)) (old .result) (u .union .result) room (s .ensures .0) (old .ensures) (u .union .ensures)
+    (c .before .before .before .put .ensures) (a .args .t1) (rest (o .loop .w) (i .loop2 .left) (a .args .t1))
+    (rest (o .loop .w) (c .without-lowest .result) (a .args .t1)) (c .without-lowest .ensures .0 (s .result) (s .ensures .1)) (i .loop2 .inv)
 
 add-w : tie.Need-add-w Inv-loop2 μ-loop2 Inv-loop μ-loop
 add-w c = omega arith
@@ -82,15 +80,27 @@ loop-less : tie.Need-loop-less Inv-loop2 μ-loop2 Inv-loop μ-loop
 loop-less c = omega arith
 
 loop-again : tie.Need-loop-again Inv-loop2 μ-loop2 Inv-loop μ-loop
-loop-again c = let a = c .before .before .before .before .before .before .args in let u = c .before .loop2 .inv in let o = c .before .before .before .before .loop .inv in (omega arith, u .0 ∙ o .1, grown-more (o .2) (u .1), walk-on (a .t1) (λ (n : ℕ). (s : ℕ) → member (mask (a .t1)) s ≡ true → member n s ≡ false → (t : ℕ) → member (mask (a .more)) t ≡ true → holds (c .before .loop2 .doubt) s t ≡ true) (c .before .before .before .before .loop .w) (c .before .loop2 .left) (c .loop2-test .left) (u .2))
+loop-again c =
+    let i = c .before .loop2 in
+    let o = c .before .before .before .before in
+    let a = o .before .before .args in (
+      omega arith,
+      more-then (o .loop .inv .1) (i .inv .0),
+      passed-on (a .t1) (InDoubt (mask (a .more)) (i .marks)) (o .loop .w) (i .left) (c .loop2-test .left) (i .inv .1),
+    )
 
 same-length : tie.Need-same-length Inv-loop2 μ-loop2 Inv-loop μ-loop
-same-length c = c .before .loop .inv .1
+same-length c = c .before .loop .inv .1 .same-length
 
 returns : tie.Need-returns Inv-loop2 μ-loop2 Inv-loop μ-loop
 returns c =
     let a = c .before .before .before .args in
-    (c .before .loop .inv .2, λ s t x y. walk-end (member (mask (a .t1))) _ (after (c .before .loop .w) (a .t1)) (walk-done (a .t1) (c .before .loop .w) (omega arith)) (c .before .loop .inv .3) s x t y)
+    let o = c .before .loop in
+    record {
+      grown = o .inv .1 .grown;
+      added = λ s t x y. passed-all (a .t1) (InDoubt (mask (a .more)) (o .marks)) (o .w) (omega arith) (o .inv .2) s x t y;
+      same-lost = o .inv .1 .same-lost;
+    }
 
 pub add-doubts-spec : {M : Type 1} → statement M
 add-doubts-spec =
@@ -105,7 +115,9 @@ add-doubts-spec =
     element-copy-out-left
     loop2-holds
     lowest-requires
+    add-get
     get-requires
+    add-put
     union-requires
     put-requires
     without-lowest-requires

@@ -6,16 +6,18 @@ use Prim.Native.Nat.{ℕ, _-_, _≤_, _<_}
 use native.Mathlib.Omega.{arith}
 use borrow.Author.Needs.{needs}
 use lib.ListN.{length}
+use Rattle.form.specs.Tables.{form-at}
 use Rattle.links.specs.Links.{Links, Within}
 use Rattle.links.proofs.Growing.{each-next}
 use Rattle.links.proofs.link.Statement.{statement}
 use Rattle.links.proofs.link.Tie as tie
 
 abbrev Inv-loop : tie.InvT-loop
-Inv-loop f before₀ n s₀ before s = (s ≤ n) × (length before ≡ length before₀) × ((r : ℕ) → r < s → Links f r before) × Within n before
+Inv-loop tables which before₀ n s₀ before s =
+    (s ≤ n) × (length before ≡ length before₀) × ((r : ℕ) → r < s → Links (form-at tables which) r before) × Within n before
 
 abbrev μ-loop : tie.MeasureT-loop
-μ-loop f before₀ n s₀ before s = n - s
+μ-loop tables which before₀ n s₀ before s = n - s
 
 states-requires : tie.Need-states-requires Inv-loop μ-loop
 states-requires c κs = search needs
@@ -27,22 +29,22 @@ link-state-requires : tie.Need-link-state-requires Inv-loop μ-loop
 link-state-requires c κs =
     let l = c .before .before in
     let d = l .before .before .before .before in
-    (d .pre .0, omega (arith, c .before .loop-test .taken, l .before .states .ensures), omega (arith, l .loop .inv .1, d .pre .1))
+    (d .pre .0, omega (arith, l .before .states .ensures), omega arith)
 
 add-s : tie.Need-add-s Inv-loop μ-loop
-add-s c = omega (arith, c .before .before .before .before .loop-test .taken)
+add-s c = omega arith
 
 loop-less : tie.Need-loop-less Inv-loop μ-loop
-loop-less c = omega (arith, c .before .before .before .before .loop-test .taken)
+loop-less c = omega arith
 
 loop-again : tie.Need-loop-again Inv-loop μ-loop
 loop-again c =
-    let l = c .before .before .before .before .before in
+    let l = c .before .before .before .before .before .loop in
     let e = c .before .before .link-state .ensures in (
-      omega (arith, c .before .before .before .before .loop-test .taken),
-      c .before .before2 .given ∙ l .loop .inv .1,
-      each-next _ (l .loop .s) (λ r b j i u v w. e .0 .grown .still _ _ (l .loop .inv .2 r b j i u v w)) (e .1),
-      e .0 .within _ (omega (arith, c .before .before .before .before .loop-test .taken)) (l .loop .inv .3),
+      omega arith,
+      c .before .before2 .given ∙ l .inv .1,
+      each-next _ (l .s) (λ r b j i u v w. e .0 .grown .still _ _ (l .inv .2 r b j i u v w)) (e .1),
+      e .0 .within _ (omega arith) (l .inv .3),
     )
 
 same-length : tie.Need-same-length Inv-loop μ-loop
@@ -51,8 +53,12 @@ same-length c = c .before .loop .inv .1
 returns : tie.Need-returns Inv-loop μ-loop
 returns c =
     let l = c .before in
-    let d = l .before .before .before .before in
-    record { room = omega (arith, l .loop .inv .1, d .pre .1); links = λ s a. l .loop .inv .2 s (omega (arith, l .before .states .ensures, c .loop-test .left)); states = subst (λ (n : ℕ). Within n (l .loop .before)) (l .before .states .ensures) (l .loop .inv .3) }
+    let n = l .before .states .ensures in
+    record {
+      room = omega arith;
+      links = λ s a. l .loop .inv .2 s (omega arith);
+      states = subst (λ (n : ℕ). Within n (l .loop .before)) n (l .loop .inv .3);
+    }
 
 pub link-spec : {M : Type 1} → statement M
 link-spec =

@@ -1,58 +1,74 @@
 -- `links::link_state` meets its contract. The loop's invariant: the targets of the transitions passed are linked.
 -- Assumes nothing.
 use mathlib.Core.Path.{_≡_, refl, sym, _∙_, subst}
-use mathlib.Core.Bool.{true}
+use mathlib.Core.List.{List}
 use Prim.Native.Nat.{ℕ, _+_, _-_, _≤_, _<_}
 use native.Mathlib.Omega.{arith}
 use borrow.Author.Needs.{needs}
-use lib.ListN.{length, getD}
-use Rattle.simulation.specs.Table.{targets}
-use Rattle.form.specs.Form.{transitions-of, transition-at}
+use denote.Ref.{now}
+use lib.ListN.{length}
+use Rattle.form.specs.Form.{transitions-of}
+use Rattle.form.specs.Tables.{form-at}
 use Rattle.form.proofs.FormLaws.{limits, counts, start-bound}
-use Rattle.relation.specs.Related.{holds}
-use Rattle.matching.specs.Held.{Places}
 use Rattle.relation.specs.Words.{height}
+use Rattle.fit.specs.Held.{Places}
+use Rattle.fit.proofs.Fitting.{places-of}
 use Rattle.links.specs.Links.{Joins}
-use Rattle.matching.proofs.Fitting.{places-of}
-use Rattle.links.proofs.Growing.{joins-none, joins-more, links-next}
+use Rattle.links.proofs.Growing.{LinksTo, links-next, joins-none, joins-more}
 use Rattle.links.proofs.link_state.Statement.{statement}
 use Rattle.links.proofs.link_state.Tie as tie
 
 abbrev Inv-loop : tie.InvT-loop
-Inv-loop f s before₀ end j₀ before j =
-    (j₀ ≤ j) × (j ≤ end) × (length before ≡ length before₀) × Joins s before₀ before
-    × ((k i : ℕ) → j₀ ≤ k → k < j → i < length (targets (transition-at f k)) → holds before (getD (targets (transition-at f k)) i 0) s ≡ true)
+Inv-loop tables which s before₀ end j₀ before j =
+    (j₀ ≤ j) × (j ≤ end) × (length before ≡ length before₀) × Joins s before₀ before × LinksTo (form-at tables which) s j₀ j before
 
 abbrev μ-loop : tie.MeasureT-loop
-μ-loop f s before₀ end j₀ before j = end - j
+μ-loop tables which s before₀ end j₀ before j = end - j
 
-add-first : tie.Need-add-first Inv-loop μ-loop
-add-first c = let d = c .before .before in omega (arith, d .pre .1, limits (d .args .f .now) (d .pre .0) .states-few)
+-- the form of the table
+abbrev form-of : tie.Start Inv-loop μ-loop → List ℕ
+form-of d = form-at (now (d .args .tables)) (d .args .which)
 
-first-requires : tie.Need-first-requires Inv-loop μ-loop
-first-requires c κs = search needs
+-- the transition is one of the table
+step-bound : (c : tie.In-loop Inv-loop μ-loop) → c .before .loop .j < transitions-of (form-of (c .before .before .before .before .before .before))
+step-bound c =
+    let d = c .before .before .before .before .before .before in
+    omega (
+      arith,
+      c .before .before .before .start-of .ensures,
+      start-bound (form-of d) (d .pre .0) (d .args .s + 1) (omega (arith, d .pre .1)),
+    )
 
-first-requires-2 : tie.Need-first-requires-2 Inv-loop μ-loop
-first-requires-2 c κs = search needs
+add-start-of : tie.Need-add-start-of Inv-loop μ-loop
+add-start-of c = let d = c .before .before in omega (arith, limits (form-of d) (d .pre .0) .states-few)
+
+start-of-requires : tie.Need-start-of-requires Inv-loop μ-loop
+start-of-requires c κs = search needs
+
+start-of-requires-2 : tie.Need-start-of-requires-2 Inv-loop μ-loop
+start-of-requires-2 c κs = search needs
 
 loop-holds : tie.Need-loop-holds Inv-loop μ-loop
 loop-holds c =
     let d = c .before .before .before .before in
-    (omega arith, omega (arith, c .before .first .ensures, c .first2 .ensures, counts (d .args .f .now) (d .pre .0) (d .args .s) (d .pre .1)), refl, joins-none, λ k i a b. absurd (omega arith))
+    let f = form-of d in (
+      omega arith,
+      omega (arith, c .before .start-of .ensures, c .start-of2 .ensures, counts f (d .pre .0) (d .args .s) (d .pre .1)),
+      refl,
+      joins-none,
+      λ k i a b. absurd (omega arith),
+    )
 
 targets-requires : tie.Need-targets-requires Inv-loop μ-loop
-targets-requires c κs =
-    let l = c .before in
-    let d = l .before .before .before .before .before in
-    (d .pre .0, omega (arith, l .before .before .first .ensures, start-bound (d .args .f .now) (d .pre .0) (d .args .s + 1) (omega (arith, d .pre .1))))
+targets-requires c κs = (c .before .before .before .before .before .before .pre .0, step-bound c)
 
 link-targets-requires : tie.Need-link-targets-requires Inv-loop μ-loop
 link-targets-requires c κs =
     let l = c .before .before .before in
     let d = l .before .before .before .before .before in
-    let f = d .args .f .now in
-    let b : l .loop .j < transitions-of f = omega (arith, c .before .before .loop-test .taken, l .before .before .first .ensures, start-bound f (d .pre .0) (d .args .s + 1) (omega (arith, d .pre .1))) in (
-      subst (Places (height (l .loop .before))) (sym (c .before .targets .ensures)) (places-of (height (l .loop .before)) f (d .pre .0) (l .loop .j) b (omega (arith, l .loop .inv .2, d .pre .2))),
+    let f = form-of d in
+    let rows = height (l .loop .before) in (
+      subst (Places rows) (sym (c .before .targets .ensures)) (places-of rows f (d .pre .0) (l .loop .j) (step-bound (c .before .before)) (omega arith)),
       omega (arith, d .pre .1, limits f (d .pre .0) .states-few),
     )
 
@@ -72,7 +88,7 @@ loop-again c =
       omega arith,
       c .before .before2 .given ∙ l .loop .inv .2,
       joins-more (l .loop .inv .3) (e .0),
-      links-next (d .args .f .now) (d .args .s) _ (l .loop .j) (e .0 .grown) (t .targets .ensures) (e .1) (l .loop .inv .4),
+      links-next (form-of d) (d .args .s) _ (l .loop .j) (e .0 .grown) (t .targets .ensures) (e .1) (l .loop .inv .4),
     )
 
 same-length : tie.Need-same-length Inv-loop μ-loop
@@ -81,7 +97,7 @@ same-length c = c .before .loop .inv .2
 returns : tie.Need-returns Inv-loop μ-loop
 returns c =
     let l = c .before in
-    (l .loop .inv .3, λ j i a b d. l .loop .inv .4 j i (omega (arith, l .before .first2 .ensures)) (omega (arith, l .before .before .first .ensures)) d)
+    (l .loop .inv .3, λ j i a b d. l .loop .inv .4 j i (omega (arith, l .before .start-of2 .ensures)) (omega (arith, l .before .before .start-of .ensures)) d)
 
 pub link-state-spec : {M : Type 1} → statement M
 link-state-spec =
@@ -89,9 +105,9 @@ link-state-spec =
     (tie.spec
     Inv-loop
     μ-loop
-    add-first
-    first-requires
-    first-requires-2
+    add-start-of
+    start-of-requires
+    start-of-requires-2
     loop-holds
     targets-requires
     link-targets-requires

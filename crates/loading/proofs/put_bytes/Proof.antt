@@ -5,13 +5,13 @@ use Prim.Native.Nat.{_+_, _*_, _-_, _≤_, _<_}
 use lib.ListN.{length}
 use native.Mathlib.Omega.{arith}
 use denote.Ref.{now}
-use Rattle.loading.specs.Fill.{Filled, run}
+use Rattle.loading.specs.Fill.{FormFilled, run}
 use Rattle.loading.proofs.FillLaws.{filled-none, filled-more}
 use Rattle.loading.proofs.put_bytes.Statement.{statement}
 use Rattle.loading.proofs.put_bytes.Tie as tie
 
 abbrev Inv-loop : tie.InvT-loop
-Inv-loop form₀ to s from step n i₀ form i = (i ≤ n) × Filled form₀ to i (run s from step) form
+Inv-loop form₀ to s from step n i₀ form i = (i ≤ n) × FormFilled form₀ to i (run s from step) form
 
 abbrev μ-loop : tie.MeasureT-loop
 μ-loop form₀ to s from step n i₀ form i = n - i

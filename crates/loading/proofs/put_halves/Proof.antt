@@ -6,13 +6,13 @@ use lib.ListN.{length}
 use native.Mathlib.Omega.{arith}
 use denote.Ref.{now}
 use Rattle.layout.specs.Bytes.{half}
-use Rattle.loading.specs.Fill.{Filled}
+use Rattle.loading.specs.Fill.{FormFilled}
 use Rattle.loading.proofs.FillLaws.{filled-none, filled-more}
 use Rattle.loading.proofs.put_halves.Statement.{statement}
 use Rattle.loading.proofs.put_halves.Tie as tie
 
 abbrev Inv-loop : tie.InvT-loop
-Inv-loop form₀ to s from step n i₀ form i = (i ≤ n) × Filled form₀ to i (λ k. half s (from + step * k)) form
+Inv-loop form₀ to s from step n i₀ form i = (i ≤ n) × FormFilled form₀ to i (λ k. half s (from + step * k)) form
 
 abbrev μ-loop : tie.MeasureT-loop
 μ-loop form₀ to s from step n i₀ form i = n - i

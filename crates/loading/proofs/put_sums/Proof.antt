@@ -6,7 +6,7 @@ use lib.ListN.{length, length-set}
 use native.Mathlib.Omega.{arith}
 use denote.Ref.{now}
 use Rattle.simulation.specs.Sum.{sum}
-use Rattle.loading.specs.Fill.{Filled, run}
+use Rattle.loading.specs.Fill.{FormFilled, run}
 use Rattle.simulation.proofs.Finite.Sums.{sum-none, sum-more}
 use Rattle.loading.proofs.FillLaws.{filled-none, filled-more}
 use Rattle.loading.proofs.put_sums.Statement.{statement}
@@ -14,7 +14,7 @@ use Rattle.loading.proofs.put_sums.Tie as tie
 
 abbrev Inv-loop : tie.InvT-loop
 Inv-loop form₀ to s from step n sum₀ i₀ form total i =
-    (i ≤ n) × (total ≡ sum i (run s from step)) × (total ≤ 255 * i) × Filled form₀ to i (λ k. sum k (run s from step)) form
+    (i ≤ n) × (total ≡ sum i (run s from step)) × (total ≤ 255 * i) × FormFilled form₀ to i (λ k. sum k (run s from step)) form
 
 abbrev μ-loop : tie.MeasureT-loop
 μ-loop form₀ to s from step n sum₀ i₀ form total i = n - i

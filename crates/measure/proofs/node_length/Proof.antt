@@ -8,21 +8,28 @@ use Rattle.measure.proofs.node_length.Statement.{statement}
 use Rattle.measure.proofs.node_length.Tie as tie
 
 abbrev Inv-loop2 : tie.InvT-loop2
-Inv-loop2 second lengths s members len₀ w left₀ len left = SumLoop second lengths s (mask members) len (rest w left members)
+Inv-loop2 tables lengths s members len₀ w left₀ len left = SumLoop tables lengths s (mask members) len (rest w left members)
 
 abbrev μ-loop2 : tie.MeasureT-loop2
-μ-loop2 second lengths s members len₀ w left₀ len left = left
+μ-loop2 tables lengths s members len₀ w left₀ len left = left
 
 abbrev Inv-loop : tie.InvT-loop
-Inv-loop second lengths s members len₀ w₀ len w = (w ≤ words) × SumLoop second lengths s (mask members) len (after w members)
+Inv-loop tables lengths s members len₀ w₀ len w = (w ≤ words) × SumLoop tables lengths s (mask members) len (after w members)
 
 abbrev μ-loop : tie.MeasureT-loop
-μ-loop second lengths s members len₀ w₀ len w = words - w
+μ-loop tables lengths s members len₀ w₀ len w = words - w
+
+-- places of the code from later ones
+abbrev entry : tie.At-loop Inv-loop2 μ-loop2 Inv-loop μ-loop → tie.Start Inv-loop2 μ-loop2 Inv-loop μ-loop
+entry o = o .before .before .before
+
+abbrev outer : tie.At-loop2 Inv-loop2 μ-loop2 Inv-loop μ-loop → tie.At-loop Inv-loop2 μ-loop2 Inv-loop μ-loop
+outer l = l .before .before .before
 
 loop-holds : tie.Need-loop-holds Inv-loop2 μ-loop2 Inv-loop μ-loop
 loop-holds c =
     let a = c .before .before .args in
-    (omega arith, walk-begin (a .t4) (λ (n : ℕ). SumLoop (a .second .now) (a .lengths .now) (a .s) (mask (a .t4)) 1 n) (sum-start (a .second .now) (a .lengths .now) (a .s) (mask (a .t4))))
+    (omega arith, walk-begin (a .t4) (λ (n : ℕ). SumLoop (a .tables .now) (a .lengths .now) (a .s) (mask (a .t4)) 1 n) (sum-start (a .tables .now) (a .lengths .now) (a .s) (mask (a .t4))))
 
 mul-left : tie.Need-mul-left Inv-loop2 μ-loop2 Inv-loop μ-loop
 mul-left c = omega arith
@@ -32,27 +39,29 @@ element-copy-out-left c = omega arith
 
 loop2-holds : tie.Need-loop2-holds Inv-loop2 μ-loop2 Inv-loop μ-loop
 loop2-holds c =
-    let a = c .before .before .before .before .before .args in
+    let a = entry (c .before .before) .args in
     let o = c .before .before .loop in
-    walk-into (a .t4) (λ (n : ℕ). SumLoop (a .second .now) (a .lengths .now) (a .s) (mask (a .t4)) (o .len) n) (o .w) (o .inv .1)
+    walk-into (a .t4) (λ (n : ℕ). SumLoop (a .tables .now) (a .lengths .now) (a .s) (mask (a .t4)) (o .len) n) (o .w) (o .inv .1)
 
 lowest-requires : tie.Need-lowest-requires Inv-loop2 μ-loop2 Inv-loop μ-loop
 lowest-requires c κs = (omega arith, omega arith)
 
 pair-length-requires : tie.Need-pair-length-requires Inv-loop2 μ-loop2 Inv-loop μ-loop
 pair-length-requires c κs =
-    let g = c .before .before .before .before .before .before .before .before .pre in
+    let l = c .before .before in
+    let g = entry (outer l) .pre in
     let low = c .lowest .ensures in
-    let inside = sum-inside g (c .before .before .loop2 .inv) (low .1) in
+    let inside = sum-inside g (l .loop2 .inv) (low .1) in
     (g .loaded, g .low, low .0, omega (arith, inside, g .room))
 
 add-len : tie.Need-add-len Inv-loop2 μ-loop2 Inv-loop μ-loop
 add-len c =
-    let g = c .before .before .before .before .before .before .before .before .before .pre in
-    record { fits = omega (arith, sum-fits g (c .before .before .before .loop2 .inv) (c .before .lowest .ensures .1) _ (c .pair-length .ensures), g .small) }
+    let l = c .before .before .before in
+    let g = entry (outer l) .pre in
+    record { fits = omega (arith, sum-fits g (l .loop2 .inv) (c .before .lowest .ensures .1) _ (c .pair-length .ensures), g .small) }
 
 without-lowest-requires : tie.Need-without-lowest-requires Inv-loop2 μ-loop2 Inv-loop μ-loop
-without-lowest-requires c κs = (omega (arith, c .before .before .before .before .before .loop-test .taken), omega (arith, c .before .before .loop2-test .taken))
+without-lowest-requires c κs = (omega arith, omega arith)
 
 loop2-less : tie.Need-loop2-less Inv-loop2 μ-loop2 Inv-loop μ-loop
 loop2-less c = c .without-lowest .ensures .1
@@ -60,7 +69,8 @@ loop2-less c = c .without-lowest .ensures .1
 loop2-again : tie.Need-loop2-again Inv-loop2 μ-loop2 Inv-loop μ-loop
 loop2-again c =
     let low = c .before .before .lowest .ensures .1 in
-    sum-next (c .before .before .before .before .before .before .before .before .before .before .pre) (c .before .before .before .before .loop2 .inv) low _ (c .before .pair-length .ensures) (c .without-lowest .ensures .0 _ low)
+    let l = c .before .before .before .before in
+    sum-next (entry (outer l) .pre) (l .loop2 .inv) low _ (c .before .pair-length .ensures) (c .without-lowest .ensures .0 _ low)
 
 add-w : tie.Need-add-w Inv-loop2 μ-loop2 Inv-loop μ-loop
 add-w c = omega arith
@@ -70,12 +80,13 @@ loop-less c = omega arith
 
 loop-again : tie.Need-loop-again Inv-loop2 μ-loop2 Inv-loop μ-loop
 loop-again c =
-    let a = c .before .before .before .before .before .before .before .args in
     let u = c .before .loop2 in
-    (omega arith, walk-on (a .t4) (λ (n : ℕ). SumLoop (a .second .now) (a .lengths .now) (a .s) (mask (a .t4)) (u .len) n) (c .before .before .before .before .loop .w) (u .left) (c .loop2-test .left) (u .inv))
+    let o = outer (c .before) in
+    let a = entry o .args in
+    (omega arith, walk-on (a .t4) (λ (n : ℕ). SumLoop (a .tables .now) (a .lengths .now) (a .s) (mask (a .t4)) (u .len) n) (o .loop .w) (u .left) (c .loop2-test .left) (u .inv))
 
 returns : tie.Need-returns Inv-loop2 μ-loop2 Inv-loop μ-loop
-returns c = sum-end (c .before .loop .inv .1) (walk-done (c .before .before .before .before .args .t4) (c .before .loop .w) (omega arith))
+returns c = sum-end (c .before .loop .inv .1) (walk-done (entry (c .before) .args .t4) (c .before .loop .w) (omega arith))
 
 pub node-length-spec : {M : Type 1} → statement M
 node-length-spec =

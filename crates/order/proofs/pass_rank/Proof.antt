@@ -1,9 +1,10 @@
--- `list::pass_rank` meets its contract. Assumes nothing.
+-- `order::pass_rank` meets its contract. Assumes nothing.
+use mathlib.Core.Path.{_≡_, refl, _∙_}
 use Prim.Native.Nat.{_≤_, _-_}
 use native.Mathlib.Omega.{arith}
 use Rattle.relation.specs.Words.{words, mask, after, rest}
 use Rattle.relation.proofs.Sets.{walk-done}
-use Rattle.passing.specs.Passing.{Noted}
+use Rattle.passing.specs.Passing.{todo-in, Noted}
 use Rattle.counting.proofs.Counting.{Counted, counted-start, counted-next}
 use Rattle.passing.proofs.Walks.{Held, held, held-next, held-on, still-given}
 use Rattle.order.proofs.Walks.{RankWalk, rank-start, rank-into, rank-on, rank-next, rank-end}
@@ -11,124 +12,105 @@ use Rattle.order.proofs.pass_rank.Statement.{statement}
 use Rattle.order.proofs.pass_rank.Tie as tie
 
 abbrev Inv-loop2 : tie.InvT-loop2
-Inv-loop2 first second ranks r order₀ choices₀ counts₀ todo₀ sets₀ rel₀ x₀ q₀ ahead w left₀ order choices counts todo sets rel x q left =
-    RankWalk first second r order₀ (q₀ .count) todo₀ order (q .count) todo (mask (q .rows)) (rest w left ahead)
-    × Held order₀ choices₀ todo₀ sets₀ rel₀ x₀ order choices todo sets rel x × Noted first second order (q .count) choices × Counted first second counts₀ (q₀ .bytes) counts (q .bytes)
+Inv-loop2 tables ranks order₀ choices₀ counts₀ room₀ amounts₀ v₀ ahead k left₀ order choices counts room amounts v left =
+    RankWalk tables (v₀ .rank) order₀ (v₀ .count) (todo-in room₀) order (v .count) (todo-in room) (mask (v .rows)) (rest k left ahead)
+    × Held order₀ choices₀ room₀ amounts₀ order choices room amounts × Noted tables order (v .count) choices
+    × Counted tables counts₀ (v₀ .bytes) counts (v .bytes) × (v .rank ≡ v₀ .rank)
 
 abbrev μ-loop2 : tie.MeasureT-loop2
-μ-loop2 first second ranks r order₀ choices₀ counts₀ todo₀ sets₀ rel₀ x₀ q₀ ahead w left₀ order choices counts todo sets rel x q left =
+μ-loop2 tables ranks order₀ choices₀ counts₀ room₀ amounts₀ v₀ ahead k left₀ order choices counts room amounts v left =
     left
 
 abbrev Inv-loop : tie.InvT-loop
-Inv-loop first second ranks r order₀ choices₀ counts₀ todo₀ sets₀ rel₀ x₀ q₀ ahead w₀ order choices counts todo sets rel x q w =
-    (w ≤ words)
-    × RankWalk first second r order₀ (q₀ .count) todo₀ order (q .count) todo (mask (q .rows)) (after w ahead)
-    × Held order₀ choices₀ todo₀ sets₀ rel₀ x₀ order choices todo sets rel x × Noted first second order (q .count) choices × Counted first second counts₀ (q₀ .bytes) counts (q .bytes)
+Inv-loop tables ranks order₀ choices₀ counts₀ room₀ amounts₀ v₀ ahead k₀ order choices counts room amounts v k =
+    (k ≤ words)
+    × RankWalk tables (v₀ .rank) order₀ (v₀ .count) (todo-in room₀) order (v .count) (todo-in room) (mask (v .rows)) (after k ahead)
+    × Held order₀ choices₀ room₀ amounts₀ order choices room amounts × Noted tables order (v .count) choices
+    × Counted tables counts₀ (v₀ .bytes) counts (v .bytes) × (v .rank ≡ v₀ .rank)
 
 abbrev μ-loop : tie.MeasureT-loop
-μ-loop first second ranks r order₀ choices₀ counts₀ todo₀ sets₀ rel₀ x₀ q₀ ahead w₀ order choices counts todo sets rel x q w =
-    words - w
+μ-loop tables ranks order₀ choices₀ counts₀ room₀ amounts₀ v₀ ahead k₀ order choices counts room amounts v k =
+    words - k
 
 loop-holds : tie.Need-loop-holds Inv-loop2 μ-loop2 Inv-loop μ-loop
 loop-holds c =
-    let entry = c .before .before .before .before .before .before .before .before .before .before .before in
-    (omega arith, rank-start _ (entry .pre .1), held, entry .pre .2, counted-start (entry .pre .3))
-
-mul-left : tie.Need-mul-left Inv-loop2 μ-loop2 Inv-loop μ-loop
-mul-left c = omega arith
-
-element-copy-out-left : tie.Need-element-copy-out-left Inv-loop2 μ-loop2 Inv-loop μ-loop
-element-copy-out-left c = omega arith
+    let p = c .before .before .before .before .before .before .before .before .pre in
+    (omega arith, rank-start _ (p .1), held, p .2, counted-start (p .3), refl)
 
 loop2-holds : tie.Need-loop2-holds Inv-loop2 μ-loop2 Inv-loop μ-loop
 loop2-holds c =
-    let entry = c .before .before .before .before .before .before .before .before .before .before .before .before .before .before in
-    let o = c .before .before .loop in
-    (rank-into (entry .args .p .rows) (o .w) (o .inv .1), held, o .inv .3, counted-start (o .inv .4 .tallied .tally))
+    let at-loop = c .before .before in
+    let entry = at-loop .before .before .before .before .before .before .before .before .before in
+    let o = at-loop .loop .inv in
+    (rank-into (o .5) (entry .args .w .rows) (at-loop .loop .k) (o .1), held, o .3, counted-start (o .4 .tallied .tally), refl)
 
-lowest-requires : tie.Need-lowest-requires Inv-loop2 μ-loop2 Inv-loop μ-loop
-lowest-requires c κs = (omega arith, omega arith)
+at-row-requires : tie.Need-at-row-requires Inv-loop2 μ-loop2 Inv-loop μ-loop
+at-row-requires c κs = c .before .before .before .before .before .lowest .ensures .0
 
 pass-row-requires : tie.Need-pass-row-requires Inv-loop2 μ-loop2 Inv-loop μ-loop
 pass-row-requires c κs =
-    let at-lowest = c .before .before .before .before .before .before .before in
+    let at-lowest = c .before .before .before .before .before .before in
     let at-loop2 = at-lowest .before .before in
     let at-loop = at-loop2 .before .before .before in
-    let entry = at-loop .before .before .before .before .before .before .before .before .before .before .before .before in
-    let p = entry .pre in
-    let o = at-loop .loop .inv in
+    let entry = at-loop .before .before .before .before .before .before .before .before .before in
     let v = at-loop2 .loop2 .inv in
-    (still-given (v .1) (still-given (o .2) (p .0)), v .0 .passed .passing, v .2, v .3 .tallied .tally, at-lowest .lowest .ensures .0)
+    let e = c .at-row .ensures in
+    rw (e .1 ∙ v .4, e .2, e .3, e .4) (
+      still-given (v .1) (still-given (at-loop .loop .inv .2) (entry .pre .0)),
+      v .0 .passed .passing,
+      v .2,
+      v .3 .tallied .tally,
+      omega (arith, e .0, at-lowest .lowest .ensures .0),
+    )
 
 without-lowest-requires : tie.Need-without-lowest-requires Inv-loop2 μ-loop2 Inv-loop μ-loop
 without-lowest-requires c κs =
-    let at-loop2-test = c .before .before .before .before .before .before .before .before .before .before .before .before .before .before .before .before .before .before .before .before .before .before .before in
-    let at-loop-test = at-loop2-test .before .before .before in
-    (omega (arith, at-loop-test .loop-test .taken), omega (arith, at-loop2-test .loop2-test .taken))
+    let at-lowest = c .before .before .before .before .before .before .before .before .before .before .before .before .before .before .before .before .before in
+    (omega (arith, at-lowest .before .before .before .before .loop-test .taken), omega (arith, at-lowest .before .loop2-test .taken))
 
 loop2-less : tie.Need-loop2-less Inv-loop2 μ-loop2 Inv-loop μ-loop
 loop2-less c = c .without-lowest .ensures .1
 
 loop2-again : tie.Need-loop2-again Inv-loop2 μ-loop2 Inv-loop μ-loop
 loop2-again c =
-    let at-rel = c .before .before .before .before in
-    let at-sets = at-rel .before .before in
-    let at-todo = at-sets .before .before in
-    let at-counts = at-todo .before .before in
+    let at-amounts = c .before .before in
+    let at-room = at-amounts .before .before in
+    let at-counts = at-room .before .before in
     let at-choices = at-counts .before .before in
     let at-order = at-choices .before .before in
     let at-pass-row = at-order .before in
-    let at-lowest = at-pass-row .before .before .before .before .before .before .before .before in
-    let at-loop2 = at-lowest .before .before in
-    let v = at-loop2 .loop2 .inv in
+    let at-lowest = at-pass-row .before .before .before .before .before .before .before in
+    let v = at-lowest .before .before .loop2 .inv in
+    let e = at-pass-row .before .at-row .ensures in
     let one = at-pass-row .pass-row .ensures in (
-      rank-next (v .0) _ (one .0) (c .without-lowest .ensures .0 _ (at-lowest .lowest .ensures .1)),
-      held-next (v .1) (at-order .order .given) (at-choices .choices .given) (at-todo .todo .given) (at-sets .sets .given) (at-rel .rel .given) (c .before .before .x .given),
+      rank-next (v .0) _ (rw (e .0, e .1 ∙ v .4, e .3) at (one .0)) (c .without-lowest .ensures .0 _ (at-lowest .lowest .ensures .1)),
+      held-next (v .1) (at-order .order .given) (at-choices .choices .given) (at-room .room .given) (at-amounts .amounts .given),
       one .1,
-      counted-next (v .3) (at-counts .counts .given) (one .2),
+      counted-next (v .3) (at-counts .counts .given) (rw (e .2) at (one .2)),
+      one .3 ∙ e .1 ∙ v .4,
     )
-
-add-w : tie.Need-add-w Inv-loop2 μ-loop2 Inv-loop μ-loop
-add-w c = omega arith
-
-loop-less : tie.Need-loop-less Inv-loop2 μ-loop2 Inv-loop μ-loop
-loop-less c = omega arith
 
 loop-again : tie.Need-loop-again Inv-loop2 μ-loop2 Inv-loop μ-loop
 loop-again c =
     let at-loop = c .before .before .before .before in
-    let entry = at-loop .before .before .before .before .before .before .before .before .before .before .before .before in
-    let o = at-loop .loop in
+    let entry = at-loop .before .before .before .before .before .before .before .before .before in
+    let o = at-loop .loop .inv in
     let u = c .before .loop2 in
-    let v = u .inv in
-    (omega arith, rank-on (entry .args .p .rows) (o .w) (o .inv .1) (u .left) (c .loop2-test .left) (v .0), held-on (o .inv .2) (v .1), v .2, counted-next (o .inv .4) (v .3 .same-counts) (v .3 .tallied))
-
-same-length : tie.Need-same-length Inv-loop2 μ-loop2 Inv-loop μ-loop
-same-length c = c .before .loop .inv .2 .same-order
-
-same-length-2 : tie.Need-same-length-2 Inv-loop2 μ-loop2 Inv-loop μ-loop
-same-length-2 c = c .before .loop .inv .2 .same-choices
-
-same-length-3 : tie.Need-same-length-3 Inv-loop2 μ-loop2 Inv-loop μ-loop
-same-length-3 c = c .before .loop .inv .4 .same-counts
-
-same-length-4 : tie.Need-same-length-4 Inv-loop2 μ-loop2 Inv-loop μ-loop
-same-length-4 c = c .before .loop .inv .2 .same-todo
-
-same-length-5 : tie.Need-same-length-5 Inv-loop2 μ-loop2 Inv-loop μ-loop
-same-length-5 c = c .before .loop .inv .2 .same-sets
-
-same-length-6 : tie.Need-same-length-6 Inv-loop2 μ-loop2 Inv-loop μ-loop
-same-length-6 c = c .before .loop .inv .2 .same-rel
-
-same-length-7 : tie.Need-same-length-7 Inv-loop2 μ-loop2 Inv-loop μ-loop
-same-length-7 c = c .before .loop .inv .2 .same-x
+    let v = u .inv in (
+      omega arith,
+      rank-on (o .5) (entry .args .w .rows) (at-loop .loop .k) (o .1) (u .left) (c .loop2-test .left) (v .0),
+      held-on (o .2) (v .1),
+      v .2,
+      counted-next (o .4) (v .3 .same-counts) (v .3 .tallied),
+      v .4 ∙ o .5,
+    )
 
 returns : tie.Need-returns Inv-loop2 μ-loop2 Inv-loop μ-loop
 returns c =
-    let entry = c .before .before .before .before .before .before .before .before .before .before .before .before .before in
-    let v = c .before .loop .inv in
-    (rank-end (v .1) (walk-done (entry .args .p .rows) (c .before .loop .w) (omega arith)), v .3, v .4 .tallied)
+    let entry = c .before .before .before .before .before .before .before .before .before .before in
+    let u = c .before .loop in
+    let v = u .inv in
+    (rank-end (v .1) (walk-done (entry .args .w .rows) (u .k) (omega arith)), v .3, v .4 .tallied, v .5)
 
 pub pass-rank-spec : {M : Type 1} → statement M
 pass-rank-spec =
@@ -139,22 +121,21 @@ pass-rank-spec =
     Inv-loop
     μ-loop
     loop-holds
-    mul-left
-    element-copy-out-left
+    (λ c. omega arith)
+    (λ c. omega arith)
     loop2-holds
-    lowest-requires
+    (λ c κs. (omega arith, omega arith))
+    at-row-requires
     pass-row-requires
     without-lowest-requires
     loop2-less
     loop2-again
-    add-w
-    loop-less
+    (λ c. omega arith)
+    (λ c. omega arith)
     loop-again
-    same-length
-    same-length-2
-    same-length-3
-    same-length-4
-    same-length-5
-    same-length-6
-    same-length-7
+    (λ c. omega arith)
+    (λ c. omega arith)
+    (λ c. omega arith)
+    (λ c. omega arith)
+    (λ c. omega arith)
     returns)

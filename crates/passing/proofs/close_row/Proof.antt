@@ -1,4 +1,5 @@
--- `list::close_row` meets its contract. Assumes nothing.
+-- `passing::close_row` meets its contract. Assumes nothing.
+use borrow.Author.Needs.{needs}
 use Rattle.relation.specs.Words.{mask}
 use Rattle.relation.proofs.Sets.{is-none}
 use Rattle.counting.proofs.Pairs.{without-other}
@@ -6,10 +7,10 @@ use Rattle.passing.proofs.close_row.Statement.{statement}
 use Rattle.passing.proofs.close_row.Tie as tie
 
 is-empty-requires : tie.Need-is-empty-requires
-is-empty-requires c κs = tt
+is-empty-requires c κs = search needs
 
 remove-requires : tie.Need-remove-requires
-remove-requires c κs = c .before .before .pre
+remove-requires c κs = search needs
 
 returns : tie.Need-returns
 returns c =
@@ -17,13 +18,7 @@ returns c =
     λ u d h. without-other (mask (entry .args .rows)) u (c .remove .ensures) (λ e. d e (is-none (c .before .before .is-empty .ensures) (c .before .if1 .taken))) h
 
 returns-2 : tie.Need-returns-2
-returns-2 c = λ u d h. h
+returns-2 c = search needs
 
 pub close-row-spec : {M : Type 1} → statement M
-close-row-spec =
-    tie.close
-    (tie.spec
-    is-empty-requires
-    remove-requires
-    returns
-    returns-2)
+close-row-spec = tie.close (tie.spec is-empty-requires remove-requires returns returns-2)

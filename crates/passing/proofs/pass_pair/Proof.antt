@@ -1,195 +1,172 @@
--- `list::pass_pair` meets its contract. Assumes nothing.
+-- `passing::pass_pair` meets its contract. Assumes nothing.
 use mathlib.Core.Path.{refl, sym, _∙_}
+use borrow.Author.Needs.{needs}
 use native.Mathlib.Omega.{arith}
+use Rattle.relation.specs.Words.{mask}
+use Rattle.form.specs.Tables.{first-form}
 use Rattle.form.proofs.FormLaws.{limits}
-use Rattle.counting.proofs.Pairs.{rank-asked}
-use Rattle.counting.proofs.Targets.{step-number}
-use Rattle.passing.proofs.Passing.{pair-lost, pair-low, pair-rank, pair-row, pair-count, pair-room, pair-noted, skipped, step-choice, step-children, also-noted, taken}
+use Rattle.counting.proofs.Targets.{ChoiceGiven, step-number}
+use Rattle.passing.proofs.Parts.{PairRemoved, pair-removed, sets-height}
+use Rattle.passing.proofs.Passing.{PairGiven, pair-lost, pair-low, pair-row, pair-count, pair-room, pair-noted, step-choice, step-count, step-children, also-noted, taken}
 use Rattle.passing.proofs.pass_pair.Statement.{statement}
 use Rattle.passing.proofs.pass_pair.Tie as tie
 
-rank-at-requires : tie.Need-rank-at-requires
-rank-at-requires c κs =
-    let entry = c .before .before .before .before .before .before .before .before .before .before in
-    let p = entry .pre in
-    let a = entry .args in
-    rank-asked (pair-lost (p .0) (p .1) (a .s) (a .t) (p .4)) (p .0 .given .ranked)
+-- the pair that is to be passed
+pair : (e : tie.Start) →
+    let a = e .args in
+    PairGiven (a .tables .now) (a .ranks .now) (a .order .now) (a .choices .now) (a .room .now) (a .amounts .now) (a .w .rank) (a .w .count) (mask (a .w .rows)) (a .w .s) (a .w .t)
+pair e = record { given = e .pre .0; passing = e .pre .1; here = e .pre .4 }
 
-returns : tie.Need-returns
-returns c =
-    let entry = c .before .before .before .before .before .before .before .before .before .before .before .before in
-    let p = entry .pre in
-    let a = entry .args in
-    let is-rank = pair-rank (p .0) (p .1) (a .s) (a .t) (p .4) (c .before .rank-at .ensures) in
-    (skipped (p .0) (p .1) (a .s) (a .t) (p .4) (λ e. c .if1 .taken (is-rank ∙ e)), p .2, record { tally = p .3; total = refl })
+-- its transition
+step : (y : tie.After-choose) →
+    let a = y .before .before .before .before .before .before .before .before .before .before .before .before .args in
+    ChoiceGiven (a .tables .now) (a .w .s) (a .w .t) (y .choose .result)
+step y = step-choice (pair (y .before .before .before .before .before .before .before .before .before .before .before .before)) (y .choose .ensures .0)
+
+-- it is no longer among the pairs to be passed, beside the sets of its transition
+removed : (d : tie.After-put) →
+    let y = d .before .before .before .before .before .before .before .before .before in
+    let a = y .before .before .before .before .before .before .before .before .before .before .before .before .args in
+    PairRemoved (a .room .now) (a .w .s) (a .w .t) (y .choose .last .1 .1 .1 .1 .1 .0) (d .put .last .0)
+removed d =
+    let x = d .before in
+    let y = d .before .before .before .before .before .before .before .before in
+    let e = y .before .before .before .before .before .before .before .before .before .before .before .before .before in
+    pair-removed (e .args .room .now) (e .pre .0 .rows) _ (y .room .given .0) (pair-low (pair e) .0) (x .remove .result) (x .before .get .ensures) (x .remove .ensures) (d .put .ensures)
+
+cast-s : tie.Need-cast-s
+cast-s c = search needs
+
+cast-t : tie.Need-cast-t
+cast-t c = search needs
+
+sub-sets : tie.Need-sub-sets
+sub-sets c = search needs
+
+part-sets-start : tie.Need-part-sets-start
+part-sets-start c = search needs
+
+part-sets-end : tie.Need-part-sets-end
+part-sets-end c = search needs
 
 choose-requires : tie.Need-choose-requires
 choose-requires c κs =
-    let at-if1 = c .before .before .before in
-    let at-rank-at = at-if1 .before in
-    let entry = at-rank-at .before .before .before .before .before .before .before .before .before .before .before in
-    let p = entry .pre in
-    let a = entry .args in
-    let is-rank = pair-rank (p .0) (p .1) (a .s) (a .t) (p .4) (at-rank-at .rank-at .ensures) in
-    (p .0 .given .ranked, pair-lost (p .0) (p .1) (a .s) (a .t) (p .4), sym (at-if1 .if1 .left) ∙ is-rank, p .0 .given .words, p .0 .given .lent)
+    let e = c .before .before .before .before .before .before .before .before .before .before .before in
+    let g = e .pre .0 in
+    (g .given .ranked, pair-lost (pair e), e .pre .5, omega (arith, sets-height (e .args .room .now) (g .rows)), g .given .amounts-room)
 
 get-requires : tie.Need-get-requires
-get-requires c κs =
-    let entry = c .before .before .before .before .before .before .before .before .before .before .before .before .before .before .before .before .before .before .before .before .before .before .before in
-    let p = entry .pre in
-    let a = entry .args in
-    pair-row (p .0) (p .1) (a .s) (a .t) (p .4)
+get-requires c κs = search needs
 
 remove-requires : tie.Need-remove-requires
-remove-requires c κs =
-    let entry = c .before .before .before .before .before .before .before .before .before .before .before .before .before .before .before .before .before .before .before .before .before .before .before .before in
-    let p = entry .pre in
-    let a = entry .args in
-    pair-low (p .0) (p .1) (a .s) (a .t) (p .4) .1
+remove-requires c κs = pair-low (pair (c .before .before .before .before .before .before .before .before .before .before .before .before .before .before .before .before .before .before .before)) .1
 
 put-requires : tie.Need-put-requires
 put-requires c κs =
-    let entry = c .before .before .before .before .before .before .before .before .before .before .before .before .before .before .before .before .before .before .before .before .before .before .before .before .before .before in
-    let p = entry .pre in
-    let a = entry .args in
-    pair-row (p .0) (p .1) (a .s) (a .t) (p .4)
+    let y = c .before .before .before .before .before .before .before in
+    omega (arith, pair-row (pair (y .before .before .before .before .before .before .before .before .before .before .before .before .before)), y .room .given .1)
 
 note-requires : tie.Need-note-requires
 note-requires c κs =
-    let at-choose = c .before .before .before .before .before .before .before .before .before .before .before .before .before .before .before in
-    let entry = at-choose .before .before .before .before .before .before .before .before .before .before .before .before .before .before .before .before in
-    let p = entry .pre in
-    let a = entry .args in
+    let y = c .before .before .before .before .before .before .before .before .before .before .before .before .before in
+    let e = y .before .before .before .before .before .before .before .before .before .before .before .before in
+    let p = pair e in
+    let l = e .pre .0 .given .ranked .loaded in
     record {
-      loaded = p .0 .given .ranked .second-loaded;
-      low = pair-low (p .0) (p .1) (a .s) (a .t) (p .4);
-      number = omega (arith, step-number (step-choice (p .0) (p .1) (a .s) (a .t) (p .4) (at-choose .choose .ensures .0)), limits (a .first .now) (p .0 .given .ranked .first-loaded) .transitions-few);
-      few = pair-count (p .0) (p .1) (a .s) (a .t) (p .4);
-      place = pair-room (p .0) (p .1) (a .s) (a .t) (p .4);
-      room = pair-noted (p .0) (p .1) (a .s) (a .t) (p .4);
+      loaded = l;
+      low = pair-low p;
+      transition = omega (arith, step-number (step y), limits (first-form (e .args .tables .now)) (l .first) .transitions-few);
+      few = pair-count p;
+      place = pair-room p;
+      room = pair-noted p;
     }
+
+sub-hand-on : tie.Need-sub-hand-on
+sub-hand-on c = search needs
+
+part-hand-on-start : tie.Need-part-hand-on-start
+part-hand-on-start c = search needs
+
+part-hand-on-end : tie.Need-part-hand-on-end
+part-hand-on-end c =
+    let d = c .before .before .before .before .before .before .before .before .before .before in
+    omega (arith, removed d .same-room, d .before .before .before .before .before .before .before .before .before .before .before .before .before .before .before .before .before .before .before .before .before .pre .0 .rows)
 
 hand-on-requires : tie.Need-hand-on-requires
 hand-on-requires c κs =
-    let at-sets = c .before .before .before .before .before .before .before .before .before .before .before .before .before .before .before .before .before .before .before .before .before in
-    let at-choose = at-sets .before in
-    let entry = at-choose .before .before .before .before .before .before .before .before .before .before .before .before .before .before .before .before in
-    let p = entry .pre in
-    let a = entry .args in
-    record {
-      first-loaded = p .0 .given .ranked .first-loaded;
-      second-loaded = p .0 .given .ranked .second-loaded;
-      lost = pair-lost (p .0) (p .1) (a .s) (a .t) (p .4);
-      choice = at-choose .choose .ensures .0;
-      words = omega (arith, p .0 .given .words, at-sets .sets .given);
-      told = at-choose .choose .ensures .1;
-      tally = p .3;
-    }
+    let d = c .before .before .before .before .before .before .before .before .before .before .before .before in
+    let y = d .before .before .before .before .before .before .before .before .before in
+    let e = y .before .before .before .before .before .before .before .before .before .before .before .before in
+    step-count (pair e) (y .choose .ensures .0) (y .choose .ensures .1) (removed d) (e .pre .3)
 
 targets-requires : tie.Need-targets-requires
 targets-requires c κs =
-    let at-choose = c .before .before .before .before .before .before .before .before .before .before .before .before .before .before .before .before .before .before .before .before .before .before .before .before .before in
-    let entry = at-choose .before .before .before .before .before .before .before .before .before .before .before .before .before .before .before .before in
-    let p = entry .pre in
-    let a = entry .args in
-    (p .0 .given .ranked .first-loaded, step-number (step-choice (p .0) (p .1) (a .s) (a .t) (p .4) (at-choose .choose .ensures .0)))
+    let y = c .before .before .before .before .before .before .before .before .before .before .before .before .before .before .before .before .before .before .before .before .before .before .before .before in
+    (y .before .before .before .before .before .before .before .before .before .before .before .before .pre .0 .given .ranked .loaded .first, step-number (step y))
 
 add-children-requires : tie.Need-add-children-requires
 add-children-requires c κs =
-    let at-put = c .before .before .before .before .before .before .before .before .before .before .before .before .before .before .before .before .before in
-    let at-remove = at-put .before .before in
-    let at-get = at-remove .before in
-    let at-sets = at-get .before .before .before .before .before .before .before in
-    let at-choose = at-sets .before in
-    let entry = at-choose .before .before .before .before .before .before .before .before .before .before .before .before .before .before .before .before in
-    let p = entry .pre in
-    let a = entry .args in
-    step-children (p .0) (p .1) (a .s) (a .t) (p .4) (at-choose .choose .ensures .0) (c .before .before .targets .ensures) (at-choose .choose .ensures .1) (at-sets .sets .given) (at-remove .remove .result) (at-get .get .ensures) (at-remove .remove .ensures) (at-put .put .ensures)
+    let d = c .before .before .before .before .before .before .before .before .before .before .before .before .before .before .before .before .before in
+    let y = d .before .before .before .before .before .before .before .before .before in
+    step-children (pair (y .before .before .before .before .before .before .before .before .before .before .before .before)) (y .choose .ensures .0) (y .choose .ensures .1) (removed d) (c .before .targets .ensures)
 
-add-t47 : tie.Need-add-t47
-add-t47 c =
-    let entry = c .before .before .before .before .before .before .before .before .before .before .before .before .before .before .before .before .before .before .before .before .before .before .before .before .before .before .before .before .before .before .before .before .before .before .before .before .before .before .before .before .before .before .before .before .before .before .before in
-    let p = entry .pre in
-    let a = entry .args in
-    omega (arith, pair-count (p .0) (p .1) (a .s) (a .t) (p .4))
+add-t17 : tie.Need-add-t17
+add-t17 c = omega (arith, pair-count (pair (c .before .before .before .before .before .before .before .before .before .before .before .before .before .before .before .before .before .before .before .before .before .before .before .before .before .before .before .before .before .before .before .before .before .before .before .before .before .before .before .before .before)))
 
 same-length : tie.Need-same-length
-same-length c =
-    let at-order = c .before .before .before .before .before .before .before .before .before .before .before .before .before .before in
-    at-order .order .given
+same-length c = search needs
 
 same-length-2 : tie.Need-same-length-2
-same-length-2 c =
-    let at-choices = c .before .before .before .before .before .before .before .before .before .before .before .before in
-    at-choices .choices .given
+same-length-2 c = search needs
 
 same-length-3 : tie.Need-same-length-3
-same-length-3 c =
-    let at-counts = c .before .before .before .before .before .before .before in
-    at-counts .counts .given
+same-length-3 c = search needs
 
 same-length-4 : tie.Need-same-length-4
-same-length-4 c =
-    let at-todo = c .before .before .before .before .before .before .before .before .before .before .before .before .before .before .before .before .before .before .before in
-    c .before .todo2 .given ∙ at-todo .todo .given
+same-length-4 c = c .before .room4 .given ∙ removed (c .before .before .before .before .before .before .before .before .before .before .before .before .before .before .before .before .before .before .before .before) .same-room
 
 same-length-5 : tie.Need-same-length-5
-same-length-5 c =
-    let at-sets = c .before .before .before .before .before .before .before .before .before .before .before .before .before .before .before .before .before .before .before .before .before .before .before .before .before .before .before .before .before .before in
-    at-sets .sets .given
+same-length-5 c = c .before .before .before .before .before .before .before .before .before .before .before .before .before .before .before .before .before .before .before .before .before .before .before .before .before .before .amounts .given
 
-same-length-6 : tie.Need-same-length-6
-same-length-6 c =
-    let at-rel = c .before .before .before .before .before .before .before .before .before .before .before .before .before .before .before .before .before .before .before .before .before .before .before .before .before .before .before .before in
-    at-rel .rel .given
-
-same-length-7 : tie.Need-same-length-7
-same-length-7 c =
-    let at-x = c .before .before .before .before .before .before .before .before .before .before .before .before .before .before .before .before .before .before .before .before .before .before .before .before .before .before in
-    at-x .x .given
-
-returns-2 : tie.Need-returns-2
-returns-2 c =
-    let at-targets = c .before .before .before .before .before in
-    let at-hand-on = at-targets .before .before .before in
-    let at-note = at-hand-on .before .before .before .before .before .before .before in
-    let at-put = at-note .before .before .before .before .before in
-    let at-remove = at-put .before .before in
-    let at-get = at-remove .before in
-    let at-sets = at-get .before .before .before .before .before .before .before in
-    let at-choose = at-sets .before in
-    let at-if1 = at-choose .before .before .before .before in
-    let at-rank-at = at-if1 .before in
-    let entry = at-rank-at .before .before .before .before .before .before .before .before .before .before .before in
-    let p = entry .pre in
-    let a = entry .args in
-    let is-rank = pair-rank (p .0) (p .1) (a .s) (a .t) (p .4) (at-rank-at .rank-at .ensures) in (
-      taken (p .0) (p .1) (a .s) (a .t) (p .4) (at-choose .choose .ensures .0) (at-targets .targets .ensures) (at-choose .choose .ensures .1) (at-sets .sets .given) (at-remove .remove .result) (at-get .get .ensures) (at-remove .remove .ensures) (at-put .put .ensures)
-          (sym is-rank ∙ at-if1 .if1 .left) (at-note .note .ensures .0) (c .before .before .add-children .ensures),
-      also-noted (p .0) (p .1) (a .s) (a .t) (p .4) (at-note .note .ensures .0) (p .2) (at-choose .choose .ensures .0) (at-note .note .ensures .1),
-      at-hand-on .hand-on .ensures,
+returns : tie.Need-returns
+returns c =
+    let n = c .before .before .before .before .before .before .before .before .before .before .before .before .before .before .before .note .ensures in
+    let d = c .before .before .before .before .before .before .before .before .before .before .before .before .before .before .before .before .before .before .before .before in
+    let y = d .before .before .before .before .before .before .before .before .before in
+    let e = y .before .before .before .before .before .before .before .before .before .before .before .before in
+    let p = pair e in
+    let j = y .choose .ensures in (
+      taken p (j .0) (j .1) (removed d) (c .before .before .before .before .targets .ensures) (sym (e .pre .5)) (n .0) (c .before .before .add-children .ensures),
+      also-noted p (n .0) (e .pre .2) (j .0) (n .1),
+      c .before .before .before .before .before .before .before .hand-on .ensures,
+      refl,
+      refl,
     )
 
 pub pass-pair-spec : {M : Type 1} → statement M
 pass-pair-spec =
     tie.close
     (tie.spec
-    rank-at-requires
-    returns
+    cast-s
+    cast-t
+    sub-sets
+    part-sets-start
+    part-sets-end
     choose-requires
     get-requires
     remove-requires
     put-requires
     note-requires
+    sub-hand-on
+    part-hand-on-start
+    part-hand-on-end
     hand-on-requires
     targets-requires
     add-children-requires
-    add-t47
+    add-t17
     same-length
     same-length-2
     same-length-3
     same-length-4
     same-length-5
-    same-length-6
-    same-length-7
-    returns-2)
+    returns)

@@ -1,6 +1,7 @@
 -- `podcheck::answer_short` meets its contract. Assumes nothing.
 use native.Mathlib.Nat.{le-refl}
 use native.Mathlib.Omega.{arith}
+use Rattle.report.specs.Text.{short-tree}
 use Rattle.report.proofs.Bounds.{bound-short}
 use borrow.Author.Needs.{needs}
 use Rattle.podcheck.proofs.answer_short.Statement.{statement}
@@ -18,7 +19,7 @@ answer-requires c κs =
     let tree = slice-aggregate-answer-2 (c .before) in (
       k .pre .0,
       omega (arith, k .pre .1, slice-aggregate-answer (c .before .before)),
-      omega (arith, k .pre .2, tree, bound-short (k .args .p) (k .args .q) 1023 (k .pre .0 .first-few) (k .pre .1) (le-refl 1023)),
+      omega (arith, k .pre .2, tree, bound-short (k .args .p) (k .args .q) short-tree (k .pre .0 .first-few) (k .pre .1) (le-refl 1023)),
     )
 
 same-length : tie.Need-same-length

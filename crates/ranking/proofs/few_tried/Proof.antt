@@ -1,14 +1,13 @@
 -- `ranking::few_tried` meets its contract.
 -- Assumes nothing.
-use Prim.Native.Nat.{ℕ, _*_}
-use lib.ListN.{length-replicate}
+use Prim.Native.Nat.{_*_}
 use Rattle.simulation.specs.Limits.{most-states}
-use Rattle.ranking.proofs.Ends.{zeros-at}
+use Rattle.ranking.proofs.Filling.{zeros-of}
 use Rattle.ranking.proofs.few_tried.Statement.{statement}
 use Rattle.ranking.proofs.few_tried.Tie as tie
 
 returns : tie.Need-returns
-returns c = (length-replicate {A = ℕ} (17 * most-states) 0, zeros-at (17 * most-states))
+returns c = zeros-of (16 * most-states)
 
 pub few-tried-spec : {M : Type 1} → statement M
 few-tried-spec = tie.close (tie.spec returns)

@@ -1,19 +1,20 @@
--- `narrow` meets its contract: the rows passed are cut. Assumes nothing.
+-- `ranking::narrow` meets its contract: the rows passed are cut. Assumes nothing.
 use mathlib.Core.Path.{_≡_, refl, sym, ap, _∙_, subst}
 use Prim.Native.Nat.{ℕ, _+_, _-_, _≤_, _<_}
 use lib.ListN.{length}
 use mathlib.Core.List.{List}
-use Rattle.relation.specs.Mask.{member, both, up-to}
+use Rattle.relation.specs.Mask.{Test, member, both, up-to}
 use Rattle.relation.specs.Words.{mask, row-of, height}
 use Rattle.relation.proofs.Sets.{length-put, both-of}
 use Rattle.relation.specs.Related.{holds}
-use Rattle.rounds.proofs.Settling.{rows-next, rows-left}
+use Rattle.ranking.proofs.Writing.{rows-next, rows-left}
 use native.Mathlib.Omega.{arith}
 use Rattle.ranking.proofs.narrow.Statement.{statement}
 use Rattle.ranking.proofs.narrow.Tie as tie
 
 abbrev Inv-loop : tie.InvT-loop
-Inv-loop rows₀ p q columns s₀ rows s = (s ≤ p) × (length rows ≡ length rows₀) × ((r t : ℕ) → r < s → holds rows r t ≡ both (holds rows₀ r) (up-to q) t) × ((r : ℕ) → s ≤ r → row-of rows r ≡ row-of rows₀ r)
+Inv-loop rows₀ p q columns s₀ rows s = (s ≤ p) × (length rows ≡ length rows₀) × ((r t : ℕ) → r < s → holds rows r t ≡ both (holds rows₀ r) (up-to q) t)
+    × ((r : ℕ) → s ≤ r → row-of rows r ≡ row-of rows₀ r)
 
 abbrev μ-loop : tie.MeasureT-loop
 μ-loop rows₀ p q columns s₀ rows s = p - s
@@ -31,7 +32,7 @@ intersection-requires : tie.Need-intersection-requires Inv-loop μ-loop
 intersection-requires c κs = tt
 
 put-requires : tie.Need-put-requires Inv-loop μ-loop
-put-requires c κs = omega (arith, c .before .before .before .before .before .loop .inv .1, c .before .before .before .before .loop-test .taken)
+put-requires c κs = get-requires (c .before .before) κs
 
 add-s : tie.Need-add-s Inv-loop μ-loop
 add-s c = omega (arith, c .before .before .before .before .before .before .before .loop-test .taken)
@@ -41,16 +42,21 @@ loop-less c = omega (arith, c .before .before .before .before .before .before .b
 
 loop-again : tie.Need-loop-again Inv-loop μ-loop
 loop-again c =
-    let a = c .before .before .before .before .before .before .before .before .before .before .before .args in
-    let o = c .before .before .before .before .before .before .before .before .loop in
-    let e = c .before .before .put .ensures in
-    let x = c .before .before .before .intersection .result in
-    let room : o .s < height (o .rows) = omega (arith, o .inv .1, c .before .before .before .before .before .before .before .loop-test .taken) in
-    let row = both-of (c .before .before .before .before .get .ensures ∙ o .inv .3 (o .s) (omega arith)) (member (mask (c .before .before .before .before .before .before .before .before .before .below .result))) (c .before .before .before .intersection .ensures) ∙ ap (both (member (row-of (a .rows .now) (o .s)))) (c .before .before .before .before .before .before .before .before .before .below .ensures) in (
-      omega (arith, c .before .before .before .before .before .before .before .loop-test .taken),
-      ap length e ∙ length-put (o .rows) (o .s) x ∙ o .inv .1,
-      subst (λ (l : List ℕ). (r t : ℕ) → r < o .s + 1 → holds l r t ≡ both (holds (a .rows .now) r) (up-to (a .q)) t) (sym e) (rows-next (λ r. both (holds (a .rows .now) r) (up-to (a .q))) (o .rows) (o .s) x room row (o .inv .2)),
-      subst (λ (l : List ℕ). (r : ℕ) → o .s + 1 ≤ r → row-of l r ≡ row-of (a .rows .now) r) (sym e) (rows-left (a .rows .now) (o .rows) (o .s) x (o .inv .3)),
+    let p = c .before .before in
+    let x = p .before .intersection in
+    let g = p .before .before in
+    let t = g .before .before .before in
+    let l = t .before in
+    let b = l .before .below in
+    let a = l .before .before .before .args in
+    let o = l .loop in
+    let cut : ℕ → Test = λ r. both (holds (a .rows .now) r) (up-to (a .q)) in
+    let room : o .s < height (o .rows) = omega (arith, o .inv .1, t .loop-test .taken) in
+    let row = both-of (g .get .ensures ∙ o .inv .3 (o .s) (omega arith)) (member (mask (b .result))) (x .ensures) ∙ ap (both (holds (a .rows .now) (o .s))) (b .ensures) in (
+      omega (arith, t .loop-test .taken),
+      ap length (p .put .ensures) ∙ length-put (o .rows) (o .s) (x .result) ∙ o .inv .1,
+      subst (λ (l : List ℕ). (r t : ℕ) → r < o .s + 1 → holds l r t ≡ cut r t) (sym (p .put .ensures)) (rows-next cut (o .rows) (o .s) (x .result) room row (o .inv .2)),
+      subst (λ (l : List ℕ). (r : ℕ) → o .s + 1 ≤ r → row-of l r ≡ row-of (a .rows .now) r) (sym (p .put .ensures)) (rows-left (a .rows .now) (o .rows) (o .s) (x .result) (o .inv .3)),
     )
 
 same-length : tie.Need-same-length Inv-loop μ-loop

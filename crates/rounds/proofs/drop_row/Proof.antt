@@ -7,61 +7,66 @@ use lib.ListN.{length}
 use Rattle.relation.specs.Mask.{member}
 use Rattle.relation.specs.Words.{mask, row-of}
 use Rattle.relation.proofs.Sets.{both-of}
-use Rattle.form.specs.Form.{start-of, table-of}
+use Rattle.form.specs.Form.{start-of}
+use Rattle.form.specs.Tables.{first-form, second-table}
 use Rattle.form.proofs.FormLaws.{limits, counts, start-bound}
-use Rattle.matching.specs.Held.{relation-of}
-use Rattle.matching.specs.Known.{Tried}
-use Rattle.matching.proofs.Trying.{lent-again}
+use Rattle.fit.specs.Known.{Tried}
+use Rattle.fit.proofs.Trying.{lent-again}
 use Rattle.rounds.proofs.Keeping.{Answering, kept-start, kept-next, kept-columns, kept-end}
 use Rattle.rounds.proofs.drop_row.Statement.{statement}
 use Rattle.rounds.proofs.drop_row.Tie as tie
 
 abbrev Inv-loop : tie.InvT-loop
-Inv-loop first s second masks rows tried₀ x₀ near end left₀ j₀ tried x left j =
-    (start-of first s ≤ j) × (j ≤ start-of first (s + 1)) × (length tried ≡ length tried₀) × (length x ≡ length x₀) × Tried first second (relation-of first second rows) tried
-    × Answering first second rows s (mask near) j (mask left)
+Inv-loop tables s sets rows tried₀ amounts₀ near end left₀ j₀ tried amounts left j =
+    (start-of (first-form tables) s ≤ j) × (j ≤ start-of (first-form tables) (s + 1)) × (length tried ≡ length tried₀) × (length amounts ≡ length amounts₀)
+    × Tried tables rows tried × Answering tables rows s (mask near) j (mask left)
 
 abbrev μ-loop : tie.MeasureT-loop
-μ-loop first s second masks rows tried₀ x₀ near end left₀ j₀ tried x left j = end - j
+μ-loop tables s sets rows tried₀ amounts₀ near end left₀ j₀ tried amounts left j = end - j
 
 get-requires : tie.Need-get-requires Inv-loop μ-loop
-get-requires c κs = let d = c .before .before .before .before .before .before in omega (arith, d .pre .0 .rows-room, d .pre .2, limits (d .args .first .now) (d .pre .0 .first) .states-few)
+get-requires c κs =
+    let d = c .before .before .before .before .before in
+    omega (arith, d .pre .0 .rows-room, d .pre .2, limits (first-form (d .args .tables .now)) (d .pre .0 .loaded .first) .states-few)
 
 intersection-requires : tie.Need-intersection-requires Inv-loop μ-loop
 intersection-requires c κs = tt
 
-add-first : tie.Need-add-first Inv-loop μ-loop
-add-first c = let d = c .before .before .before .before .before .before .before .before in omega (arith, d .pre .2, limits (d .args .first .now) (d .pre .0 .first) .states-few)
+add-start-of : tie.Need-add-start-of Inv-loop μ-loop
+add-start-of c =
+    let d = c .before .before .before .before .before .before .before in
+    omega (arith, d .pre .2, limits (first-form (d .args .tables .now)) (d .pre .0 .loaded .first) .states-few)
 
-first-requires : tie.Need-first-requires Inv-loop μ-loop
-first-requires c κs = search needs
+start-of-requires : tie.Need-start-of-requires Inv-loop μ-loop
+start-of-requires c κs = search needs
 
-first-requires-2 : tie.Need-first-requires-2 Inv-loop μ-loop
-first-requires-2 c κs = search needs
+start-of-requires-2 : tie.Need-start-of-requires-2 Inv-loop μ-loop
+start-of-requires-2 c κs = search needs
 
 loop-holds : tie.Need-loop-holds Inv-loop μ-loop
 loop-holds c =
-    let d = c .before .before .before .before .before .before .before .before .before .before in
+    let d = c .before .before .before .before .before .before .before .before .before in
     let a = d .args in
     let near = mask (c .before .before .intersection .result) in (
-      omega (arith, c .first2 .ensures),
-      omega (arith, c .first2 .ensures, counts (a .first .now) (d .pre .0 .first) (a .s) (d .pre .2)),
+      omega (arith, c .start-of2 .ensures),
+      omega (arith, c .start-of2 .ensures, counts (first-form (a .tables .now)) (d .pre .0 .loaded .first) (a .s) (d .pre .2)),
       refl,
       refl,
       d .pre .1,
-      subst (λ (n : ℕ). Answering (a .first .now) (a .second .now) (a .rows .now) (a .s) near n near) (sym (c .first2 .ensures)) (kept-start _ near _),
+      subst (λ (n : ℕ). Answering (a .tables .now) (a .rows .now) (a .s) near n near) (sym (c .start-of2 .ensures)) (kept-start _ near _),
     )
 
 drop-step-requires : tie.Need-drop-step-requires Inv-loop μ-loop
 drop-step-requires c κs =
     let l = c .before .before .before in
-    let d = c .before .before .before .before .before .before .before .before .before .before .before .before .before .before in
+    let near = l .before .before .before in
+    let d = near .before .before .before .before .before .before .before in
     let a = d .args in
-    let e = both-of (l .before .before .before .before .get .ensures) (member (mask (a .doubt))) (l .before .before .before .intersection .ensures) in (
+    let e = both-of (near .before .get .ensures) (member (mask (a .doubt))) (near .intersection .ensures) in (
       lent-again (d .pre .0) (l .loop .inv .3),
       l .loop .inv .4,
-      omega (arith, c .before .before .loop-test .taken, l .before .before .first .ensures, start-bound (a .first .now) (d .pre .0 .first) (a .s + 1) (omega (arith, d .pre .2))),
-      kept-columns (table-of (a .second .now)) (row-of (a .rows .now) (a .s)) (mask (a .doubt)) (d .pre .4) e (l .loop .inv .5),
+      omega (arith, c .before .before .loop-test .taken, l .before .before .start-of .ensures, start-bound (first-form (a .tables .now)) (d .pre .0 .loaded .first) (a .s + 1) (omega (arith, d .pre .2))),
+      kept-columns (second-table (a .tables .now)) (row-of (a .rows .now) (a .s)) (mask (a .doubt)) (d .pre .4) e (l .loop .inv .5),
     )
 
 difference-requires : tie.Need-difference-requires Inv-loop μ-loop
@@ -75,14 +80,15 @@ loop-less c = omega (arith, c .before .before .before .before .before .before .b
 
 loop-again : tie.Need-loop-again Inv-loop μ-loop
 loop-again c =
-    let l = c .before .before .before .before .before .before .before .before .before in
-    let r = c .before .before .before .before .before .drop-step in (
+    let r = c .before .before .before .before .before in
+    let i = r .before .before .before in
+    let l = i .before in (
       omega (arith, l .loop .inv .0),
-      omega (arith, c .before .before .before .before .before .before .before .before .loop-test .taken, l .before .before .first .ensures),
+      omega (arith, i .loop-test .taken, l .before .before .start-of .ensures),
       c .before .before .before .before .tried .given ∙ l .loop .inv .2,
-      c .before .before .x .given ∙ l .loop .inv .3,
-      r .ensures .1,
-      kept-next (mask (r .result)) (l .loop .inv .0) (r .ensures .0) (c .difference .ensures) (l .loop .inv .5),
+      c .before .before .amounts .given ∙ l .loop .inv .3,
+      r .drop-step .ensures .1,
+      kept-next (mask (r .drop-step .result)) (l .loop .inv .0) (r .drop-step .ensures .0) (c .difference .ensures) (l .loop .inv .5),
     )
 
 difference-requires-2 : tie.Need-difference-requires-2 Inv-loop μ-loop
@@ -97,15 +103,14 @@ same-length-2 c = c .before .before .loop .inv .3
 returns : tie.Need-returns Inv-loop μ-loop
 returns c =
     let l = c .before .before in
-    let d = c .before .before .before .before .before .before .before .before .before .before .before .before .before in
+    let near = l .before .before .before in
+    let d = near .before .before .before .before .before .before .before in
     let a = d .args in
-    let f = a .first .now in
-    let g = a .second .now in
-    let near = l .before .before .before .intersection in
-    let e = both-of (l .before .before .before .before .get .ensures) (member (mask (a .doubt))) (near .ensures) in
-    let last : l .loop .j ≡ start-of f (a .s + 1) = omega (arith, c .before .loop-test .left, l .before .before .first .ensures, l .loop .inv .1) in (
-      kept-end f g (a .rows .now) (d .pre .0 .first) (a .s) (d .pre .2) (mask (a .doubt)) (mask (c .difference2 .result)) (d .pre .4) (d .pre .3) e
-          (subst (λ (n : ℕ). Answering f g (a .rows .now) (a .s) (mask (near .result)) n (mask (l .loop .left))) last (l .loop .inv .5))
+    let tables = a .tables .now in
+    let e = both-of (near .before .get .ensures) (member (mask (a .doubt))) (near .intersection .ensures) in
+    let last : l .loop .j ≡ start-of (first-form tables) (a .s + 1) = omega (arith, c .before .loop-test .left, l .before .before .start-of .ensures, l .loop .inv .1) in (
+      kept-end tables (a .rows .now) (d .pre .0 .loaded .first) (a .s) (d .pre .2) (mask (a .doubt)) (mask (c .difference2 .result)) (d .pre .4) (d .pre .3) e
+          (subst (λ (n : ℕ). Answering tables (a .rows .now) (a .s) (mask (near .intersection .result)) n (mask (l .loop .left))) last (l .loop .inv .5))
           (c .difference2 .ensures),
       l .loop .inv .4,
     )
@@ -118,9 +123,9 @@ drop-row-spec =
     μ-loop
     get-requires
     intersection-requires
-    add-first
-    first-requires
-    first-requires-2
+    add-start-of
+    start-of-requires
+    start-of-requires-2
     loop-holds
     drop-step-requires
     difference-requires

@@ -1,53 +1,57 @@
 -- `rounds::first_round` meets its contract: the rows before s are judged. Assumes nothing.
-use mathlib.Core.Path.{_≡_, refl, sym, ap, _∙_, subst}
+use mathlib.Core.Path.{_≡_, refl, sym, _∙_}
 use mathlib.Core.Bool.{true≢false}
-use mathlib.Core.List.{List}
-use Prim.Native.Nat.{ℕ, _+_, _-_, _≤_, _<_, zero-le}
+use Prim.Native.Nat.{_-_, _≤_, _<_, zero-le}
 use native.Mathlib.Omega.{arith}
 use borrow.Author.Tests.{le-leb, lt-leb}
 use lib.Dec.{leb}
 use lib.ListN.{length}
+use Rattle.simulation.specs.Limits.{most-states}
 use Rattle.simulation.specs.Table.{states-of}
 use Rattle.simulation.specs.Round.{round}
-use Rattle.relation.specs.Words.{mask, height}
-use Rattle.relation.proofs.Sets.{mask-lt, length-put}
-use Rattle.form.specs.Form.{table-of}
+use Rattle.relation.specs.Words.{mask}
+use Rattle.form.specs.Tables.{first-form, second-form, first-table, second-table}
 use Rattle.form.proofs.FormLaws.{limits, sound}
-use Rattle.rounds.proofs.Dropping.{Finding, finding-start, finding-next, finding-end}
+use Rattle.links.specs.Places.{lost-in}
+use Rattle.rounds.proofs.Dropping.{Finding, finding-start, finding-marks, finding-end}
 use Rattle.rounds.proofs.First.{first-falls, from-next}
 use Rattle.rounds.proofs.first_round.Statement.{statement}
 use Rattle.rounds.proofs.first_round.Tie as tie
 
 abbrev Inv-loop : tie.InvT-loop
-Inv-loop first second lost₀ p fell₀ s₀ lost fell s =
-    (s ≤ p) × (length lost ≡ length lost₀) × Finding (table-of first) (table-of second) (round (table-of first) (table-of second) 0) (leb s) lost (mask fell)
+Inv-loop tables marks₀ p fell₀ s₀ marks fell s =
+    (s ≤ p) × (length marks ≡ length marks₀)
+    × Finding (first-table tables) (second-table tables) (round (first-table tables) (second-table tables) 0) (leb s) (lost-in marks) (mask fell)
 
 abbrev μ-loop : tie.MeasureT-loop
-μ-loop first second lost₀ p fell₀ s₀ lost fell s = p - s
+μ-loop tables marks₀ p fell₀ s₀ marks fell s = p - s
 
 states-requires : tie.Need-states-requires Inv-loop μ-loop
-states-requires c κs = c .before .before .before .pre .0
+states-requires c κs = c .before .before .pre .0 .first
 
 empty-requires : tie.Need-empty-requires Inv-loop μ-loop
 empty-requires c κs = tt
 
 loop-holds : tie.Need-loop-holds Inv-loop μ-loop
-loop-holds c = (omega arith, refl, finding-start (c .empty .ensures) (c .before .before .before .before .before .pre .3) (λ s t a m. absurd (true≢false (sym (le-leb 0 s zero-le) ∙ m))))
+loop-holds c = (omega arith, refl, finding-start (c .empty .ensures) (c .before .before .before .before .pre .2) (λ s t a m. absurd (true≢false (sym (le-leb 0 s zero-le) ∙ m))))
 
 lacking-one-requires : tie.Need-lacking-one-requires Inv-loop μ-loop
-lacking-one-requires c κs = let d = c .before .before .before .before .before .before .before in (d .pre .0, d .pre .1, omega (arith, c .loop-test .taken, c .before .before .before .states .ensures))
+lacking-one-requires c κs = (c .before .before .before .before .before .before .pre .0, omega (arith, c .loop-test .taken, c .before .before .before .states .ensures))
+
+-- the row is one of few
+few : (c : tie.In-loop Inv-loop μ-loop) → c .before .loop .s < most-states
+few c =
+    let d = c .before .before .before .before .before .before in
+    omega (arith, c .loop-test .taken, c .before .before .before .states .ensures, limits (first-form (d .args .tables .now)) (d .pre .0 .first) .states-few)
+
+add-put : tie.Need-add-put Inv-loop μ-loop
+add-put c = omega (arith, few (c .before .before))
 
 put-requires : tie.Need-put-requires Inv-loop μ-loop
-put-requires c κs =
-    let l = c .before .before .before in
-    let d = l .before .before .before .before .before .before in
-    omega (arith, c .before .before .loop-test .taken, l .before .before .states .ensures, limits (d .args .first .now) (d .pre .0) .states-few, l .loop .inv .1, d .pre .2)
+put-requires c κs = let l = c .before .before .before in omega (arith, few (c .before .before), l .loop .inv .1, l .before .before .before .before .before .pre .1)
 
 with-row-requires : tie.Need-with-row-requires Inv-loop μ-loop
-with-row-requires c κs =
-    let l = c .before .before .before .before .before .before in
-    let d = l .before .before .before .before .before .before in
-    omega (arith, c .before .before .before .before .before .loop-test .taken, l .before .before .states .ensures, limits (d .args .first .now) (d .pre .0) .states-few)
+with-row-requires c κs = few (c .before .before .before .before .before)
 
 add-s : tie.Need-add-s Inv-loop μ-loop
 add-s c = omega (arith, c .before .before .before .before .before .before .loop-test .taken)
@@ -57,20 +61,18 @@ loop-less c = omega (arith, c .before .before .before .before .before .before .l
 
 loop-again : tie.Need-loop-again Inv-loop μ-loop
 loop-again c =
-    let l = c .before .before .before .before .before .before .before in
-    let d = l .before .before .before .before .before .before in
-    let f = d .args .first .now in
-    let g = d .args .second .now in
+    let i = c .before .before .before .before .before .before in
+    let l = i .before in
+    let d = l .before .before .before .before .before in
+    let tables = d .args .tables .now in
     let r = c .before .before .before .before .before .lacking-one in
-    let e = c .before .before .before .put .ensures in
     let s = l .loop .s in
-    let a : s < states-of (table-of f) = omega (arith, c .before .before .before .before .before .before .loop-test .taken, l .before .before .states .ensures) in
-    let room : s < height (l .loop .lost) = omega (arith, a, limits f (d .pre .0) .states-few, l .loop .inv .1, d .pre .2) in (
-      omega (arith, c .before .before .before .before .before .before .loop-test .taken),
-      ap length e ∙ length-put (l .loop .lost) s (r .result) ∙ l .loop .inv .1,
-      subst (λ (x : List ℕ). Finding (table-of f) (table-of g) (round (table-of f) (table-of g) 0) (leb (s + 1)) x (mask (c .with-row .result))) (sym e)
-          (finding-next (r .result) a room (mask-lt (c .with-row .result)) (from-next s)
-          (r .ensures ∙ first-falls (table-of f) (table-of g) (sound f (d .pre .0)) (sound g (d .pre .1)) s a) (c .with-row .ensures) (l .loop .inv .2)),
+    let a : s < states-of (first-table tables) = omega (arith, i .loop-test .taken, l .before .before .states .ensures) in (
+      omega (arith, i .loop-test .taken),
+      c .before .before .marks .given ∙ l .loop .inv .1,
+      finding-marks (l .loop .marks) (r .result) (c .with-row .result) a (few i) (omega (arith, l .loop .inv .1, d .pre .1)) (c .before .before .before .put .ensures) (from-next s)
+          (r .ensures ∙ first-falls (first-table tables) (second-table tables) (sound (first-form tables) (d .pre .0 .first)) (sound (second-form tables) (d .pre .0 .second)) s a)
+          (c .with-row .ensures) (l .loop .inv .2),
     )
 
 same-length : tie.Need-same-length Inv-loop μ-loop
@@ -91,6 +93,7 @@ first-round-spec =
     empty-requires
     loop-holds
     lacking-one-requires
+    add-put
     put-requires
     with-row-requires
     add-s

@@ -3,35 +3,39 @@ use mathlib.Core.Path.{_≡_, refl, _∙_}
 use mathlib.Core.List.{List}
 use Prim.Native.Nat.{ℕ, _≤_, _-_}
 use lib.ListN.{length}
+use Rattle.relation.specs.declared.set.Set.{Set}
 use Rattle.relation.specs.Mask.{member}
 use Rattle.relation.specs.Words.{words, after, rest, mask}
 use Rattle.relation.proofs.Sets.{walk-begin, walk-into, walk-on, walk-done, except-of}
+use Rattle.search.specs.Links.{from, via}
 use Rattle.search.proofs.SearchLaws.{Levelling, levelling-none, levelling-next, levelling-end}
 use native.Mathlib.Omega.{arith}
 use Rattle.search.proofs.level.Statement.{statement}
 use Rattle.search.proofs.level.Tie as tie
 
+-- the columns gone to went from g to g′, the rows reached from s to s′ and the links from l to l′, with the rows of the mask n to come
+abbrev Passed : (rel senders : List ℕ) → Set → (g g′ s s′ : Set) → (l l′ : List ℕ) → ℕ → Type 0
+Passed rel senders rows g g′ s s′ l l′ n = Levelling rel senders (mask rows) n (mask g) (mask g′) (mask s) (mask s′) (from l) (via l) (from l′) (via l′)
+
 abbrev Inv-loop2 : tie.InvT-loop2
-Inv-loop2 rel users from₀ via₀ rows all₀ gone₀ w left₀ from via all gone left = (length from ≡ length from₀) × (length via ≡ length via₀)
-    × ((f v : List ℕ) (g s : ℕ) → Levelling rel users (mask rows) (after w rows) g (mask gone₀) s (mask all₀) f v from₀ via₀ → Levelling rel users (mask rows) (rest w left rows) g (mask gone) s (mask all) f v from via)
+Inv-loop2 rel senders links₀ rows all₀ gone₀ w left₀ links all gone left = (length links ≡ length links₀)
+    × ((g s : Set) (l : List ℕ) → Passed rel senders rows g gone₀ s all₀ l links₀ (after w rows) → Passed rel senders rows g gone s all l links (rest w left rows))
 
 abbrev μ-loop2 : tie.MeasureT-loop2
-μ-loop2 rel users from₀ via₀ rows all₀ gone₀ w left₀ from via all gone left = left
+μ-loop2 rel senders links₀ rows all₀ gone₀ w left₀ links all gone left = left
 
 abbrev Inv-loop : tie.InvT-loop
-Inv-loop rel users from₀ via₀ rows all₀ gone₀ w₀ from via all gone w = (w ≤ words) × (length from ≡ length from₀) × (length via ≡ length via₀) × Levelling rel users (mask rows) (after w rows) (mask gone₀) (mask gone) (mask all₀) (mask all) from₀ via₀ from via
+Inv-loop rel senders links₀ rows all₀ gone₀ w₀ links all gone w = (w ≤ words) × (length links ≡ length links₀) × Passed rel senders rows gone₀ gone all₀ all links₀ links (after w rows)
 
 abbrev μ-loop : tie.MeasureT-loop
-μ-loop rel users from₀ via₀ rows all₀ gone₀ w₀ from via all gone w = words - w
+μ-loop rel senders links₀ rows all₀ gone₀ w₀ links all gone w = words - w
 
 loop-holds : tie.Need-loop-holds Inv-loop2 μ-loop2 Inv-loop μ-loop
 loop-holds c =
-    let a = c .before .before .before .before .args in (
-      omega arith,
-      refl,
-      refl,
-      walk-begin (a .t5) (λ (n : ℕ). Levelling (a .rel .now) (a .users .now) (mask (a .t5)) n (mask (a .seen)) (mask (a .seen)) (mask (a .reached)) (mask (a .reached)) (a .from .now) (a .via .now) (a .from .now) (a .via .now)) (levelling-none (c .before .before .before .before .pre .4)),
-    )
+    let s = c .before .before .before .before .before in
+    let a = s .args in
+    let b = a .covered in
+    (omega arith, refl, walk-begin (a .t4) (Passed (a .rel .now) (a .senders .now) (a .t4) (b .seen) (b .seen) (b .reached) (b .reached) (a .links .now) (a .links .now)) (levelling-none (s .pre .3)))
 
 mul-left : tie.Need-mul-left Inv-loop2 μ-loop2 Inv-loop μ-loop
 mul-left c = omega arith
@@ -41,46 +45,44 @@ element-copy-out-left c = omega arith
 
 loop2-holds : tie.Need-loop2-holds Inv-loop2 μ-loop2 Inv-loop μ-loop
 loop2-holds c =
-    let a = c .before .before .before .before .before .before .before .args in
-    let o = c .before .before .loop in
-    (refl, refl, λ f v g s. walk-into (a .t5) (λ (n : ℕ). Levelling (a .rel .now) (a .users .now) (mask (a .t5)) n g (mask (o .gone)) s (mask (o .all)) f v (o .from) (o .via)) (o .w))
+    let o = c .before .before in
+    let a = o .before .before .before .before .before .before .args in
+    (refl, λ g s l. walk-into (a .t4) (Passed (a .rel .now) (a .senders .now) (a .t4) g (o .loop .gone) s (o .loop .all) l (o .loop .links)) (o .loop .w))
 
 lowest-requires : tie.Need-lowest-requires Inv-loop2 μ-loop2 Inv-loop μ-loop
 lowest-requires c κs = (omega arith, omega arith)
 
 get-requires : tie.Need-get-requires Inv-loop2 μ-loop2 Inv-loop μ-loop
 get-requires c κs =
-    let o = c .before .before .before .before .before .loop .inv in
-    let u = c .before .before .loop2 .inv .2 _ _ _ _ (o .3) in
-    c .before .before .before .before .before .before .before .before .before .before .pre .3 _ (u .part _ (c .lowest .ensures .1 .here))
+    let u = c .before .before in
+    let o = u .before .before .before in
+    let s = o .before .before .before .before .before .before in
+    s .pre .2 _ (u .loop2 .inv .1 _ _ (s .args .links .now) (o .loop .inv .2) .part _ (c .lowest .ensures .1 .here))
 
 difference-requires : tie.Need-difference-requires Inv-loop2 μ-loop2 Inv-loop μ-loop
 difference-requires c κs = tt
 
-spread-requires : tie.Need-spread-requires Inv-loop2 μ-loop2 Inv-loop μ-loop
-spread-requires c κs =
-    let u = c .before .before .before .before .before .before .loop2 .inv in
-    let o = c .before .before .before .before .before .before .before .before .before .loop .inv in
-    let h = c .before .before .before .before .before .before .before .before .before .before .before .before .before .before .pre in
-    (h .0, omega (arith, u .0, o .1, h .1), omega (arith, u .1, o .2, h .2), c .before .before .before .before .lowest .ensures .0)
+follow-requires : tie.Need-follow-requires Inv-loop2 μ-loop2 Inv-loop μ-loop
+follow-requires c κs = (omega arith, omega arith, omega arith)
 
 union-requires : tie.Need-union-requires Inv-loop2 μ-loop2 Inv-loop μ-loop
 union-requires c κs = tt
 
 without-lowest-requires : tie.Need-without-lowest-requires Inv-loop2 μ-loop2 Inv-loop μ-loop
-without-lowest-requires c κs = (omega (arith, c .before .before .before .before .before .before .before .before .before .before .before .before .before .before .loop-test .taken), omega (arith, c .before .before .before .before .before .before .before .before .before .before .before .loop2-test .taken))
+without-lowest-requires c κs = (omega arith, omega arith)
 
 loop2-less : tie.Need-loop2-less Inv-loop2 μ-loop2 Inv-loop μ-loop
 loop2-less c = c .without-lowest .ensures .1
 
 loop2-again : tie.Need-loop2-again Inv-loop2 μ-loop2 Inv-loop μ-loop
 loop2-again c =
-    let u = c .before .before .before .before .before .before .before .before .before .before .before .before .before .loop2 .inv in
-    let l = c .before .before .before .before .before .before .before .before .before .before .before .lowest .ensures .1 in
-    let k = c .before .before .before .before .before .before .spread .kept in (
-      k .1 .0 ∙ u .0,
-      k .1 .1 .0 ∙ u .1,
-      λ f v g s h. levelling-next (mask (c .before .before .before .before .before .before .before .before .before .difference .result)) (u .2 f v g s h) l (c .without-lowest .ensures .0 _ l) (except-of (c .before .before .before .before .before .before .before .before .before .before .get .ensures) (member (mask (c .before .before .before .before .before .before .before .before .before .before .before .before .before .loop2 .gone))) (c .before .before .before .before .before .before .before .before .before .difference .ensures)) (c .before .before .before .before .before .before .spread .ensures) (c .before .union .ensures),
+    let k = c .before .before .before .before in
+    let d = k .before .before in
+    let l = d .before .before .lowest .ensures .1 in
+    let u = d .before .before .before .before .loop2 in (
+      k .follow .kept .1 .0 ∙ u .inv .0,
+      λ g s f h. levelling-next (mask (d .difference .result)) (u .inv .1 g s f h) l (c .without-lowest .ensures .0 _ l)
+          (except-of (d .before .get .ensures) (member (mask (u .gone))) (d .difference .ensures)) (k .follow .ensures) (c .before .union .ensures),
     )
 
 add-w : tie.Need-add-w Inv-loop2 μ-loop2 Inv-loop μ-loop
@@ -91,23 +93,23 @@ loop-less c = omega arith
 
 loop-again : tie.Need-loop-again Inv-loop2 μ-loop2 Inv-loop μ-loop
 loop-again c =
-    let a = c .before .before .before .before .before .before .before .before .before .args in
-    let u = c .before .loop2 .inv in
-    let o = c .before .before .before .before .loop .inv in (
-      omega (arith, c .before .before .before .loop-test .taken),
-      u .0 ∙ o .1,
-      u .1 ∙ o .2,
-      walk-on (a .t5) (λ (n : ℕ). Levelling (a .rel .now) (a .users .now) (mask (a .t5)) n (mask (a .seen)) (mask (c .before .loop2 .gone)) (mask (a .reached)) (mask (c .before .loop2 .all)) (a .from .now) (a .via .now) (c .before .loop2 .from) (c .before .loop2 .via)) (c .before .before .before .before .loop .w) (c .before .loop2 .left) (c .loop2-test .left) (u .2 (a .from .now) (a .via .now) (mask (a .seen)) (mask (a .reached)) (o .3)),
+    let u = c .before .loop2 in
+    let o = c .before .before .before .before in
+    let a = o .before .before .before .before .before .before .args in
+    let b = a .covered in (
+      omega arith,
+      u .inv .0 ∙ o .loop .inv .1,
+      walk-on (a .t4) (Passed (a .rel .now) (a .senders .now) (a .t4) (b .seen) (u .gone) (b .reached) (u .all) (a .links .now) (u .links)) (o .loop .w) (u .left) (c .loop2-test .left)
+          (u .inv .1 (b .seen) (b .reached) (a .links .now) (o .loop .inv .2)),
     )
 
 same-length : tie.Need-same-length Inv-loop2 μ-loop2 Inv-loop μ-loop
 same-length c = c .before .loop .inv .1
 
-same-length-2 : tie.Need-same-length-2 Inv-loop2 μ-loop2 Inv-loop μ-loop
-same-length-2 c = c .before .loop .inv .2
-
 returns : tie.Need-returns Inv-loop2 μ-loop2 Inv-loop μ-loop
-returns c = levelling-end (walk-done (c .before .before .before .before .before .before .args .t5) (c .before .loop .w) (omega arith)) (c .before .loop .inv .3)
+returns c =
+    let o = c .before in
+    levelling-end (walk-done (o .before .before .before .before .before .before .args .t4) (o .loop .w) (omega arith)) (o .loop .inv .2)
 
 pub level-spec : {M : Type 1} → statement M
 level-spec =
@@ -124,7 +126,7 @@ level-spec =
     lowest-requires
     get-requires
     difference-requires
-    spread-requires
+    follow-requires
     union-requires
     without-lowest-requires
     loop2-less
@@ -133,5 +135,4 @@ level-spec =
     loop-less
     loop-again
     same-length
-    same-length-2
     returns)

@@ -30,11 +30,17 @@ returns-5 c = refuses (λ t. omega (arith, t .cut-place, c .if5 .taken))
 returns-6 : tie.Need-returns-6
 returns-6 c = refuses (λ t. omega (arith, t .paths-place, c .if6 .taken))
 
+cast-if7 : tie.Need-cast-if7
+cast-if7 c = search needs
+
 total-weight-requires : tie.Need-total-weight-requires
 total-weight-requires c κs = search needs
 
 returns-7 : tie.Need-returns-7
 returns-7 c = refuses (λ t. omega (arith, t .given .total-ws, c .if7 .taken, c .before .total-weight .ensures))
+
+cast-if8 : tie.Need-cast-if8
+cast-if8 c = search needs
 
 total-weight-requires-2 : tie.Need-total-weight-requires-2
 total-weight-requires-2 c κs = search needs
@@ -55,8 +61,10 @@ accepts-spec =
     returns-4
     returns-5
     returns-6
+    cast-if7
     total-weight-requires
     returns-7
+    cast-if8
     total-weight-requires-2
     returns-8
     returns-9)

@@ -7,8 +7,8 @@ use Rattle.transport_c.proofs.transport_flow.Tie as tie
 accepts-requires : tie.Need-accepts-requires
 accepts-requires c κs = search needs
 
-counted-requires : tie.Need-counted-requires
-counted-requires c κs = c .before .before .accepts .ensures .taken (c .before .if1 .taken) .given
+maximum-flow-requires : tie.Need-maximum-flow-requires
+maximum-flow-requires c κs = c .before .before .accepts .ensures .taken (c .before .if1 .taken) .given
 
 put-requires : tie.Need-put-requires
 put-requires c κs =
@@ -31,9 +31,9 @@ same-length-3 c = search needs
 
 returns : tie.Need-returns
 returns c =
-    let at-counted = c .before .before .before .before .before .before in
-    let at-if1 = at-counted .before .before in
-    let (answered, counts) = at-counted .counted .ensures in
+    let at-flow = c .before .before .before .before .before .before in
+    let at-if1 = at-flow .before .before in
+    let (answered, counts) = at-flow .maximum-flow .ensures in
     record { answered = λ _. (refl, _, _, c .before .before .put .ensures, refl, answered, counts); refused = λ not-taken. absurd (not-taken (at-if1 .before .accepts .ensures .taken (at-if1 .if1 .taken))) }
 
 same-length-4 : tie.Need-same-length-4
@@ -53,7 +53,7 @@ transport-flow-spec =
     tie.close
     (tie.spec
     accepts-requires
-    counted-requires
+    maximum-flow-requires
     put-requires
     slice-write-paths
     same-length

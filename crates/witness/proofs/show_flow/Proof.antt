@@ -11,27 +11,30 @@ use Rattle.witness.proofs.show_flow.Tie as tie
 flow-room-requires : tie.Need-flow-room-requires
 flow-room-requires c κs = search needs
 
+abbrev entry : tie.After-flow-room → tie.Start
+entry d = d .before .before .before .before .before
+
 cast-refused : tie.Need-cast-refused
 cast-refused c =
-    let p = c .before .before .before .before .before .before .before .pre in
-    omega (arith, c .before .flow-room .ensures, room-limit _ _ (p .ready .ranked .first-loaded) (p .ready .ranked .second-loaded) _ (p .first))
+    let p = entry (c .before) .pre in
+    omega (arith, c .before .flow-room .ensures, room-limit _ _ (p .loaded .first) (p .loaded .second) _ (p .first))
 
 refused-requires : tie.Need-refused-requires
 refused-requires c κs = search needs
 
 returns : tie.Need-returns
 returns c =
-    let p = c .before .before .before .before .before .before .before .before .pre in
+    let p = entry (c .before .before) .pre in
     flow-refused _ _ _ _ _ _ (p .first) (p .second) (p .kept) (c .before .before .flow-room .ensures) (c .before .if1 .taken) (c .refused .ensures)
 
-flow-requires : tie.Need-flow-requires
-flow-requires c κs = let p = c .before .before .before .before .before .before .before .before .before .pre in (p, omega (arith, c .before .before .before .flow-room .ensures))
+put-flows-requires : tie.Need-put-flows-requires
+put-flows-requires c κs = let p = entry (c .before .before .before) .pre in (p, omega (arith, c .before .before .before .flow-room .ensures))
 
 cast-with-written : tie.Need-cast-with-written
 cast-with-written c =
-    let p = c .before .before .before .before .before .before .before .before .before .before .before .before .before .before .pre in
-    let f = c .before .before .before .before .flow .ensures .0 in
-    omega (arith, f .filled .count, flow-within p (f .amounts), room-limit _ _ (p .ready .ranked .first-loaded) (p .ready .ranked .second-loaded) _ (p .first))
+    let p = entry (c .before .before .before .before .before .before .before .before) .pre in
+    let f = c .before .before .before .before .put-flows .ensures in
+    omega (arith, f .filled .count, flow-within p (f .amounts), room-limit _ _ (p .loaded .first) (p .loaded .second) _ (p .first))
 
 with-written-requires : tie.Need-with-written-requires
 with-written-requires c κs = search needs
@@ -45,7 +48,7 @@ same-length-2 c = search needs
 returns-2 : tie.Need-returns-2
 returns-2 c =
     let d = c .before .before .before .before .before in
-    flow-shown _ _ _ _ _ _ (d .before .before .before .before .flow-room .ensures) (omega arith) (d .flow .ensures .0) (c .with-written .ensures)
+    flow-shown _ _ _ _ _ _ (d .before .before .before .before .flow-room .ensures) (omega arith) (d .put-flows .ensures) (c .with-written .ensures)
 
 pub show-flow-spec : {M : Type 1} → statement M
 show-flow-spec =
@@ -55,7 +58,7 @@ show-flow-spec =
     cast-refused
     refused-requires
     returns
-    flow-requires
+    put-flows-requires
     cast-with-written
     with-written-requires
     same-length

@@ -1,10 +1,14 @@
--- `witness::tree_length` meets its contract: there is room for all pairs. Assumes nothing.
+-- `witness::tree_length` meets its contract: there is room for all pairs.
+-- Assumes nothing.
 use native.Mathlib.Omega.{arith}
 use borrow.Author.Needs.{needs}
 use Rattle.form.proofs.FormLaws.{few-pairs}
 use Rattle.witness.proofs.Showing.{count-is, count-small}
 use Rattle.witness.proofs.tree_length.Statement.{statement}
 use Rattle.witness.proofs.tree_length.Tie as tie
+
+abbrev entry : tie.After-states2 → tie.Start
+entry d = d .before .before .before .before .before .before .before
 
 states-requires : tie.Need-states-requires
 states-requires c κs = search needs
@@ -14,17 +18,22 @@ states-requires-2 c κs = search needs
 
 mul-if1 : tie.Need-mul-if1
 mul-if1 c =
-    let p = c .before .before .before .before .before .before .before .before .before .pre in
-    omega (arith, count-small _ _ (p .0 .first-loaded) (p .0 .second-loaded) (c .before .states .ensures) (c .states2 .ensures))
+    let l = entry c .pre .0 .loaded in
+    omega (arith, count-small _ _ (l .first) (l .second) (c .before .states .ensures) (c .states2 .ensures))
 
 slice-aggregate-tree-length : tie.Need-slice-aggregate-tree-length
 slice-aggregate-tree-length c = search needs
 
 tree-length-requires : tie.Need-tree-length-requires
 tree-length-requires c κs =
-    let p = c .before .before .before .before .before .before .before .before .before .before .before .before .before .before .before .pre in
-    let n = count-is _ _ (p .0 .first-loaded) (p .0 .second-loaded) (c .before .before .before .before .before .before .before .states .ensures) (c .before .before .before .before .before .before .states2 .ensures) in
-    (p .0, p .1, p .2, omega (arith, n, c .before .before .before .before .before .if1 .taken, slice-aggregate-tree-length (c .before .before .before .before)), p .3, p .4)
+    let at-order = c .before .before .before in
+    let d = at-order .before .before in
+    let p = entry d .pre in
+    let n = count-is _ _ (p .0 .loaded .first) (p .0 .loaded .second) (d .before .states .ensures) (d .states2 .ensures) in (
+      record { ranked = p .0; room = omega (arith, n, at-order .before .if1 .taken, slice-aggregate-tree-length at-order); notes = p .3; amounts-room = p .2 },
+      p .1,
+      p .4,
+    )
 
 same-length : tie.Need-same-length
 same-length c = search needs
@@ -35,9 +44,6 @@ same-length-2 c = search needs
 same-length-3 : tie.Need-same-length-3
 same-length-3 c = search needs
 
-same-length-4 : tie.Need-same-length-4
-same-length-4 c = search needs
-
 returns : tie.Need-returns
 returns c = search needs
 
@@ -46,20 +52,19 @@ slice-aggregate-tree-length-2 c = search needs
 
 tree-length-requires-2 : tie.Need-tree-length-requires-2
 tree-length-requires-2 c κs =
-    let p = c .before .before .before .before .before .before .before .before .before .before .before .before .before .before .before .pre in
-    (p .0, p .1, p .2, omega (arith, few-pairs _ _ (p .0 .first-loaded) (p .0 .second-loaded), slice-aggregate-tree-length-2 (c .before .before .before .before)), p .3, p .4)
+    let at-order = c .before .before .before in
+    let p = entry (at-order .before .before) .pre in
+    let l = p .0 .loaded in
+    (record { ranked = p .0; room = omega (arith, few-pairs _ _ (l .first) (l .second), slice-aggregate-tree-length-2 at-order); notes = p .3; amounts-room = p .2 }, p .1, p .4)
+
+same-length-4 : tie.Need-same-length-4
+same-length-4 c = search needs
 
 same-length-5 : tie.Need-same-length-5
 same-length-5 c = search needs
 
 same-length-6 : tie.Need-same-length-6
 same-length-6 c = search needs
-
-same-length-7 : tie.Need-same-length-7
-same-length-7 c = search needs
-
-same-length-8 : tie.Need-same-length-8
-same-length-8 c = search needs
 
 returns-2 : tie.Need-returns-2
 returns-2 c = search needs
@@ -76,12 +81,10 @@ tree-length-spec =
     same-length
     same-length-2
     same-length-3
-    same-length-4
     returns
     slice-aggregate-tree-length-2
     tree-length-requires-2
+    same-length-4
     same-length-5
     same-length-6
-    same-length-7
-    same-length-8
     returns-2)

@@ -1,8 +1,10 @@
 -- `count::add_row` meets its contract: the members passed are counted. Assumes nothing.
 use mathlib.Core.List.{List}
-use Prim.Native.Nat.{ℕ, _≤_, _-_}
+use Prim.Native.Nat.{ℕ, _+_, _*_, _-_, _≤_, _<_}
 use native.Mathlib.Omega.{arith}
 use native.Mathlib.Nat.{mul-le-mul-left}
+use lib.ListN.{length}
+use Rattle.simulation.specs.Limits.{most-pairs}
 use Rattle.relation.specs.Words.{words, mask, after, rest}
 use Rattle.relation.proofs.Sets.{walk-begin, walk-into, walk-on, walk-done}
 use Rattle.counting.specs.Count.{Within}
@@ -26,6 +28,24 @@ abbrev μ-loop : tie.MeasureT-loop
 μ-loop counts₀ width s c members base w₀ counts w =
     words - w
 
+-- places of the code from the lowest member left
+abbrev outer : tie.After-lowest Inv-loop2 μ-loop2 Inv-loop μ-loop → tie.At-loop Inv-loop2 μ-loop2 Inv-loop μ-loop
+outer l = l .before .before .before .before .before
+
+abbrev entry : tie.After-lowest Inv-loop2 μ-loop2 Inv-loop μ-loop → tie.Start Inv-loop2 μ-loop2 Inv-loop μ-loop
+entry l = outer l .before .before
+
+-- what is counted before it, and its place
+on : (l : tie.After-lowest Inv-loop2 μ-loop2 Inv-loop μ-loop) → let a = entry l .args in let u = l .before .before .loop2 in
+    RowLoop (a .width) (a .s) (mask (a .t4)) (a .c) (a .counts .now) (u .counts) (rest (outer l .loop .w) (u .left) (a .t4))
+on l = l .before .before .loop2 .inv _ (entry l .pre) (outer l .loop .inv .1)
+
+small : (l : tie.After-lowest Inv-loop2 μ-loop2 Inv-loop μ-loop) → let a = entry l .args in a .s * a .width + l .lowest .result < most-pairs
+small l = member-small (entry l .pre) (on l) (l .lowest .ensures .1)
+
+place : (l : tie.After-lowest Inv-loop2 μ-loop2 Inv-loop μ-loop) → let a = entry l .args in a .s * a .width + l .lowest .result < length (l .before .before .loop2 .counts)
+place l = member-place (entry l .pre) (on l) (l .lowest .ensures .1)
+
 mul-base : tie.Need-mul-base Inv-loop2 μ-loop2 Inv-loop μ-loop
 mul-base c =
     let p = c .before .pre in omega (arith, p .narrow, p .low, mul-le-mul-left (c .before .args .s) (p .narrow))
@@ -43,57 +63,30 @@ element-copy-out-left c = omega arith
 
 loop2-holds : tie.Need-loop2-holds Inv-loop2 μ-loop2 Inv-loop μ-loop
 loop2-holds c =
-    let entry = c .before .before .before .before in
-    λ l _ h.
-    let a = entry .args in
+    let a = c .before .before .before .before .args in
     let o = c .before .before .loop in
-    walk-into (a .t4) (λ (n : ℕ). RowLoop (a .width) (a .s) (mask (a .t4)) (a .c) l (o .counts) n) (o .w) h
+    λ l _ h. walk-into (a .t4) (λ (n : ℕ). RowLoop (a .width) (a .s) (mask (a .t4)) (a .c) l (o .counts) n) (o .w) h
 
 lowest-requires : tie.Need-lowest-requires Inv-loop2 μ-loop2 Inv-loop μ-loop
 lowest-requires c κs = (omega arith, omega arith)
 
 add-at : tie.Need-add-at Inv-loop2 μ-loop2 Inv-loop μ-loop
-add-at c =
-    let at-loop = c .before .before .before .before .before in
-    let entry = at-loop .before .before in
-    let v = c .before .before .loop2 .inv _ (entry .pre) (at-loop .loop .inv .1) in
-    omega (arith, member-small (entry .pre) v (c .lowest .ensures .1))
+add-at c = omega (arith, small c)
 
 mul-more : tie.Need-mul-more Inv-loop2 μ-loop2 Inv-loop μ-loop
-mul-more c =
-    let at-loop = c .before .before .before .before .before in
-    let entry = at-loop .before .before in
-    let v = c .before .before .loop2 .inv _ (entry .pre) (at-loop .loop .inv .1) in
-    omega (arith, member-small (entry .pre) v (c .lowest .ensures .1))
+mul-more c = omega (arith, small c)
 
 slice-read-more : tie.Need-slice-read-more Inv-loop2 μ-loop2 Inv-loop μ-loop
-slice-read-more c =
-    let at-loop2 = c .before .before .before in
-    let at-loop = at-loop2 .before .before .before in
-    let entry = at-loop .before .before in
-    member-place (entry .pre) (at-loop2 .loop2 .inv _ (entry .pre) (at-loop .loop .inv .1)) (c .before .lowest .ensures .1)
+slice-read-more c = place (c .before)
 
 add-more : tie.Need-add-more Inv-loop2 μ-loop2 Inv-loop μ-loop
-add-more c =
-    let at-loop2 = c .before .before .before in
-    let at-loop = at-loop2 .before .before .before in
-    let entry = at-loop .before .before in
-    record { fits = member-fits (entry .pre) (at-loop2 .loop2 .inv _ (entry .pre) (at-loop .loop .inv .1)) (c .before .lowest .ensures .1) }
+add-more c = let l = c .before in record { fits = member-fits (entry l .pre) (on l) (l .lowest .ensures .1) }
 
 mul-counts : tie.Need-mul-counts Inv-loop2 μ-loop2 Inv-loop μ-loop
-mul-counts c =
-    let at-loop2 = c .before .before .before in
-    let at-loop = at-loop2 .before .before .before in
-    let entry = at-loop .before .before in
-    let v = at-loop2 .loop2 .inv _ (entry .pre) (at-loop .loop .inv .1) in
-    omega (arith, member-small (entry .pre) v (c .before .lowest .ensures .1))
+mul-counts c = omega (arith, small (c .before))
 
 slice-write-counts : tie.Need-slice-write-counts Inv-loop2 μ-loop2 Inv-loop μ-loop
-slice-write-counts c =
-    let at-loop2 = c .before .before .before in
-    let at-loop = at-loop2 .before .before .before in
-    let entry = at-loop .before .before in
-    member-place (entry .pre) (at-loop2 .loop2 .inv _ (entry .pre) (at-loop .loop .inv .1)) (c .before .lowest .ensures .1)
+slice-write-counts c = place (c .before)
 
 without-lowest-requires : tie.Need-without-lowest-requires Inv-loop2 μ-loop2 Inv-loop μ-loop
 without-lowest-requires c κs =
@@ -105,8 +98,8 @@ loop2-less c = c .without-lowest .ensures .1
 
 loop2-again : tie.Need-loop2-again Inv-loop2 μ-loop2 Inv-loop μ-loop
 loop2-again c =
-    let at-loop2 = c .before .before .before .before in
-    λ l g h. let low = c .before .before .lowest .ensures .1 in row-turn g (at-loop2 .loop2 .inv l g h) low (c .without-lowest .ensures .0 _ low)
+    let low = c .before .before .lowest .ensures .1 in
+    λ l g h. row-turn g (c .before .before .before .before .loop2 .inv l g h) low (c .without-lowest .ensures .0 _ low)
 
 add-w : tie.Need-add-w Inv-loop2 μ-loop2 Inv-loop μ-loop
 add-w c = omega arith
@@ -117,8 +110,7 @@ loop-less c = omega arith
 loop-again : tie.Need-loop-again Inv-loop2 μ-loop2 Inv-loop μ-loop
 loop-again c =
     let at-loop = c .before .before .before .before in
-    let entry = at-loop .before .before in
-    let d = entry in
+    let d = at-loop .before .before in
     let a = d .args in
     let u = c .before .loop2 in
     let o = at-loop .loop in
@@ -129,8 +121,7 @@ same-length c = c .before .loop .inv .1 .size
 
 returns : tie.Need-returns Inv-loop2 μ-loop2 Inv-loop μ-loop
 returns c =
-    let entry = c .before .before .before in
-    row-end (c .before .loop .inv .1) (walk-done (entry .args .t4) (c .before .loop .w) (omega arith))
+    row-end (c .before .loop .inv .1) (walk-done (c .before .before .before .args .t4) (c .before .loop .w) (omega arith))
 
 pub add-row-spec : {M : Type 1} → statement M
 add-row-spec =

@@ -7,14 +7,14 @@ use native.Mathlib.Nat.{mul-le-mul-left}
 use borrow.Author.Needs.{needs}
 use Rattle.simulation.specs.Limits.{most-states, most-pairs}
 use Rattle.simulation.specs.Table.{states-of}
+use Rattle.form.specs.Tables.{second-form, second-table, BothLoaded}
 use Rattle.form.proofs.FormLaws.{limits}
-use Rattle.form.specs.Form.{Loaded, table-of}
 use Rattle.counting.proofs.pair.number.Statement.{statement}
 use Rattle.counting.proofs.pair.number.Tie as tie
 
-small : (f : List ℕ) (s n : ℕ) → Loaded f → s < most-states → n ≡ states-of (table-of f) → s * n ≤ most-pairs - most-states
-small f s n l a e =
-    omega (arith, mul-le-mul-left s (let h : n ≤ most-states = omega (arith, limits f l .states-few) in h))
+small : (tables : List ℕ) (s n : ℕ) → BothLoaded tables → s < most-states → n ≡ states-of (second-table tables) → s * n ≤ most-pairs - most-states
+small tables s n b a e =
+    omega (arith, mul-le-mul-left s (let h : n ≤ most-states = omega (arith, limits (second-form tables) (b .second) .states-few) in h))
 
 states-requires : tie.Need-states-requires
 states-requires c κs = search needs
@@ -22,17 +22,18 @@ states-requires c κs = search needs
 mul-result : tie.Need-mul-result
 mul-result c =
     let entry = c .before .before in
-    record { fits = omega (arith, small (entry .args .second .now) (entry .args .s) _ (entry .pre .0) (entry .pre .1) (c .states .ensures)) }
+    record { fits = omega (arith, small (entry .args .tables .now) (entry .args .s) _ (entry .pre .0) (entry .pre .1) (c .states .ensures)) }
 
 add-result : tie.Need-add-result
 add-result c =
     let entry = c .before .before in
-    record { fits = omega (arith, small (entry .args .second .now) (entry .args .s) _ (entry .pre .0) (entry .pre .1) (c .states .ensures), entry .pre .2) }
+    record { fits = omega (arith, small (entry .args .tables .now) (entry .args .s) _ (entry .pre .0) (entry .pre .1) (c .states .ensures), entry .pre .2) }
 
 returns : tie.Need-returns
 returns c =
     let entry = c .before .before in
-    (ap (λ (n : ℕ). entry .args .s * n + entry .args .t) (c .states .ensures), omega (arith, small (entry .args .second .now) (entry .args .s) _ (entry .pre .0) (entry .pre .1) (c .states .ensures), entry .pre .2))
+    let low = small (entry .args .tables .now) (entry .args .s) _ (entry .pre .0) (entry .pre .1) (c .states .ensures) in
+    (ap (λ (n : ℕ). entry .args .s * n + entry .args .t) (c .states .ensures), omega (arith, low, entry .pre .2))
 
 pub number-spec : {M : Type 1} → statement M
 number-spec = tie.close (tie.spec states-requires mul-result add-result returns)

@@ -26,7 +26,7 @@ put-head-requires c κs =
     let q = k .pre .1 in
     let w = c .before .before .before .put-records .ensures in (
       k .pre .0,
-      omega (arith, bytes-few (a .mt .now) (a .nt .now) (cell (a .x .now)) _ (q .rows) (q .few) (w .count)),
+      omega (arith, bytes-few (a .mt .now) (a .nt .now) (cell (a .amounts .now)) _ (q .rows) (q .few) (w .count)),
       back-room 3 (a .buf .now)
           (c .before .before .before .put-records .last .1 .1 .1 .0) (omega arith),
     )
@@ -37,7 +37,7 @@ add-result c =
     let a = k .args in
     let q = k .pre .1 in
     let w = c .before .before .before .before .before .before .put-records .ensures in
-    omega (arith, bytes-few (a .mt .now) (a .nt .now) (cell (a .x .now)) _ (q .rows) (q .few) (w .count))
+    omega (arith, bytes-few (a .mt .now) (a .nt .now) (cell (a .amounts .now)) _ (q .rows) (q .few) (w .count))
 
 same-length : tie.Need-same-length
 same-length c = search needs
@@ -46,7 +46,7 @@ returns : tie.Need-returns
 returns c =
     let k = c .before .before .before .before .before .before .before .before .before .before .before .before in
     let a = k .args in
-    head-before (a .place) (a .mt .now) (a .nt .now) (cell (a .x .now)) (a .buf .now) (omega arith)
+    head-before (a .place) (a .mt .now) (a .nt .now) (cell (a .amounts .now)) (a .buf .now) (omega arith)
     (c .before .before .before .before .before .before .put-records .ensures) (c .before .before .put-head .ensures)
 
 pub put-one-spec : {M : Type 1} → statement M

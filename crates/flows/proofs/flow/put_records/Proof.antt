@@ -17,9 +17,9 @@ Inv-loop mt nt x buf₀ at₀ i₀ i-end buf at i = Going [] (row-at mt nt (cell
 abbrev μ-loop : tie.MeasureT-loop
 μ-loop mt nt x buf₀ at₀ i₀ i-end buf at i = length mt - i
 
-plan : (k : tie.Start Inv-loop μ-loop) → Plan [] (row-at (k .args .mt .now) (k .args .nt .now) (cell (k .args .x .now)))
+plan : (k : tie.Start Inv-loop μ-loop) → Plan [] (row-at (k .args .mt .now) (k .args .nt .now) (cell (k .args .amounts .now)))
     (λ i. length (k .args .nt .now) * 6) (length (k .args .mt .now)) (k .args .buf .now)
-plan k = records-plan (k .args .mt .now) (k .args .nt .now) (cell (k .args .x .now)) (k .args .buf .now) (k .pre .1)
+plan k = records-plan (k .args .mt .now) (k .args .nt .now) (cell (k .args .amounts .now)) (k .args .buf .now) (k .pre .1)
 
 loop-holds : tie.Need-loop-holds Inv-loop μ-loop
 loop-holds c = let k = c .before .before .before .before in going-start (plan k) (record { count = refl; bytes = refl })
@@ -77,7 +77,7 @@ returns : tie.Need-returns Inv-loop μ-loop
 returns c =
     let l = c .before in
     let k = l .before .before .before .before .before in
-    records-done (k .args .mt .now) (k .args .nt .now) (cell (k .args .x .now)) (going-end (plan k) (l .loop .inv) (omega arith))
+    records-done (k .args .mt .now) (k .args .nt .now) (cell (k .args .amounts .now)) (going-end (plan k) (l .loop .inv) (omega arith))
 
 pub put-records-spec : {M : Type 1} → statement M
 put-records-spec =

@@ -1,41 +1,44 @@
 -- `flows::flow::put_step` meets its contract. Assumes nothing.
+use Prim.Native.Nat.{_+_, _<_}
 use native.Mathlib.Omega.{arith}
 use borrow.Author.Needs.{needs}
+use Rattle.form.specs.Form.{transitions-of}
+use Rattle.form.specs.Tables.{second-form}
 use Rattle.form.proofs.FormLaws.{limits}
 use Rattle.flows.proofs.FlowStep.{step-number, step-asked, step-shown}
 use Rattle.flows.proofs.flow.put_step.Statement.{statement}
 use Rattle.flows.proofs.flow.put_step.Tie as tie
 
-find-requires : tie.Need-find-requires
-find-requires c κs = search needs
+first-fit-requires : tie.Need-first-fit-requires
+first-fit-requires c κs = search needs
 
-first-requires : tie.Need-first-requires
-first-requires c κs = search needs
+start-of-requires : tie.Need-start-of-requires
+start-of-requires c κs = search needs
 
-add-j : tie.Need-add-j
-add-j c =
-    let k = c .before .before .before .before .before .before .before .before .before .before in
-    omega (
-      arith,
-      step-number (k .pre .0) (c .before .before .before .find .ensures) (c .first .ensures),
-      limits (k .args .second .now)
-          (k .pre .0 .ready .ranked .second-loaded) .transitions-few,
-    )
+abbrev entry : tie.After-start-of → tie.Start
+entry d = d .before .before .before .before .before .before .before .before .before
+
+-- the number of the transition found
+number : (d : tie.After-start-of) → d .start-of .result + d .before .before .before .first-fit .result < transitions-of (second-form (entry d .args .tables .now))
+number d = step-number (entry d .pre .0) (d .before .before .before .first-fit .ensures) (d .start-of .ensures)
+
+add-l : tie.Need-add-l
+add-l c =
+    let k = entry c in
+    omega (arith, number c, limits (second-form (k .args .tables .now)) (k .pre .0 .loaded .second) .transitions-few)
 
 targets-requires : tie.Need-targets-requires
 targets-requires c κs = search needs
 
 targets-requires-2 : tie.Need-targets-requires-2
-targets-requires-2 c κs =
-    let k = c .before .before .before .before .before .before .before .before .before .before .before in
-    (k .pre .0 .ready .ranked .second-loaded, step-number (k .pre .0) (c .before .before .before .before .find .ensures) (c .before .first .ensures))
+targets-requires-2 c κs = (entry (c .before) .pre .0 .loaded .second, number (c .before))
 
 put-one-requires : tie.Need-put-one-requires
 put-one-requires c κs =
-    let k = c .before .before .before .before .before .before .before .before .before .before .before .before .before .before in
-    let g = c .before .before .before .before in
-    step-asked (k .pre .0) (g .before .before .before .find .ensures) (g .first .ensures) (c .before .before .before .targets .ensures)
-    (c .before .before .targets2 .ensures) (k .pre .1)
+    let d = c .before .before .before .before in
+    let k = entry d in
+    step-asked (k .pre .0) (d .before .before .before .first-fit .ensures) (d .start-of .ensures) (c .before .before .before .targets .ensures)
+    (c .before .before .targets2 .ensures) (d .before .before .amounts .given) (k .pre .2)
 
 same-length : tie.Need-same-length
 same-length c = search needs
@@ -45,19 +48,19 @@ same-length-2 c = search needs
 
 returns : tie.Need-returns
 returns c =
-    let k = c .before .before .before .before .before .before .before .before .before .before .before .before .before .before .before .before .before in
     let n = c .before .before .before .before .before in
-    let g = n .before .before in
-    step-shown (k .pre .0) (g .before .before .before .find .ensures) (g .first .ensures) (n .before .targets .ensures) (n .targets2 .ensures)
-    (c .before .before .put-one .ensures)
+    let d = n .before .before in
+    let k = entry d in
+    step-shown (k .pre .0) (d .before .before .before .first-fit .ensures) (d .start-of .ensures) (n .before .targets .ensures) (n .targets2 .ensures)
+    (k .pre .1) (c .before .before .put-one .ensures)
 
 pub put-step-spec : {M : Type 1} → statement M
 put-step-spec =
     tie.close
     (tie.spec
-    find-requires
-    first-requires
-    add-j
+    first-fit-requires
+    start-of-requires
+    add-l
     targets-requires
     targets-requires-2
     put-one-requires

@@ -29,16 +29,16 @@ cast-t : tie.Need-cast-t Inv-loop μ-loop
 cast-t c = omega (arith, c .shared-slice-known3 .given (c .before .before .loop .j))
 
 mul-rank : tie.Need-mul-rank Inv-loop μ-loop
-mul-rank c = omega (arith, c .before .before .before .before .before .pre .1 (c .before .before .loop .j) (omega arith))
+mul-rank c = let l = c .before .before in omega (arith, l .before .before .before .pre .1 (l .loop .j) (omega arith))
 
 add-rank : tie.Need-add-rank Inv-loop μ-loop
-add-rank c = omega (arith, c .before .before .before .before .before .pre .1 (c .before .before .loop .j) (omega arith))
+add-rank c = let l = c .before .before in omega (arith, l .before .before .before .pre .1 (l .loop .j) (omega arith))
 
 mul-rank-2 : tie.Need-mul-rank-2 Inv-loop μ-loop
-mul-rank-2 c = omega (arith, c .before .before .before .before .before .pre .1 (c .before .before .loop .j) (omega arith))
+mul-rank-2 c = let l = c .before .before in omega (arith, l .before .before .before .pre .1 (l .loop .j) (omega arith))
 
 shared-slice-read-rank : tie.Need-shared-slice-read-rank Inv-loop μ-loop
-shared-slice-read-rank c = omega (arith, c .before .before .before .before .before .before .pre .1 (c .before .before .before .loop .j) (omega arith))
+shared-slice-read-rank c = let l = c .before .before .before in omega (arith, l .before .before .before .pre .1 (l .loop .j) (omega arith))
 
 lasts-requires : tie.Need-lasts-requires Inv-loop μ-loop
 lasts-requires c κs = tt

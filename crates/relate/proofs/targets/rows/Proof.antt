@@ -18,7 +18,7 @@ rows-requires c κs =
     let at-targets2 = c .before in
     let at-targets = at-targets2 .before in
     let at-states = at-targets .before in
-    let entry = at-states .before .before .before .before .before in
+    let entry = at-states .before .before .before .before in
     rows-asked _ _ (entry .pre .0) (entry .pre .1) (entry .pre .2) (at-targets .targets .ensures) (at-targets2 .targets2 .ensures) (entry .args .rel .now) (at-states .states .ensures) (entry .pre .3)
 
 same-length : tie.Need-same-length
@@ -30,7 +30,7 @@ returns c =
     let at-targets2 = at-rows .before .before in
     let at-targets = at-targets2 .before in
     let at-states = at-targets .before in
-    let entry = at-states .before .before .before .before .before in
+    let entry = at-states .before .before .before .before in
     rows-found _ _ (entry .pre .0) (entry .pre .1) (entry .pre .2) (at-targets .targets .ensures) (at-targets2 .targets2 .ensures) (at-states .states .ensures) (at-rows .rows .ensures)
 
 pub rows-spec : {M : Type 1} → statement M

@@ -1,18 +1,19 @@
--- The cycle of calls {write_around, write_node, write_transition}. The levels fall from a transition to the nodes of its children.
+-- The cycle of calls {write_around, write_node, write_transition}. The limit falls from a transition to the nodes of its children, which get half of it.
 -- Each answer stands in the order of the code.
 -- Assumes nothing.
 use mathlib.Core.Path.{refl, sym, ap, _∙_}
-use Prim.Native.Nat.{_+_, _-_, ℕ, _≤_, _<_}
+use Prim.Native.Nat.{_+_, _-_, _*_, ℕ, _≤_, _<_}
 use native.Mathlib.Nat.{le-refl, pos-of-ne-zero}
 use native.Mathlib.Omega.{arith}
 use lib.ListN.{length, length-set}
-use Rattle.form.specs.Form.{transition-at}
+use Rattle.form.specs.Tables.{first-step}
 use Rattle.form.proofs.FormLaws.{targets-length}
 use Rattle.relation.specs.Words.{words, mask, rest as left-of, after}
-use Rattle.relation.proofs.Sets.{after-all, after-rest, rest-after, walk-done}
-use Rattle.choice.proofs.Choices.{choice-number}
-use Rattle.tree.proofs.Nodes.{pair-lost, count-byte, NodeLoop, node-room, node-begins, node-same, node-asked, turn-room, node-step, node-next, node-ends}
-use Rattle.tree.proofs.Steps.{AroundLoop, begin-given, around-begins, around-levels, few-children, stack-room, number-known, place-known, entry-room, entry-piece, sum-given, child-fits, child-room, child-given, join-fits, around-next, around-ends, HoleLoop, hole-begins, hole-room, hole-step, hole-short, hole-less, hole-fits, hole-next, hole-ends}
+use Rattle.relation.proofs.Sets.{after-all, after-rest, walk-done}
+use Rattle.tree.proofs.Slots.{slot-lent}
+use Rattle.tree.proofs.Nodes.{count-byte, word-next, word-done, kept-all, kept-then, NodeLoop, Next, node-room, node-begins, node-same, node-asked, turn-slot, node-step, node-joins, node-next, node-ends}
+use Rattle.tree.proofs.Steps.{AroundLoop, Child, step-long, begin-given, begin-number, around-begins, stack-room, number-known, place-known, entry-slot, sum-given, child-slot, child-fits, child-given, join-fits, around-next, around-ends}
+use Rattle.tree.proofs.Holes.{HoleLoop, hole-begins, hole-room, hole-step, hole-short, hole-less, hole-fits, hole-next, hole-ends}
 use borrow.Fn.Kinds.{In}
 use borrow.Fn.PlainCycle.{Measures, is, falls, and}
 use Rattle.tree.proofs.write.write_around.Reads as write-around
@@ -24,241 +25,231 @@ use Rattle.tree.proofs.write.+write_around+write_node+write_transition.
 use Rattle.tree.proofs.write.write_transition.Reads as write-transition
 use Rattle.tree.proofs.write.write_transition.Kinds as write-transition-kinds
 use Rattle.tree.proofs.write.+write_around+write_node+write_transition.Lts-write_transition as write-transition-lts
+use Rattle.form.proofs.tables.targets.Reads as targets-reads
+use Rattle.measure.proofs.node_length.Reads as node-length-reads
+use Rattle.measure.proofs.pair_length.Reads as pair-length-reads
 use Rattle.relation.proofs.rows.get.Reads as get-reads
 use Rattle.relation.proofs.set.count.Reads as count-reads
 use Rattle.relation.proofs.walk.lowest.Reads as lowest-reads
 use Rattle.relation.proofs.walk.without_lowest.Reads as without-lowest-reads
-use Rattle.form.proofs.targets.Reads as targets-reads
 use Rattle.tree.proofs.write.begin_transition.Reads as begin-transition-reads
 use Rattle.tree.proofs.write.join.Reads as join-reads
-use Rattle.measure.proofs.node_length.Reads as node-length-reads
-use Rattle.measure.proofs.pair_length.Reads as pair-length-reads
 use Rattle.tree.proofs.write.put_entry.Reads as put-entry-reads
 use Rattle.tree.proofs.write.+write_around+write_node+write_transition.{statement}
 use Rattle.tree.proofs.write.+write_around+write_node+write_transition.Tie.{close}
 
-abbrev μ-write-around : Measures 9 write-around-kinds.ps ℕ
-μ-write-around κs a = a .1 .1 .1 .1 .1 .0 + a .1 .1 .1 .1 .1 .0 + a .1 .1 .1 .1 .1 .0
+abbrev μ-write-around : Measures 7 write-around-kinds.ps ℕ
+μ-write-around κs a = 3 * (a .1 .1 .1 .1 .0 .limit) + 1
 
-abbrev μ-write-node : Measures 9 write-node-kinds.ps ℕ
-μ-write-node κs a = a .1 .1 .1 .1 .1 .0 + a .1 .1 .1 .1 .1 .0 + a .1 .1 .1 .1 .1 .0 + 2
+abbrev μ-write-node : Measures 7 write-node-kinds.ps ℕ
+μ-write-node κs a = 3 * (a .1 .1 .1 .1 .0 .half) + 3
 
-abbrev μ-write-transition : Measures 9 write-transition-kinds.ps ℕ
-μ-write-transition κs a = a .1 .1 .1 .1 .1 .0 + a .1 .1 .1 .1 .1 .0 + a .1 .1 .1 .1 .1 .0 + 1
+abbrev μ-write-transition : Measures 7 write-transition-kinds.ps ℕ
+μ-write-transition κs a = 3 * (a .1 .1 .1 .1 .0 .limit) + 2
 
-abbrev write-around-at : ℕ → In 9 write-around-kinds.ps
+abbrev write-around-at : ℕ → In 7 write-around-kinds.ps
 write-around-at t =
-    and 9 write-around-kinds.ps (is 9 write-around-kinds.ps μ-write-around t) write-around.Pre
+    and 7 write-around-kinds.ps (is 7 write-around-kinds.ps μ-write-around t) write-around.Pre
 
-abbrev write-around-below : ℕ → In 9 write-around-kinds.ps
+abbrev write-around-below : ℕ → In 7 write-around-kinds.ps
 write-around-below t =
     and
-    9
+    7
     write-around-kinds.ps
-    (falls 9 write-around-kinds.ps _<_ μ-write-around t)
+    (falls 7 write-around-kinds.ps _<_ μ-write-around t)
     write-around.Pre
 
-abbrev write-node-at : ℕ → In 9 write-node-kinds.ps
+abbrev write-node-at : ℕ → In 7 write-node-kinds.ps
 write-node-at t =
-    and 9 write-node-kinds.ps (is 9 write-node-kinds.ps μ-write-node t) write-node.Pre
+    and 7 write-node-kinds.ps (is 7 write-node-kinds.ps μ-write-node t) write-node.Pre
 
-abbrev write-node-below : ℕ → In 9 write-node-kinds.ps
+abbrev write-node-below : ℕ → In 7 write-node-kinds.ps
 write-node-below t =
-    and 9 write-node-kinds.ps (falls 9 write-node-kinds.ps _<_ μ-write-node t) write-node.Pre
+    and 7 write-node-kinds.ps (falls 7 write-node-kinds.ps _<_ μ-write-node t) write-node.Pre
 
-abbrev write-transition-at : ℕ → In 9 write-transition-kinds.ps
+abbrev write-transition-at : ℕ → In 7 write-transition-kinds.ps
 write-transition-at t =
     and
-    9
+    7
     write-transition-kinds.ps
-    (is 9 write-transition-kinds.ps μ-write-transition t)
+    (is 7 write-transition-kinds.ps μ-write-transition t)
     write-transition.Pre
 
-abbrev write-transition-below : ℕ → In 9 write-transition-kinds.ps
+abbrev write-transition-below : ℕ → In 7 write-transition-kinds.ps
 write-transition-below t =
     and
-    9
+    7
     write-transition-kinds.ps
-    (falls 9 write-transition-kinds.ps _<_ μ-write-transition t)
+    (falls 7 write-transition-kinds.ps _<_ μ-write-transition t)
     write-transition.Pre
 
 abbrev write-around-Inv-loop : write-around-lts.InvT-loop
-write-around-Inv-loop first second ranks choices lengths levels limit s t rel₀ x₀ stack₀ buf₀ j n rest₀ at₀ i₀ rel x stack buf rest at i =
-    AroundLoop first second s t ranks choices lengths levels limit j n rel₀ x₀ stack₀ buf₀ rel x stack buf (rest .s) (rest .t) (rest .at) (rest .len) at i
+write-around-Inv-loop tables ranks choices lengths amounts₀ stack₀ buf₀ s t j n half rest₀ at₀ i₀ amounts stack buf rest at i =
+    AroundLoop tables s t ranks choices lengths half j n amounts₀ stack₀ buf₀ amounts stack buf rest at i
 
 abbrev write-around-μ-loop : write-around-lts.MeasureT-loop
-write-around-μ-loop first second ranks choices lengths levels limit s t rel₀ x₀ stack₀ buf₀ j n rest₀ at₀ i₀ rel x stack buf rest at i =
+write-around-μ-loop tables ranks choices lengths amounts₀ stack₀ buf₀ s t j n half rest₀ at₀ i₀ amounts stack buf rest at i =
     n - i
 
 abbrev write-node-Inv-loop2 : write-node-lts.InvT-loop2
-write-node-Inv-loop2 first second ranks choices lengths levels half s rel₀ x₀ stack₀ buf₀ members rest₀ at₀ w left₀ rel x stack buf rest at left =
-    NodeLoop first second s ranks choices lengths levels half (mask members) rel₀ x₀ stack₀ buf₀ rel x stack buf (rest .s) (rest .t) (rest .at) (rest .len) at (left-of w left members)
+write-node-Inv-loop2 tables ranks choices lengths amounts₀ stack₀ buf₀ s limit members rest₀ at₀ w left₀ amounts stack buf rest at left =
+    NodeLoop tables s ranks choices lengths limit (mask members) amounts₀ stack₀ buf₀ amounts stack buf rest at (left-of w left members)
 
 abbrev write-node-μ-loop2 : write-node-lts.MeasureT-loop2
-write-node-μ-loop2 first second ranks choices lengths levels half s rel₀ x₀ stack₀ buf₀ members rest₀ at₀ w left₀ rel x stack buf rest at left =
+write-node-μ-loop2 tables ranks choices lengths amounts₀ stack₀ buf₀ s limit members rest₀ at₀ w left₀ amounts stack buf rest at left =
     left
 
 abbrev write-node-Inv-loop : write-node-lts.InvT-loop
-write-node-Inv-loop first second ranks choices lengths levels half s rel₀ x₀ stack₀ buf₀ members rest₀ at₀ w₀ rel x stack buf rest at w =
-    (w ≤ words) × NodeLoop first second s ranks choices lengths levels half (mask members) rel₀ x₀ stack₀ buf₀ rel x stack buf (rest .s) (rest .t) (rest .at) (rest .len) at (after w members)
+write-node-Inv-loop tables ranks choices lengths amounts₀ stack₀ buf₀ s limit members rest₀ at₀ w₀ amounts stack buf rest at w =
+    (w ≤ words) × NodeLoop tables s ranks choices lengths limit (mask members) amounts₀ stack₀ buf₀ amounts stack buf rest at (after w members)
 
 abbrev write-node-μ-loop : write-node-lts.MeasureT-loop
-write-node-μ-loop first second ranks choices lengths levels half s rel₀ x₀ stack₀ buf₀ members rest₀ at₀ w₀ rel x stack buf rest at w =
+write-node-μ-loop tables ranks choices lengths amounts₀ stack₀ buf₀ s limit members rest₀ at₀ w₀ amounts stack buf rest at w =
     words - w
 
 abbrev write-transition-Inv-loop : write-transition-lts.InvT-loop
-write-transition-Inv-loop first second ranks choices lengths levels limit s t rel₀ x₀ stack₀ buf₀ at rest len hole₀ rel x stack buf hole =
-    HoleLoop first second s t ranks choices lengths levels limit rel₀ x₀ stack₀ buf₀ rel x stack buf (hole .s) (hole .t) (hole .at) (hole .len)
+write-transition-Inv-loop tables ranks choices lengths amounts₀ stack₀ buf₀ limit rest₀ amounts stack buf rest =
+    HoleLoop tables (rest₀ .s) (rest₀ .t) ranks choices lengths limit amounts₀ stack₀ buf₀ amounts stack buf rest
 
 abbrev write-transition-μ-loop : write-transition-lts.MeasureT-loop
-write-transition-μ-loop first second ranks choices lengths levels limit s t rel₀ x₀ stack₀ buf₀ at rest len hole₀ rel x stack buf hole =
-    hole .len
+write-transition-μ-loop tables ranks choices lengths amounts₀ stack₀ buf₀ limit rest₀ amounts stack buf rest =
+    rest .len
+
+-- what the calls of each function ask and tell
+abbrev write-around-calls : ℕ → write-around-lts.Claims
+write-around-calls t = (
+  begin-transition-reads.Asked,
+  begin-transition-reads.Learnt,
+  targets-reads.Asked,
+  targets-reads.Learnt,
+  put-entry-reads.Asked,
+  put-entry-reads.Learnt,
+  get-reads.Asked,
+  get-reads.Learnt,
+  node-length-reads.Asked,
+  node-length-reads.Learnt,
+  write-node-below t,
+  write-node.Post,
+  join-reads.Asked,
+  join-reads.Learnt,
+)
+
+abbrev write-node-calls : ℕ → write-node-lts.Claims
+write-node-calls t = (
+  count-reads.Asked,
+  count-reads.Learnt,
+  lowest-reads.Asked,
+  lowest-reads.Learnt,
+  pair-length-reads.Asked,
+  pair-length-reads.Learnt,
+  write-transition-below t,
+  write-transition.Post,
+  join-reads.Asked,
+  join-reads.Learnt,
+  without-lowest-reads.Asked,
+  without-lowest-reads.Learnt,
+)
+
+-- the child whose set is in hand
+child-of : (t : ℕ) (c : write-around-lts.After-get (write-around-calls t) (write-around-at t) write-around.Post write-around-Inv-loop write-around-μ-loop)
+    → Child (c .before .before .before .before .before .before .before .loop .inv) (c .before .before .before .before .put-entry .result)
+    (c .before .before .before .before .put-entry .last .1 .1 .1 .0) (mask (c .get .result))
+child-of t c =
+    let stored = c .before .before .before in
+    let put = stored .before .put-entry .ensures in
+    record { more = stored .before .before .before .loop-test .taken; target = put .0; put = put .1; same = stored .buf2 .given .0; set = c .get .ensures }
+
+-- the member whose length is in hand
+next-of : (t : ℕ) (c : write-node-lts.After-pair-length (write-node-calls t) (write-node-at t) write-node.Post write-node-Inv-loop2 write-node-μ-loop2 write-node-Inv-loop write-node-μ-loop)
+    → Next (c .before .before .before .loop2 .inv) (c .before .lowest .result) (c .pair-length .result)
+next-of t c = record { low = c .before .lowest .ensures .1; size = c .pair-length .ensures }
 
 pub +write-around+write-node+write-transition-spec : {M : Type 1} → statement M
 +write-around+write-node+write-transition-spec =
-    close μ-write-around μ-write-node μ-write-transition (λ t. write-around-lts.spec (begin-transition-reads.Asked, begin-transition-reads.Learnt, targets-reads.Asked, targets-reads.Learnt, put-entry-reads.Asked, put-entry-reads.Learnt, get-reads.Asked, get-reads.Learnt, node-length-reads.Asked, node-length-reads.Learnt, write-node-below t, write-node.Post, join-reads.Asked, join-reads.Learnt)
+    close μ-write-around μ-write-node μ-write-transition (λ t. write-around-lts.spec (write-around-calls t)
     (write-around-at t)
     write-around.Post
     write-around-Inv-loop
     write-around-μ-loop
     -- write-around-begin-transition-requires
-    (λ c κs. let entry = c .before .before .before .before .before .before .before .before .before .before .before .before .before in
-    begin-given (entry .pre .1 .0) (entry .pre .1 .1))
+    (λ c κs. let entry = c .before .before .before .before .before .before .before .before .before .before in begin-given (entry .pre .1 .0) (entry .pre .1 .1))
     -- write-around-targets-requires
-    (λ c κs. let at-begin-transition = c .before .before .before .before .before .before .before .before in
-    let entry = at-begin-transition .before .before .before .before .before .before .before .before .before .before .before .before .before .before in
-    let p = entry .pre .1 .0 in
-    (p .given .ranked .first-loaded, choice-number (entry .args .first .now) (entry .args .second .now) (p .given .ranked .first-loaded) (entry .args .s) (entry .args .t) _ (pair-lost (p .given) (p .measured) .left) (at-begin-transition .begin-transition .ensures .choice)))
+    (λ c κs. let begun = c .before .before .before .before .before .before in
+    let p = begun .before .before .before .before .before .before .before .before .before .before .before .pre .1 in
+    (p .0 .given .ranked .loaded .first, begin-number (p .0) (p .1) (begun .begin-transition .ensures)))
     -- write-around-loop-holds
-    (λ c. let at-buf = c .before .before in
+    (λ c. let at-buf = c .before .before .before in
     let at-stack = at-buf .before .before in
-    let at-x = at-stack .before .before in
-    let at-rel = at-x .before .before in
-    let at-begin-transition = at-rel .before in
-    let entry = at-begin-transition .before .before .before .before .before .before .before .before .before .before .before .before .before .before in
-    let b = at-begin-transition .begin-transition in
-    around-begins (entry .pre .1 .0) (entry .pre .1 .1) (b .ensures) _ (ap length (c .targets .ensures) ∙ targets-length (transition-at (entry .args .first .now) (b .result))) (at-rel .rel .given) (at-x .x .given) (at-stack .stack .given) (at-buf .buf .given) (entry .good .1 .1 .1 .1 .1 .1 .1 .1 .1 .1 .1 .1 .0 .0))
+    let at-amounts = at-stack .before .before in
+    let begun = at-amounts .before in
+    let entry = begun .before .before .before .before .before .before .before .before .before .before .before in
+    let p = entry .pre .1 in
+    around-begins (p .0) (p .1) (begun .begin-transition .ensures) _ (ap length (c .before .targets .ensures) ∙ targets-length (first-step (entry .args .tables .now) (begun .begin-transition .result)))
+    (record { same-amounts = at-amounts .amounts .given; same-stack = at-stack .stack .given; same-buf = at-buf .buf .given }) (entry .good .1 .1 .1 .1 .1 .1 .1 .0 .0))
     -- write-around-add-start
-    (λ c. let at-loop = c .before in
-    let l = at-loop .loop .inv in let lt = c .loop-test .taken in record { fits = omega (arith, entry-room l lt, l .small) })
+    (λ c. let l = c .before .loop .inv in record { fits = omega (arith, entry-slot l (c .loop-test .taken) .room, l .small) })
     -- write-around-sub-put-entry
     (λ c. omega arith)
     -- write-around-part-put-entry-start
     (λ c. omega arith)
     -- write-around-part-put-entry-end
-    (λ c. let at-loop = c .before in
-    let l = at-loop .loop .inv in let lt = c .loop-test .taken in entry-room l lt)
+    (λ c. entry-slot (c .before .loop .inv) (c .loop-test .taken) .room)
     -- write-around-put-entry-requires
-    (λ c κs. let at-loop-test = c .before in
-    let at-loop = at-loop-test .before in
-    let l = at-loop .loop .inv in let lt = at-loop-test .loop-test .taken in (l .step .given .ranked .first-loaded, number-known l, place-known l lt, omega (arith, entry-piece l lt)))
+    (λ c κs. let turn = c .before in
+    let l = turn .before .loop .inv in
+    (l .given .ranked .loaded, number-known l, place-known l (turn .loop-test .taken), omega (arith, slot-lent (entry-slot l (turn .loop-test .taken)))))
     -- write-around-get-requires
-    (λ c κs. let at-loop-test = c .before .before .before .before .before in
-    let at-loop = at-loop-test .before in
-    let l = at-loop .loop .inv in let lt = at-loop-test .loop-test .taken in omega (arith, stack-room l, lt))
+    (λ c κs. let turn = c .before .before .before .before .before in
+    omega (arith, stack-room (turn .before .loop .inv), turn .loop-test .taken))
     -- write-around-node-length-requires
-    (λ c κs. let at-buf2 = c .before .before .before in
-    let at-put-entry = at-buf2 .before in
-    let at-loop-test = at-put-entry .before .before in
-    let at-loop = at-loop-test .before in
-    let l = at-loop .loop .inv in let lt = at-loop-test .loop-test .taken in let e = at-put-entry .put-entry .ensures in let same = at-buf2 .buf2 .given .0 in sum-given l lt (e .0) (e .1) same (c .get .ensures))
+    (λ c κs. sum-given _ (child-of t c))
     -- write-around-add-end
-    (λ c. let at-get = c .before in
-    let at-buf2 = at-get .before .before .before in
-    let at-put-entry = at-buf2 .before in
-    let at-loop-test = at-put-entry .before .before in
-    let at-loop = at-loop-test .before in
-    let l = at-loop .loop .inv in let lt = at-loop-test .loop-test .taken in let e = at-put-entry .put-entry .ensures in let same = at-buf2 .buf2 .given .0 in record { fits = child-fits l lt (e .0) (e .1) same (at-get .get .ensures) _ (c .node-length .ensures) })
-    -- write-around-sub-write-node
-    (λ c. let at-loop = c .before .before .before .before .before .before .before .before in
-    let l = at-loop .loop .inv in around-levels l)
+    (λ c. record { fits = child-fits _ (child-of t (c .before)) _ (c .node-length .ensures) })
     -- write-around-mul-write-node
-    (λ c. let at-loop = c .before .before .before .before .before .before .before .before .before .before in
-    let l = at-loop .loop .inv in record { fits = omega (arith, few-children l) })
+    (λ c. record { fits = omega (arith, c .before .before .before .before .before .before .before .before .before .loop .inv .few) })
     -- write-around-mul-write-node-2
-    (λ c. let at-loop = c .before .before .before .before .before .before .before .before .before .before in
-    let l = at-loop .loop .inv in record { fits = omega (arith, few-children l) })
-    -- write-around-sub-write-node-2
-    (λ c. let at-loop = c .before .before .before .before .before .before .before .before .before .before in
-    let l = at-loop .loop .inv in stack-room l)
+    (λ c. record { fits = omega (arith, c .before .before .before .before .before .before .before .before .before .loop .inv .few) })
+    -- write-around-sub-write-node
+    (λ c. stack-room (c .before .before .before .before .before .before .before .before .before .loop .inv))
     -- write-around-part-write-node-start
-    (λ c. let at-loop = c .before .before .before .before .before .before .before .before .before .before in
-    let l = at-loop .loop .inv in stack-room l)
+    (λ c. stack-room (c .before .before .before .before .before .before .before .before .before .loop .inv))
     -- write-around-part-write-node-end
     (λ c. le-refl _)
-    -- write-around-sub-write-node-3
+    -- write-around-sub-write-node-2
     (λ c. omega arith)
     -- write-around-part-write-node-start-2
     (λ c. omega arith)
     -- write-around-part-write-node-end-2
-    (λ c. let at-node-length = c .before .before .before in
-    let at-get = at-node-length .before in
-    let at-buf2 = at-get .before .before .before in
-    let at-put-entry = at-buf2 .before in
-    let at-loop-test = at-put-entry .before .before in
-    let at-loop = at-loop-test .before in
-    let l = at-loop .loop .inv in let lt = at-loop-test .loop-test .taken in let e = at-put-entry .put-entry .ensures in let same = at-buf2 .buf2 .given .0 in child-room l lt (e .0) (e .1) same (at-get .get .ensures) _ (at-node-length .node-length .ensures))
+    (λ c. let sized = c .before .before in child-slot _ (child-of t (sized .before)) _ (sized .node-length .ensures) .room)
     -- write-around-write-node-requires
-    (λ c κs. let at-node-length = c .before .before .before .before in
-    let at-get = at-node-length .before in
-    let at-buf2 = at-get .before .before .before in
-    let at-put-entry = at-buf2 .before in
-    let at-loop-test = at-put-entry .before .before in
-    let at-loop = at-loop-test .before in
-    let entry = at-loop .before .before .before .before .before .before .before .before .before .before .before .before .before .before .before .before .before .before .before .before .before .before .before .before in
-    let l = at-loop .loop .inv in let lt = at-loop-test .loop-test .taken in let e = at-put-entry .put-entry .ensures in let same = at-buf2 .buf2 .given .0 in (omega (arith, entry .pre .0, around-levels l), child-given l lt (e .0) (e .1) same (at-get .get .ensures) _ (at-node-length .node-length .ensures)))
+    (λ c κs. let sized = c .before .before .before in
+    let entry = sized .before .before .before .before .before .before .before .before .before .before .before .before .before .before .before .before .before .before .before .before .before .before .before .before .before .before .before .before in
+    (omega (arith, entry .pre .0, step-long (entry .pre .1 .0) (entry .pre .1 .1)), child-given _ (child-of t (sized .before)) _ (sized .node-length .ensures)))
     -- write-around-join-requires
-    (λ c κs. let at-buf3 = c .before in
-    let at-write-node = at-buf3 .before .before .before .before .before .before .before in
-    let at-node-length = at-write-node .before .before .before .before .before in
-    let at-get = at-node-length .before in
-    let at-buf2 = at-get .before .before .before in
-    let at-put-entry = at-buf2 .before in
-    let at-loop-test = at-put-entry .before .before in
-    let at-loop = at-loop-test .before in
-    let l = at-loop .loop .inv in let lt = at-loop-test .loop-test .taken in let e = at-put-entry .put-entry .ensures in let same = at-buf2 .buf2 .given .0 in let w = at-write-node .write-node .ensures in let same′ = at-buf3 .buf3 .given .0 in join-fits l lt (e .0) (e .1) same (at-get .get .ensures) _ (at-node-length .node-length .ensures) w same′)
+    (λ c κs. let written = c .before .before .before .before .before .before in
+    let sized = written .before .before .before .before in
+    join-fits _ (child-of t (sized .before)) _ (sized .node-length .ensures) (written .write-node .ensures))
     -- write-around-add-i
-    (λ c. let at-loop-test = c .before .before .before .before .before .before .before .before .before .before .before .before .before .before .before .before .before .before .before .before .before in
-    let at-loop = at-loop-test .before in
-    let l = at-loop .loop .inv in let lt = at-loop-test .loop-test .taken in record { fits = omega (arith, few-children l, lt) })
+    (λ c. let turn = c .before .before .before .before .before .before .before .before .before .before .before .before .before .before .before .before .before .before in record { fits = omega (arith, turn .before .loop .inv .few, turn .loop-test .taken) })
     -- write-around-loop-less
-    (λ c. let at-loop-test = c .before .before .before .before .before .before .before .before .before .before .before .before .before .before .before .before .before .before .before .before .before in
-    let at-loop = at-loop-test .before in
-    let l = at-loop .loop .inv in let lt = at-loop-test .loop-test .taken in omega (arith, lt))
+    (λ c. omega (arith, c .before .before .before .before .before .before .before .before .before .before .before .before .before .before .before .before .before .before .loop-test .taken))
     -- write-around-loop-again
-    (λ c. let at-buf3 = c .before .before in
-    let at-stack2 = at-buf3 .before .before in
-    let at-x2 = at-stack2 .before .before in
-    let at-rel2 = at-x2 .before .before in
-    let at-write-node = at-rel2 .before in
-    let at-node-length = at-write-node .before .before .before .before .before in
-    let at-get = at-node-length .before in
-    let at-buf2 = at-get .before .before .before in
-    let at-put-entry = at-buf2 .before in
-    let at-loop-test = at-put-entry .before .before in
-    let at-loop = at-loop-test .before in
-    let l = at-loop .loop .inv in let lt = at-loop-test .loop-test .taken in let e = at-put-entry .put-entry .ensures in let same = at-buf2 .buf2 .given .0 in let w = at-write-node .write-node .ensures in let same′ = at-buf3 .buf3 .given .0 in let b = c .join .ensures in
-    around-next l lt (e .0) (e .1) same (at-get .get .ensures) _ (at-node-length .node-length .ensures) w same′ (b .0) (b .1) (at-write-node .write-node .last .1 .1 .1 .1 .1 .1 .1 .1 .1 .1 .1 .0) (at-rel2 .rel2 .given) (at-x2 .x2 .given) (at-stack2 .stack2 .given .1))
+    (λ c. let at-buf = c .before .before in
+    let at-stack = at-buf .before .before in
+    let at-amounts = at-stack .before .before in
+    let written = at-amounts .before in
+    let sized = written .before .before .before .before in
+    around-next _ (child-of t (sized .before)) _ (sized .node-length .ensures) (written .write-node .ensures) (at-buf .buf3 .given .0) (c .join .ensures .0) (c .join .ensures .1)
+    (written .write-node .last .1 .1 .1 .1 .1 .1 .0) (at-amounts .amounts2 .given) (at-stack .stack2 .given .1))
     -- write-around-same-length
-    (λ c. let at-loop = c .before in
-    let at-rel = at-loop .before .before .before .before .before .before .before .before .before in
-    at-loop .loop .inv .same-rel ∙ at-rel .rel .given)
+    (λ c. c .before .loop .inv .kept .same-amounts ∙ c .before .before .before .before .before .before .before .before .before .amounts .given)
     -- write-around-same-length-2
-    (λ c. let at-loop = c .before in
-    let at-x = at-loop .before .before .before .before .before .before .before in
-    at-loop .loop .inv .same-x ∙ at-x .x .given)
+    (λ c. c .before .loop .inv .kept .same-stack ∙ c .before .before .before .before .before .before .before .stack .given)
     -- write-around-same-length-3
-    (λ c. let at-loop = c .before in
-    let at-stack = at-loop .before .before .before .before .before in
-    at-loop .loop .inv .same-stack ∙ at-stack .stack .given)
-    -- write-around-same-length-4
-    (λ c. let at-loop = c .before in
-    let at-buf = at-loop .before .before .before in
-    at-loop .loop .inv .same-buf ∙ at-buf .buf .given)
+    (λ c. c .before .loop .inv .kept .same-buf ∙ c .before .before .before .before .before .buf .given)
     -- write-around-returns
-    (λ c. let at-loop = c .before in
-    around-ends (at-loop .loop .inv) (c .loop-test .left)))
-    (λ t. write-node-lts.spec (count-reads.Asked, count-reads.Learnt, lowest-reads.Asked, lowest-reads.Learnt, pair-length-reads.Asked, pair-length-reads.Learnt, write-transition-below t, write-transition.Post, without-lowest-reads.Asked, without-lowest-reads.Learnt)
+    (λ c. around-ends (c .before .loop .inv) (c .loop-test .left)))
+    (λ t. write-node-lts.spec (write-node-calls t)
     (write-node-at t)
     write-node.Post
     write-node-Inv-loop2
@@ -270,87 +261,63 @@ pub +write-around+write-node+write-transition-spec : {M : Type 1} → statement 
     -- write-node-cast-buf
     (λ c. record { fits = count-byte _ (c .count .ensures) })
     -- write-node-slice-write-buf
-    (λ c. let entry = c .before .before .before .before .before .before .before .before .before .before in
-    node-room (entry .pre .1))
+    (λ c. node-room (c .before .before .before .before .before .before .before .before .before .pre .1))
     -- write-node-loop-holds
-    (λ c. let entry = c .before .before .before .before .before .before .before .before .before .before in
-    (omega arith, node-same (node-begins (entry .pre .1) _ (c .count .ensures) (entry .good .1 .1 .1 .1 .1 .1 .1 .1 .1 .1 .1 .1 .0 .0)) _ (sym (after-all (entry .args .t9))) refl refl refl refl))
+    (λ c. (omega arith, node-same (node-begins (c .before .before .before .before .before .before .before .before .before .pre .1) _ (c .count .ensures) (omega arith)) _ (sym (after-all _)) kept-all))
     -- write-node-mul-left
     (λ c. omega arith)
     -- write-node-element-copy-out-left
     (λ c. omega arith)
     -- write-node-loop2-holds
-    (λ c. let at-loop = c .before .before in
-    let entry = at-loop .before .before .before .before .before .before .before .before .before .before .before in
-    node-same (at-loop .loop .inv .1) _ (after-rest (entry .args .t9) (at-loop .loop .w)) refl refl refl refl)
+    (λ c. let outer = c .before .before in node-same (outer .loop .inv .1) _ (after-rest _ (outer .loop .w)) kept-all)
     -- write-node-lowest-requires
-    (λ c κs. (omega arith, omega arith))
+    (λ c κs. (c .before .before .before .loop-test .taken, pos-of-ne-zero (c .loop2-test .taken)))
     -- write-node-pair-length-requires
-    (λ c κs. let at-loop2 = c .before .before in
-    let l = at-loop2 .loop2 .inv in let low = c .lowest .ensures .1 in node-asked l _ low)
+    (λ c κs. node-asked (c .before .before .loop2 .inv) _ (c .lowest .ensures .1))
     -- write-node-add-end
-    (λ c. let at-lowest = c .before in
-    let at-loop2 = at-lowest .before .before in
-    let l = at-loop2 .loop2 .inv in let low = at-lowest .lowest .ensures .1 in record { fits = omega (arith, turn-room l _ low _ (c .pair-length .ensures), l .small) })
-    -- write-node-sub-write-transition
+    (λ c. let l = c .before .before .before .loop2 .inv in record { fits = omega (arith, turn-slot l (next-of t c) .room, l .small) })
+    -- write-node-sub-part
     (λ c. omega arith)
-    -- write-node-part-write-transition-start
+    -- write-node-part-part-start
     (λ c. omega arith)
-    -- write-node-part-write-transition-end
-    (λ c. let at-pair-length = c .before .before .before in
-    let at-lowest = at-pair-length .before in
-    let at-loop2 = at-lowest .before .before in
-    let l = at-loop2 .loop2 .inv in let low = at-lowest .lowest .ensures .1 in turn-room l _ low _ (at-pair-length .pair-length .ensures))
+    -- write-node-part-part-end
+    (λ c. turn-slot _ (next-of t c) .room)
     -- write-node-write-transition-requires
-    (λ c κs. let at-pair-length = c .before .before .before .before in
-    let at-lowest = at-pair-length .before in
-    let at-loop2 = at-lowest .before .before in
-    let entry = at-loop2 .before .before .before .before .before .before .before .before .before .before .before .before .before .before in
-    let l = at-loop2 .loop2 .inv in let low = at-lowest .lowest .ensures .1 in (omega (arith, entry .pre .0), node-step l _ low _ (at-pair-length .pair-length .ensures)))
+    (λ c κs. let sized = c .before .before .before in
+    (omega (arith, sized .before .before .before .before .before .before .before .before .before .before .before .before .before .before .before .before .pre .0), node-step _ (next-of t sized)))
+    -- write-node-join-requires
+    (λ c κs. let written = c .before .before .before .before .before .before in
+    node-joins _ (next-of t (written .before .before .before .before)) (written .write-transition .ensures))
     -- write-node-without-lowest-requires
-    (λ c κs. let at-loop2-test = c .before .before .before .before .before .before .before .before .before .before .before .before .before .before .before in
-    let at-loop-test = at-loop2-test .before .before .before in
-    (at-loop-test .loop-test .taken, pos-of-ne-zero (at-loop2-test .loop2-test .taken)))
+    (λ c κs. let inner = c .before .before .before .before .before .before .before .before .before .before .before .before .before in
+    (inner .before .before .before .loop-test .taken, pos-of-ne-zero (inner .loop2-test .taken)))
     -- write-node-loop2-less
     (λ c. c .without-lowest .ensures .1)
     -- write-node-loop2-again
-    (λ c. let at-buf = c .before .before in
-    let at-stack = at-buf .before .before in
-    let at-x = at-stack .before .before in
-    let at-rel = at-x .before .before in
-    let at-write-transition = at-rel .before in
-    let at-pair-length = at-write-transition .before .before .before .before .before in
-    let at-lowest = at-pair-length .before in
-    let at-loop2 = at-lowest .before .before in
-    let l = at-loop2 .loop2 .inv in let low = at-lowest .lowest .ensures .1 in node-next l _ low _ (at-pair-length .pair-length .ensures) (at-write-transition .write-transition .ensures) (at-buf .buf .given .0) _ (c .without-lowest .ensures .0 _ low) (at-rel .rel .given) (at-x .x .given) (at-stack .stack .given))
+    (λ c. let joined = c .before in
+    let at-stack = joined .before .before in
+    let at-amounts = at-stack .before .before in
+    let at-buf = at-amounts .before .before in
+    let written = at-buf .before in
+    let next = next-of t (written .before .before .before .before) in
+    node-next _ next (written .write-transition .ensures) (at-buf .buf .given .0) (joined .join .ensures .0) (joined .join .ensures .1) _ (c .without-lowest .ensures .0 _ (next .low))
+    (at-amounts .amounts .given) (at-stack .stack .given))
     -- write-node-add-w
-    (λ c. omega arith)
+    (λ c. record { fits = word-next _ (c .before .before .before .loop-test .taken) .0 })
     -- write-node-loop-less
-    (λ c. omega arith)
+    (λ c. word-next _ (c .before .before .before .loop-test .taken) .1)
     -- write-node-loop-again
-    (λ c. let at-loop2 = c .before in
-    let at-loop = at-loop2 .before .before .before in
-    let entry = at-loop .before .before .before .before .before .before .before .before .before .before .before in
-    let o = at-loop .loop .inv .1 in let l = at-loop2 .loop2 .inv in
-    let none = ap (λ (n : ℕ). left-of (at-loop .loop .w) n (entry .args .t9)) (c .loop2-test .left) ∙ rest-after (entry .args .t9) (at-loop .loop .w) in
-    (omega arith, node-same l _ none (l .same-rel ∙ o .same-rel) (l .same-x ∙ o .same-x) (l .same-stack ∙ o .same-stack) (l .same-buf ∙ o .same-buf)))
+    (λ c. let l = c .before .loop2 .inv in
+    let outer = c .before .before .before .before in
+    (word-next _ (c .before .before .before .loop-test .taken) .2, node-same l _ (word-done _ (outer .loop .w) _ (c .loop2-test .left)) (kept-then (outer .loop .inv .1 .kept) (l .kept))))
     -- write-node-same-length
-    (λ c. let at-loop = c .before in
-    at-loop .loop .inv .1 .same-rel)
+    (λ c. c .before .loop .inv .1 .kept .same-amounts)
     -- write-node-same-length-2
-    (λ c. let at-loop = c .before in
-    at-loop .loop .inv .1 .same-x)
+    (λ c. c .before .loop .inv .1 .kept .same-stack)
     -- write-node-same-length-3
-    (λ c. let at-loop = c .before in
-    at-loop .loop .inv .1 .same-stack)
-    -- write-node-same-length-4
-    (λ c. let at-loop = c .before in
-    let entry = at-loop .before .before .before .before .before .before .before .before .before .before .before in
-    at-loop .loop .inv .1 .same-buf ∙ length-set (entry .args .buf .now) 0 _)
+    (λ c. c .before .loop .inv .1 .kept .same-buf ∙ length-set (c .before .before .before .before .before .before .before .before .before .before .before .args .buf .now) 0 _)
     -- write-node-returns
-    (λ c. let at-loop = c .before in
-    let entry = at-loop .before .before .before .before .before .before .before .before .before .before .before in
-    node-ends (at-loop .loop .inv .1) (walk-done (entry .args .t9) (at-loop .loop .w) (omega arith))))
+    (λ c. let l = c .before .loop in node-ends (l .inv .1) (walk-done _ (l .w) (omega arith))))
     λ t. write-transition-lts.spec
     (write-around-below t, write-around.Post)
     (write-transition-at t)
@@ -358,59 +325,44 @@ pub +write-around+write-node+write-transition-spec : {M : Type 1} → statement 
     write-transition-Inv-loop
     write-transition-μ-loop
     -- write-transition-returns
-    (λ c. record { short = λ h. absurd (omega (arith, c .if1 .taken)); long = λ _. (refl, refl, refl, refl) })
+    (λ c. record { short = λ h. absurd (omega (arith, c .if1 .taken)); long = λ _. refl })
     -- write-transition-loop-holds
-    (λ c. let entry = c .before .before .before .before .before .before .before .before .before .before in
-    hole-begins (entry .pre .1) _ refl (omega (arith, c .if1 .left)) (entry .good .1 .1 .1 .1 .1 .1 .1 .1 .1 .1 .1 .1 .0 .0))
+    (λ c. hole-begins (c .before .before .before .before .before .before .before .before .before .pre .1) (omega (arith, c .if1 .left)) (omega arith))
     -- write-transition-add-end
-    (λ c. let at-loop = c .before .before .before in
-    let l = at-loop .loop .inv in record { fits = omega (arith, hole-room l, l .small) })
-    -- write-transition-sub-write-around
+    (λ c. let l = c .before .before .before .loop .inv in record { fits = omega (arith, hole-room l, l .small) })
+    -- write-transition-sub-part
     (λ c. omega arith)
-    -- write-transition-part-write-around-start
+    -- write-transition-part-part-start
     (λ c. omega arith)
-    -- write-transition-part-write-around-end
-    (λ c. let at-loop = c .before .before .before .before .before .before in
-    hole-room (at-loop .loop .inv))
+    -- write-transition-part-part-end
+    (λ c. hole-room (c .before .before .before .loop .inv))
     -- write-transition-write-around-requires
-    (λ c κs. let at-if2 = c .before .before .before .before .before in
-    let at-loop = at-if2 .before .before in
-    let entry = at-loop .before .before .before .before .before .before .before .before .before .before .before in
-    let l = at-loop .loop .inv in let pos = pos-of-ne-zero (at-if2 .if2 .taken) in (omega (arith, entry .pre .0), (hole-step l pos, hole-short l pos)))
-    -- write-transition-add-t30
-    (λ c. let at-buf = c .before .before in
-    let at-write-around = at-buf .before .before .before .before .before .before .before in
-    let at-if2 = at-write-around .before .before .before .before .before .before in
-    let at-loop = at-if2 .before .before in
-    let l = at-loop .loop .inv in let pos = pos-of-ne-zero (at-if2 .if2 .taken) in let w = at-write-around .write-around .ensures in let same = at-buf .buf .given .0 in record { fits = hole-fits l pos w same })
+    (λ c κs. let turn = c .before .before .before .before in
+    let l = turn .before .before .loop .inv in
+    (omega (arith, turn .before .before .before .before .before .before .before .before .before .before .before .before .pre .0), (hole-step l (turn .if2 .taken), hole-short l (turn .if2 .taken))))
+    -- write-transition-add-t20
+    (λ c. let written = c .before .before .before .before .before .before .before in
+    let turn = written .before .before .before .before .before in
+    let l = turn .before .before .loop .inv in
+    record { fits = hole-fits l (turn .if2 .taken) (written .write-around .ensures) })
     -- write-transition-loop-less
-    (λ c. let at-buf = c .before .before in
-    let at-write-around = at-buf .before .before .before .before .before .before .before in
-    let at-if2 = at-write-around .before .before .before .before .before .before in
-    let at-loop = at-if2 .before .before in
-    let l = at-loop .loop .inv in let pos = pos-of-ne-zero (at-if2 .if2 .taken) in let w = at-write-around .write-around .ensures in let same = at-buf .buf .given .0 in hole-less l pos w same)
+    (λ c. let written = c .before .before .before .before .before .before .before in
+    let turn = written .before .before .before .before .before in
+    let l = turn .before .before .loop .inv in
+    hole-less l (turn .if2 .taken) (written .write-around .ensures))
     -- write-transition-loop-again
-    (λ c. let at-buf = c .before .before in
-    let at-stack = at-buf .before .before in
-    let at-x = at-stack .before .before in
-    let at-rel = at-x .before .before in
-    let at-write-around = at-rel .before in
-    let at-if2 = at-write-around .before .before .before .before .before .before in
-    let at-loop = at-if2 .before .before in
-    let l = at-loop .loop .inv in let pos = pos-of-ne-zero (at-if2 .if2 .taken) in let w = at-write-around .write-around .ensures in let same = at-buf .buf .given .0 in hole-next l pos w same (at-rel .rel .given) (at-x .x .given) (at-stack .stack .given))
+    (λ c. let at-stack = c .before .before in
+    let at-amounts = at-stack .before .before in
+    let at-buf = at-amounts .before .before in
+    let written = at-buf .before in
+    let turn = written .before .before .before .before .before in
+    hole-next (turn .before .before .loop .inv) (turn .if2 .taken) (written .write-around .ensures) (at-buf .buf .given .0) (at-amounts .amounts .given) (at-stack .stack .given))
     -- write-transition-same-length
-    (λ c. let at-loop = c .before .before in
-    at-loop .loop .inv .same-rel)
+    (λ c. c .before .before .loop .inv .kept .same-amounts)
     -- write-transition-same-length-2
-    (λ c. let at-loop = c .before .before in
-    at-loop .loop .inv .same-x)
+    (λ c. c .before .before .loop .inv .kept .same-stack)
     -- write-transition-same-length-3
-    (λ c. let at-loop = c .before .before in
-    at-loop .loop .inv .same-stack)
-    -- write-transition-same-length-4
-    (λ c. let at-loop = c .before .before in
-    at-loop .loop .inv .same-buf)
+    (λ c. c .before .before .loop .inv .kept .same-buf)
     -- write-transition-returns-2
     (λ c. let at-loop = c .before .before in
-    let at-if1 = at-loop .before in
-    record { short = λ _. (refl, refl, refl, refl, hole-ends (at-loop .loop .inv) (c .if2 .left)); long = λ h. absurd (omega (arith, at-if1 .if1 .left)) })
+    record { short = λ _. (c .if2 .left, hole-ends (at-loop .loop .inv) (c .if2 .left)); long = λ h. absurd (omega (arith, at-loop .before .if1 .left)) })

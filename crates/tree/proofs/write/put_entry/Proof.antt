@@ -5,6 +5,7 @@ use Prim.Native.Nat.{ℕ, _%_, _/_}
 use native.Mathlib.Omega.{arith}
 use borrow.Author.Needs.{needs}
 use lib.ListN.{getD, length-set}
+use Rattle.form.specs.Tables.{first-form}
 use Rattle.buffer.specs.Buffer.{over}
 use Rattle.tree.specs.Begin.{entry-bytes}
 use Rattle.buffer.proofs.Buffer.{start, store, finish}
@@ -16,32 +17,38 @@ targets-requires : tie.Need-targets-requires
 targets-requires c κs = search needs
 
 mul-target : tie.Need-mul-target
-mul-target c = let entry = c .before .before .before in let p = entry .pre in record { fits = omega (arith, place-small (entry .args .first .now) (entry .args .j) (p .0) (p .1) (entry .args .i) (p .2)) }
+mul-target c =
+    let entry = c .before .before .before in
+    let p = entry .pre in
+    record { fits = omega (arith, place-small (first-form (entry .args .tables .now)) (entry .args .j) (p .0 .first) (p .1) (entry .args .i) (p .2)) }
 
 shared-slice-read-target : tie.Need-shared-slice-read-target
 shared-slice-read-target c =
     let entry = c .before .before .before .before in
     let p = entry .pre in
-    in-targets (entry .args .first .now) (entry .args .j) (p .0) (p .1) (entry .args .i) (p .2) _ (c .before .targets .ensures)
+    in-targets (first-form (entry .args .tables .now)) (entry .args .j) (p .0 .first) (p .1) (entry .args .i) (p .2) _ (c .before .targets .ensures)
 
 weights-requires : tie.Need-weights-requires
 weights-requires c κs = search needs
 
 mul-weight : tie.Need-mul-weight
-mul-weight c = let entry = c .before .before .before .before .before in let p = entry .pre in record { fits = omega (arith, place-small (entry .args .first .now) (entry .args .j) (p .0) (p .1) (entry .args .i) (p .2)) }
+mul-weight c =
+    let entry = c .before .before .before .before .before in
+    let p = entry .pre in
+    record { fits = omega (arith, place-small (first-form (entry .args .tables .now)) (entry .args .j) (p .0 .first) (p .1) (entry .args .i) (p .2)) }
 
 shared-slice-read-weight : tie.Need-shared-slice-read-weight
 shared-slice-read-weight c =
     let entry = c .before .before .before .before .before .before in
     let p = entry .pre in
-    in-weights (entry .args .first .now) (entry .args .j) (p .0) (p .1) (entry .args .i) (p .2) _ (c .before .weights .ensures)
+    in-weights (first-form (entry .args .tables .now)) (entry .args .j) (p .0 .first) (p .1) (entry .args .i) (p .2) _ (c .before .weights .ensures)
 
 cast-buf : tie.Need-cast-buf
 cast-buf c =
     let at-targets = c .before .before .before in
     let entry = at-targets .before .before .before in
     let p = entry .pre in
-    record { fits = omega (arith, target-byte (entry .args .first .now) (entry .args .j) (p .0) (p .1) (entry .args .i) (p .2) _ (at-targets .targets .ensures)) }
+    record { fits = omega (arith, target-byte (first-form (entry .args .tables .now)) (entry .args .j) (p .0 .first) (p .1) (entry .args .i) (p .2) _ (at-targets .targets .ensures)) }
 
 slice-write-buf : tie.Need-slice-write-buf
 slice-write-buf c = search needs
@@ -64,10 +71,8 @@ slice-write-buf-3 c = search needs
 
 cast-result : tie.Need-cast-result
 cast-result c =
-    let at-targets = c .before .before .before in
-    let entry = at-targets .before .before .before in
-    let p = entry .pre in
-    record { fits = omega (arith, target-byte (entry .args .first .now) (entry .args .j) (p .0) (p .1) (entry .args .i) (p .2) _ (at-targets .targets .ensures)) }
+    let known = c .before .before in
+    record { fits = omega (arith, known .shared-slice-known2 .given (known .before .before .before .before .args .i)) }
 
 same-length : tie.Need-same-length
 same-length c = search needs

@@ -5,7 +5,7 @@ use Prim.Native.Nat.{ℕ}
 use native.Mathlib.Omega.{arith}
 use borrow.Author.Needs.{needs}
 use lib.ListN.{length}
-use Rattle.form.specs.Form.{transition-at}
+use Rattle.form.specs.Tables.{first-form, first-step}
 use Rattle.form.proofs.FormLaws.{limited-at, targets-length}
 use Rattle.buffer.specs.Buffer.{over}
 use Rattle.buffer.proofs.Buffer.{start, store, finish}
@@ -18,7 +18,7 @@ code-requires c κs = search needs
 cast-buf : tie.Need-cast-buf
 cast-buf c =
     let entry = c .before .before .before in
-    record { fits = omega (arith, c .code .ensures, limited-at (entry .args .first .now) (entry .pre .0) (entry .args .j) (entry .pre .1) .code-byte) }
+    record { fits = omega (arith, c .code .ensures, limited-at (first-form (entry .args .tables .now)) (entry .pre .0 .first) (entry .args .j) (entry .pre .1) .code-byte) }
 
 slice-write-buf : tie.Need-slice-write-buf
 slice-write-buf c = search needs
@@ -29,7 +29,7 @@ targets-requires c κs = search needs
 cast-buf-2 : tie.Need-cast-buf-2
 cast-buf-2 c =
     let entry = c .before .before .before .before in
-    let l = limited-at (entry .args .first .now) (entry .pre .0) (entry .args .j) (entry .pre .1) in
+    let l = limited-at (first-form (entry .args .tables .now)) (entry .pre .0 .first) (entry .args .j) (entry .pre .1) in
     record { fits = omega (arith, ap length (c .targets .ensures), l .few, l .paired) }
 
 slice-write-buf-2 : tie.Need-slice-write-buf-2
@@ -42,7 +42,7 @@ returns : tie.Need-returns
 returns c =
     let entry = c .before .before .before .before in
     let b = entry .args .buf .now in
-    let m = transition-at (entry .args .first .now) (entry .args .j) in
+    let m = first-step (entry .args .tables .now) (entry .args .j) in
     let a = c .before .code .result in
     let n = length (c .targets .result .now) in
     finish (store {x = n} (store {x = a} (start (a ∷ n ∷ []) b (entry .pre .2)))) .bytes

@@ -1,0 +1,10 @@
+-- Laws that the proofs cite.
+-- Assumes nothing.
+pub mod Sets
+pub mod Covering
+pub mod Gathering
+pub mod Fitting
+pub mod Steps
+pub mod Trying
+pub mod Partner
+pub mod Comparing

@@ -1,0 +1,62 @@
+-- Relations held as rows of masks, and the matching of transitions in them.
+-- Assumes nothing.
+use mathlib.Core.Path.{_≡_}
+use mathlib.Core.Bool.{Bool}
+use mathlib.Core.List.{List}
+use Prim.Native.Nat.{ℕ, _+_, _≤_, _<_}
+use lib.Dec.{eqb}
+use lib.ListN.{length, getD}
+use Rattle.simulation.specs.Limits.{most-states}
+use Rattle.relation.specs.Related.{holds}
+use Rattle.relation.specs.Mask.{Test, member}
+use Rattle.form.specs.Tables.{first-table, second-table, first-step, second-step}
+use Rattle.simulation.specs.Sum.{all-of, any-of}
+use Rattle.simulation.specs.Fit.{fits?}
+use Rattle.simulation.specs.Table.{Transition, Table, weights, states-of, steps}
+use Rattle.simulation.specs.Round.{Relation, between, relation, fits-step}
+
+-- the relation that the rows hold between the states of two tables
+abbrev pub held : Table → Table → List ℕ → Relation
+held M N rows = relation (states-of M) (states-of N) (holds rows)
+
+-- the same for the two tables of a list
+abbrev pub relation-of : (tables rows : List ℕ) → Relation
+relation-of tables rows = held (first-table tables) (second-table tables) rows
+
+-- transition j of the first table fits transition l of the second in the relation of the rows, whatever their codes
+abbrev pub fitting : (tables rows : List ℕ) (j l : ℕ) → Bool
+fitting tables rows j l =
+    fits? (between (relation-of tables rows) (first-step tables j) (second-step tables l)) (weights (first-step tables j)) (weights (second-step tables l))
+
+-- and they have the same code
+abbrev pub fits-step-at : (tables rows : List ℕ) (j l : ℕ) → Bool
+fits-step-at tables rows j l = fits-step (relation-of tables rows) (first-step tables j) (second-step tables l)
+
+-- each transition of s fits some transition of t with the same code, in R
+abbrev pub matched : Table → Table → Relation → ℕ → ℕ → Bool
+matched M N R s t = all-of (λ m. any-of (fits-step R m) (steps N t)) (steps M s)
+
+-- transition j of the first table fits some transition of the state t
+abbrev pub answered : (tables rows : List ℕ) (j t : ℕ) → Bool
+answered tables rows j t = any-of (fits-step (relation-of tables rows) (first-step tables j)) (steps (second-table tables) t)
+
+-- one of the transitions has the code
+abbrev pub coded : ℕ → List Transition → Bool
+coded c ns = any-of (λ (n : Transition). eqb c (n .code)) ns
+
+-- places of targets: few, and each a state below n
+pub record Places (n : ℕ) (ts : List ℕ) : Type 0 where
+  pub few : length ts ≤ most-states
+  pub below : (j : ℕ) → j < length ts → getD ts j 0 < n
+
+-- they ascend strictly
+abbrev pub Ascending : List ℕ → Type 0
+Ascending ts = (i : ℕ) → i + 1 < length ts → getD ts i 0 < getD ts (i + 1) 0
+
+-- a row by positions: the places of a list whose states the row has
+abbrev pub row-at : ℕ → List ℕ → Test
+row-at row ts j = member row (getD ts j 0)
+
+-- rel has the first n rows of a relation by positions: bit j of place i relates the i-th of ms to the j-th of ns
+pub record Gathered (rows ms ns : List ℕ) (n : ℕ) (rel : List ℕ) : Type 0 where
+  pub related-at : (i j : ℕ) → i < n → j < length ns → holds rel i j ≡ holds rows (getD ms i 0) (getD ns j 0)

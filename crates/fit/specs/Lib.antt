@@ -1,0 +1,7 @@
+-- The definitions, in reading order.
+-- Assumes nothing.
+pub mod Held
+pub mod Known
+pub mod Quick
+pub mod Partner
+pub mod Ranked

@@ -1,0 +1,47 @@
+-- The first transition of a state that a transition fits, and the amounts that share it out.
+-- Assumes nothing.
+use mathlib.Core.Path.{_≡_}
+use mathlib.Core.Bool.{Bool, true, cond}
+use mathlib.Core.List.{List, [], _∷_}
+use Prim.Native.Nat.{ℕ, suc, _≤_, _<_}
+use lib.Dec.{T}
+use lib.ListN.{length}
+use Rattle.simulation.specs.Limits.{most-pairs, most-states}
+use Rattle.simulation.specs.Fit.{Amounts, Shares}
+use Rattle.simulation.specs.Table.{Transition, weights, states-of, steps, transition}
+use Rattle.simulation.specs.Round.{Relation, between, fits-step}
+use Rattle.relation.specs.Words.{height}
+use Rattle.matrix.specs.Matrix.{cell}
+use Rattle.form.specs.Form.{transitions-of}
+use Rattle.form.specs.Tables.{first-form, second-table, first-step, second-step, BothLoaded}
+use Rattle.fit.specs.Held.{relation-of, fitting}
+
+-- the place of the first like-coded transition that m fits in R
+unfoldable pub place : Relation → Transition → List Transition → ℕ
+unfolding fits-step
+place R m [] = 0
+place R m (n ∷ ns) = cond (fits-step R m n) 0 (suc (place R m ns))
+
+-- right amounts for m and n in R
+abbrev pub SharesIn : Relation → (m n : Transition) → Amounts → Type 0
+SharesIn R m n x = Shares (λ i j. T (between R m n i j)) (weights m) (weights n) x
+
+-- r says whether transition j of the first table fits transition l of the second, whatever their codes; if it does, the amounts are right
+pub record SharedOut (tables rows : List ℕ) (j l : ℕ) (r : Bool) (amounts : List ℕ) : Type 0 where
+  pub answer : r ≡ fitting tables rows j l
+  pub shares : r ≡ true → SharesIn (relation-of tables rows) (first-step tables j) (second-step tables l) (cell amounts)
+
+-- a transition of the first table, and a state of the second that has one that it fits
+pub record Sought (tables rows amounts : List ℕ) (j t : ℕ) : Type 0 where
+  pub loaded : BothLoaded tables
+  pub rows-room : most-states ≤ height rows
+  pub amounts-room : most-pairs ≤ length amounts
+  pub from-first : j < transitions-of (first-form tables)
+  pub state : t < states-of (second-table tables)
+  pub some : (l : ℕ) × (l < length (steps (second-table tables) t)) × T (fits-step (relation-of tables rows) (first-step tables j) (transition (second-table tables) t l))
+
+-- r is the place of the first one, and its amounts are right
+pub record FirstFit (tables rows : List ℕ) (j t r : ℕ) (amounts : List ℕ) : Type 0 where
+  pub is : r ≡ place (relation-of tables rows) (first-step tables j) (steps (second-table tables) t)
+  pub below : r < length (steps (second-table tables) t)
+  pub shares : SharesIn (relation-of tables rows) (first-step tables j) (transition (second-table tables) t r) (cell amounts)

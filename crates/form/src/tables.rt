@@ -1,0 +1,60 @@
+// Both tables in one slice, the form of the first and after it that of the second: `which` is the place where one begins.
+use crate::Form;
+ghost use mathlib.Core.Path.{_≡_};
+ghost use Prim.Native.Nat.{_+_, _≤_, _<_};
+ghost use lib.ListN.{length};
+ghost use Rattle.simulation.specs.Table.{weights, targets, states-of};
+ghost use Rattle.form.specs.Form.{form-size, start-of, transitions-of, column-of, transition-at, table-of, Loaded, Span};
+ghost use Rattle.form.specs.Tables.{form-at};
+
+// How many states the table has.
+pub fn states(tables: &[u16], which: usize) -> usize
+    requires { ⌜ Loaded (form-at (now tables) which) ⌝ }
+    ensures { λ r. ⌜ r ≡ states-of (table-of (form-at (now (tables .entry)) which)) ⌝ }
+{
+    tables[which + Form::STATES_AT] as usize
+}
+
+// The first transition of the state s, counted over all transitions; for the count of states, the count of transitions.
+pub fn start_of(tables: &[u16], which: usize, s: usize) -> usize
+    requires { ⌜ Loaded (form-at (now tables) which) × (s ≤ states-of (table-of (form-at (now tables) which))) ⌝ }
+    ensures { λ r. ⌜ r ≡ start-of (form-at (now (tables .entry)) which) s ⌝ }
+{
+    tables[which + Form::STARTS_AT + s] as usize
+}
+
+// The code of the transition j.
+pub fn code(tables: &[u16], which: usize, j: usize) -> u16
+    requires { ⌜ Loaded (form-at (now tables) which) × (j < transitions-of (form-at (now tables) which)) ⌝ }
+    ensures { λ r. ⌜ r ≡ transition-at (form-at (now (tables .entry)) which) j .code ⌝ }
+{
+    tables[which + Form::CODES_AT + j]
+}
+
+// The part of a column that belongs to the transition j, where the column of all entries begins at a place of the form.
+fn column(tables: &[u16], which: usize, column: usize, j: usize) -> &[u16]
+    requires { ⌜ (which + form-size ≤ length (now tables)) × Span (form-at (now tables) which) column j ⌝ }
+    ensures { λ r. ⌜ now r ≡ column-of (form-at (now (tables .entry)) which) column j ⌝ }
+{
+    let starts = which + Form::ENTRY_STARTS_AT;
+    let start = tables[starts + j] as usize;
+    let end = tables[starts + (j + 1)] as usize;
+    let from = which + column;
+    &tables[from + start..from + end]
+}
+
+// The weights of the transition j, in order.
+pub fn weights(tables: &[u16], which: usize, j: usize) -> &[u16]
+    requires { ⌜ Loaded (form-at (now tables) which) × (j < transitions-of (form-at (now tables) which)) ⌝ }
+    ensures { λ r. ⌜ now r ≡ weights (transition-at (form-at (now (tables .entry)) which) j) ⌝ }
+{
+    column(tables, which, Form::WEIGHTS_AT, j)
+}
+
+// The targets of the transition j, in order.
+pub fn targets(tables: &[u16], which: usize, j: usize) -> &[u16]
+    requires { ⌜ Loaded (form-at (now tables) which) × (j < transitions-of (form-at (now tables) which)) ⌝ }
+    ensures { λ r. ⌜ now r ≡ targets (transition-at (form-at (now (tables .entry)) which) j) ⌝ }
+{
+    column(tables, which, Form::TARGETS_AT, j)
+}

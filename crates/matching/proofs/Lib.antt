@@ -1,8 +1,0 @@
--- Laws that the proofs cite.
--- Assumes nothing.
-pub mod Sets
-pub mod Covering
-pub mod Gathering
-pub mod Fitting
-pub mod Steps
-pub mod Trying

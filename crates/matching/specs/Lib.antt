@@ -1,5 +1,0 @@
--- The definitions, in reading order.
--- Assumes nothing.
-pub mod Held
-pub mod Known
-pub mod Quick

@@ -1,0 +1,87 @@
+-- What the rounds work with, and what is known of it before, between and after them.
+-- Assumes nothing.
+use mathlib.Core.Path.{_≡_}
+use mathlib.Core.Bool.{false}
+use mathlib.Core.List.{List}
+use Prim.Native.Nat.{ℕ, _+_, _*_, _≤_, _<_}
+use lib.Dec.{eqb}
+use lib.ListN.{length, getD}
+use Rattle.simulation.specs.Limits.{most-pairs, most-states}
+use Rattle.simulation.specs.Table.{Table, states-of}
+use Rattle.simulation.specs.Round.{rank, rank-list, maximum, pairs}
+use Rattle.relation.specs.Words.{height}
+use Rattle.relation.specs.Related.{holds}
+use Rattle.form.specs.Tables.{first-form, second-form, first-table, second-table, BothLoaded}
+use Rattle.fit.specs.Held.{held, relation-of}
+use Rattle.fit.specs.Known.{TargetSets, Tried}
+use Rattle.links.specs.Places.{HasSets, HasMarks, before-in, behind-in, targets-in, doubt-in, lost-in}
+use Rattle.links.specs.Links.{Empty, Linked}
+use Rattle.rounds.specs.Rounds.{After, DoubtsKnown, Fallen}
+
+-- between round k and the next, with the pairs that fall next
+pub record Standing (M N : Table) (k : ℕ) (rows ranks lost : List ℕ) (fell : ℕ) : Type 0 where
+  pub after : After M N k rows ranks
+  pub next : Fallen M N (held M N rows) lost fell
+
+-- the lists that the rounds work with: the ranks, the sets that are known, the pairs that are left, those in doubt and lost, what was tried, room for a flow
+pub record Work : Type 0 where
+  pub ranks : List ℕ
+  pub sets : List ℕ
+  pub rows : List ℕ
+  pub marks : List ℕ
+  pub tried : List ℕ
+  pub amounts : List ℕ
+
+abbrev pub work : (ranks sets rows marks tried amounts : List ℕ) → Work
+work ranks sets rows marks tried amounts = record { ranks = ranks; sets = sets; rows = rows; marks = marks; tried = tried; amounts = amounts }
+
+-- what a round finds the pairs that fall with: those in doubt are known, and none is lost yet
+pub record Dropping (tables sets rows marks : List ℕ) (doubtful : ℕ) : Type 0 where
+  pub target-sets : TargetSets (second-form tables) sets
+  pub rows-room : most-states ≤ height rows
+  pub marks-room : HasMarks marks
+  pub ready : DoubtsKnown (first-table tables) (second-table tables) rows doubtful (doubt-in marks)
+  pub none-lost : Empty (lost-in marks)
+
+-- what it finds: the pairs that fall, and what was tried for it
+pub record Dropped (tables rows marks tried : List ℕ) (fell : ℕ) : Type 0 where
+  pub fallen : Fallen (first-table tables) (second-table tables) (relation-of tables rows) (lost-in marks) fell
+  pub known : Tried tables rows tried
+
+-- two tables, a rank for each pair, the sets that are known, and room
+pub record Prepared (tables : List ℕ) (W : Work) : Type 0 where
+  pub loaded : BothLoaded tables
+  pub ranks-room : pairs (first-table tables) (second-table tables) ≤ length (W .ranks)
+  pub sets-room : HasSets (W .sets)
+  pub first-links : Linked (first-form tables) (before-in (W .sets))
+  pub second-links : Linked (second-form tables) (behind-in (W .sets))
+  pub target-sets : TargetSets (second-form tables) (targets-in (W .sets))
+  pub rows-room : most-states ≤ height (W .rows)
+  pub marks-room : HasMarks (W .marks)
+  pub amounts-room : most-pairs ≤ length (W .amounts)
+  pub known : Tried tables (W .rows) (W .tried)
+
+-- what the rounds start from: all pairs are left, none is lost, no rank is shown
+pub record Starting (tables : List ℕ) (W : Work) : Type 0 where
+  pub prepared : Prepared tables W
+  pub after : After (first-table tables) (second-table tables) 0 (W .rows) (W .ranks)
+  pub none-lost : Empty (lost-in (W .marks))
+
+-- what round k + 1 starts from
+pub record Turning (tables : List ℕ) (W : Work) (k fell : ℕ) : Type 0 where
+  pub prepared : Prepared tables W
+  pub standing : Standing (first-table tables) (second-table tables) k (W .rows) (W .ranks) (lost-in (W .marks)) fell
+
+-- what it leaves: the next standing, what was tried by then, and no other rank changed
+pub record Turned (tables : List ℕ) (W W′ : Work) (k fell : ℕ) : Type 0 where
+  pub standing : Standing (first-table tables) (second-table tables) k (W′ .rows) (W′ .ranks) (lost-in (W′ .marks)) fell
+  pub known : Tried tables (W′ .rows) (W′ .tried)
+  pub beyond : (i : ℕ) → pairs (first-table tables) (second-table tables) ≤ i → getD (W′ .ranks) i 0 ≡ getD (W .ranks) i 0
+
+-- the end: k is the count of rounds, the ranks are in their places, the rows hold the kept pairs
+pub record Refined (M N : Table) (ranks ranks′ rows′ : List ℕ) (k : ℕ) : Type 0 where
+  pub rounds : k ≡ maximum (rank-list M N)
+  pub ranks-are : (s t : ℕ) → s < states-of M → t < states-of N → getD ranks′ (s * states-of N + t) 0 ≡ rank M N s t
+  pub beyond : (i : ℕ) → pairs M N ≤ i → getD ranks′ i 0 ≡ getD ranks i 0
+  pub rows-are : (s t : ℕ) → s < states-of M → t < states-of N → holds rows′ s t ≡ eqb (rank M N s t) 0
+  pub columns : (s t : ℕ) → s < states-of M → states-of N ≤ t → holds rows′ s t ≡ false
