@@ -16,18 +16,18 @@ use Rattle.matrix.specs.Flow.{Supported, Small, Extends}
 use Rattle.search.specs.Search.{Forest}
 use Rattle.augment.specs.Path.{root, carried, Safe, Movable, Moved}
 use Rattle.matrix.proofs.MatrixLaws.{delta-same, row-adds, column-adds, cell-le, adds-row, outside-refl, outside-trans, outside-sym, outside-adds}
-use Rattle.matrix.proofs.MaskedLaws.{used-adds, used-takes, user-column, user-row}
+use Rattle.matrix.proofs.MaskedLaws.{used-adds, used-takes, sender-column, sender-row}
 use Rattle.matrix.proofs.FlowLaws.{added-support}
 use Rattle.search.proofs.SearchLaws.{forest-all}
 
 -- each amount on the path, and what its root has left, is at least d
-unfoldable pub Carries : (x a : List ℕ) (from via : ℕ → ℕ) → ℕ → ℕ → ℕ → Type 0
-Carries x a from via d zero i = d ≤ getD a i 0
-Carries x a from via d (suc k) i = (d ≤ cell x i (via i)) × Carries x a from via d k (from i)
+unfoldable pub PathCarries : (x a : List ℕ) (from via : ℕ → ℕ) → ℕ → ℕ → ℕ → Type 0
+PathCarries x a from via d zero i = d ≤ getD a i 0
+PathCarries x a from via d (suc k) i = (d ≤ cell x i (via i)) × PathCarries x a from via d k (from i)
 
 pub carries-of : (x a : List ℕ) (from via : ℕ → ℕ) (d k i m : ℕ) → d ≤ carried from via x k i m → d ≤ getD a (root from via k i) 0
-    → Carries x a from via d k i × (d ≤ m)
-unfolding carried root Carries
+    → PathCarries x a from via d k i × (d ≤ m)
+unfolding carried root PathCarries
 carries-of x a from via d zero i m h l = (l, h)
 carries-of x a from via d (suc k) i m h l =
     let w = carries-of x a from via d k (from i) (min m (cell x i (via i))) h l in
@@ -35,7 +35,7 @@ carries-of x a from via d (suc k) i m h l =
 
 module _ (p q : ℕ) (rel x a : List ℕ) (from via : ℕ → ℕ) where
   -- the reached rows with their ranks, and the edges between them
-  pub record Tree : Type 0 where
+  pub record ReachedTree : Type 0 where
     pub inside : ℕ → Bool
     pub rank : ℕ → ℕ
     pub row : (i : ℕ) → inside i ≡ true → i < p
@@ -47,20 +47,20 @@ module _ (p q : ℕ) (rel x a : List ℕ) (from via : ℕ → ℕ) where
     pub held : (i k : ℕ) → inside i ≡ true → rank i ≡ suc k → cell x i (via i) ≢ 0
 
   -- y is x with d moved along the path down to row r: column c still lacks d
-  pub record Walk (j d : ℕ) (y : List ℕ) (k r c : ℕ) : Type 0 where
-    pub tree : Tree
+  pub record PathWalk (j d : ℕ) (y : List ℕ) (k r c : ℕ) : Type 0 where
+    pub tree : ReachedTree
     pub inside : tree .inside r ≡ true
     pub deep : tree .rank r ≡ k
     pub column : c < q
     pub related : holds rel r c ≡ true
-    pub carries : Carries x a from via d k r
+    pub carries : PathCarries x a from via d k r
     pub rows : (i : ℕ) → i < p → row-sum q y i ≡ row-sum q x i
     pub columns : (l : ℕ) → l < q → column-sum p y l + delta c l d ≡ column-sum p x l + delta j l d
     pub supported : Supported p q rel y
     pub untouched : (i l : ℕ) → tree .rank i ≤ k → l < most-states → cell y i l ≡ cell x i l
     pub outside : Outside p q x y
 
-module _ {p q : ℕ} {rel x a : List ℕ} {from via : ℕ → ℕ} (t : Tree p q rel x a from via) where
+module _ {p q : ℕ} {rel x a : List ℕ} {from via : ℕ → ℕ} (t : ReachedTree p q rel x a from via) where
   pub tree-safe : p ≤ most-states → q ≤ most-states → (k i : ℕ) → t .inside i ≡ true → t .rank i ≡ k → Safe from via k i
   unfolding Safe
   tree-safe hp hq zero i h e = omega (arith, t .row i h)
@@ -78,8 +78,8 @@ module _ {p q : ℕ} {rel x a : List ℕ} {from via : ℕ → ℕ} (t : Tree p q
   tree-carries (suc k) i m h e n =
       tree-carries k (from i) (min m (cell x i (via i))) (t .before i k h e) (t .lower i k h e) (λ z. t .held i k h e (omega (arith, n)))
 
-  pub walk-start : {j d k r : ℕ} → t .inside r ≡ true → t .rank r ≡ k → j < q → holds rel r j ≡ true → Carries x a from via d k r
-      → Supported p q rel x → Walk p q rel x a from via j d x k r j
+  pub walk-start : {j d k r : ℕ} → t .inside r ≡ true → t .rank r ≡ k → j < q → holds rel r j ≡ true → PathCarries x a from via d k r
+      → Supported p q rel x → PathWalk p q rel x a from via j d x k r j
   walk-start h e l f c s = record {
     tree = t;
     inside = h;
@@ -95,15 +95,15 @@ module _ {p q : ℕ} {rel x a : List ℕ} {from via : ℕ → ℕ} (t : Tree p q
   }
 
 module _ {p q : ℕ} {rel x a : List ℕ} {from via : ℕ → ℕ} {j d : ℕ} (w : q ≤ most-states) where
-  walk-row : {y : List ℕ} {k r c : ℕ} → Walk p q rel x a from via j d y k r c → r < p
+  walk-row : {y : List ℕ} {k r c : ℕ} → PathWalk p q rel x a from via j d y k r c → r < p
   walk-row {r = r} s = s .tree .row r (s .inside)
 
-  module _ {y : List ℕ} {k r c : ℕ} (s : Walk p q rel x a from via j d y (suc k) r c) where
+  module _ {y : List ℕ} {k r c : ℕ} (s : PathWalk p q rel x a from via j d y (suc k) r c) where
     walk-via : via r < q
     walk-via = s .tree .column r k (s .inside) (s .deep)
 
-    walk-step : {y₁ y₂ : List ℕ} → Adds y₁ y r (via r) d → Adds y₁ y₂ r c d → Walk p q rel x a from via j d y₂ k (from r) (via r)
-    unfolding Carries
+    walk-step : {y₁ y₂ : List ℕ} → Adds y₁ y r (via r) d → Adds y₁ y₂ r c d → PathWalk p q rel x a from via j d y₂ k (from r) (via r)
+    unfolding PathCarries
     walk-step t u = let n = s .tree in record {
       tree = n;
       inside = n .before r k (s .inside) (s .deep);
@@ -122,7 +122,7 @@ module _ {p q : ℕ} {rel x a : List ℕ} {from via : ℕ → ℕ} {j d : ℕ} (
     }
 
     walk-held : d ≤ cell y r (via r)
-    unfolding Carries
+    unfolding PathCarries
     walk-held = omega (arith, s .carries .0, s .untouched r (via r) (omega (arith, s .deep)) (omega (arith, walk-via)))
 
     -- a step has room in the cell that it adds d to
@@ -130,9 +130,9 @@ module _ {p q : ℕ} {rel x a : List ℕ} {from via : ℕ → ℕ} {j d : ℕ} (
     walk-room {y₁} m t =
         omega (arith, m .fits r (walk-row s), s .rows r (walk-row s), row-adds p q w t walk-via r, delta-same r d, cell-le q y₁ r c (s .column))
 
-  module _ {y : List ℕ} {r c : ℕ} (s : Walk p q rel x a from via j d y 0 r c) where
+  module _ {y : List ℕ} {r c : ℕ} (s : PathWalk p q rel x a from via j d y 0 r c) where
     walk-last : Small p q x a → cell y r c + d < 2 ^ 32
-    unfolding Carries
+    unfolding PathCarries
     walk-last m = omega (arith, m .fits r (walk-row s), s .rows r (walk-row s), cell-le q y r c (s .column), s .carries)
 
     walk-end : {y′ : List ℕ} → Adds y y′ r c d → Extends p q rel x y′ r j d
@@ -143,12 +143,12 @@ module _ {p q : ℕ} {rel x a : List ℕ} {from via : ℕ → ℕ} {j d : ℕ} (
       outside = outside-trans (s .outside) (outside-adds (walk-row s) (s .column) u);
     }
 
-  pub movable : Small p q x a → {y : List ℕ} (k : ℕ) {r c : ℕ} → Walk p q rel x a from via j d y k r c → Movable from via d k r c y
+  pub movable : Small p q x a → {y : List ℕ} (k : ℕ) {r c : ℕ} → PathWalk p q rel x a from via j d y k r c → Movable from via d k r c y
   unfolding Movable
   movable m zero s = (omega (arith, s .column), walk-last s m)
   movable m (suc k) s = (omega (arith, s .column), walk-held s, λ y₁ t. (walk-room s m t, λ z u. movable m k (walk-step s t u)))
 
-  pub moved : {k r c : ℕ} {y senders y′ senders′ : List ℕ} → Walk p q rel x a from via j d y k r c → Used p q y senders
+  pub moved : {k r c : ℕ} {y senders y′ senders′ : List ℕ} → PathWalk p q rel x a from via j d y k r c → Used p q y senders
       → Moved from via d k r c y senders y′ senders′ → Extends p q rel x y′ (root from via k r) j d × Used p q y′ senders′
   unfolding root
   moved s u (Moved.last t n) = (walk-end s t, used-adds w (walk-row s) (s .column) t u n)
@@ -158,15 +158,15 @@ module _ {p q : ℕ} {rel x a : List ℕ} {from via : ℕ → ℕ} {j d : ℕ} (
 -- the forest of a search over a flow
 module _ {p q : ℕ} {rel x a senders : List ℕ} {short : ℕ} {from via : ℕ → ℕ} {S : Test} {rank : ℕ → ℕ}
     (t : Forest rel senders short from via S rank) (u : Used p q x senders) (h : MaskOf p (λ i. getD a i 0) short) where
-  abbrev pub tree-of : Tree p q rel x a from via
+  abbrev pub tree-of : ReachedTree p q rel x a from via
   tree-of = record {
     inside = S;
     rank = rank;
-    row = λ i m. forest-all (λ (k : ℕ). k < p) t (h .below) (user-row u) (rank i) i m refl;
+    row = λ i m. forest-all (λ (k : ℕ). k < p) t (h .below) (sender-row u) (rank i) i m refl;
     short = λ i m e. h .some i (t .root i m e);
     before = t .before;
     lower = t .lower;
-    column = λ i k m e. user-column u i (via i) (t .sender i k m e);
+    column = λ i k m e. sender-column u i (via i) (t .sender i k m e);
     related = t .related;
-    held = λ i k m e. u .column (via i) (user-column u i (via i) (t .sender i k m e)) .some i (t .sender i k m e);
+    held = λ i k m e. u .column (via i) (sender-column u i (via i) (t .sender i k m e)) .some i (t .sender i k m e);
   }

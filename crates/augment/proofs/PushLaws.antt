@@ -12,25 +12,25 @@ use Rattle.relation.specs.Words.{row-of}
 use Rattle.relation.specs.Related.{holds}
 use Rattle.relation.proofs.Sets.{both-of}
 use Rattle.matrix.specs.Matrix.{AddsAt}
-use Rattle.matrix.specs.Masks.{put, MaskOf}
+use Rattle.matrix.specs.Masks.{with-nonzero, MaskOf}
 use Rattle.matrix.specs.Flow.{Flow, Partial, FlowIn}
 use Rattle.search.specs.Links.{HasLinks}
-use Rattle.search.specs.Search.{Room, Reaches}
+use Rattle.search.specs.Search.{SearchRoom, Reaches}
 use Rattle.augment.specs.Path.{root, carried, Safe, Movable, Moved}
 use Rattle.augment.specs.Augments.{Augments, Augmented, AugmentsIn, EndsOf, Pushed}
 use Rattle.matrix.proofs.MatrixLaws.{delta-other}
-use Rattle.matrix.proofs.MaskedLaws.{both-at, both-in, not-zero, mask-put, user-row}
+use Rattle.matrix.proofs.MaskedLaws.{both-at, both-in, not-zero, mask-put, sender-row}
 use Rattle.matrix.proofs.FlowLaws.{improved, missing-falls}
-use Rattle.augment.proofs.PathLaws.{Tree, Walk, Carries, carries-of, tree-of, tree-safe, tree-root, tree-carries, walk-start, movable, moved}
+use Rattle.augment.proofs.PathLaws.{ReachedTree, PathWalk, PathCarries, carries-of, tree-of, tree-safe, tree-root, tree-carries, walk-start, movable, moved}
 
 -- a search has room in a flow
 pub room-of : {p q : ℕ} {rel x a b senders links : List ℕ} {short : ℕ} → Flow p q rel x a b senders → MaskOf p (λ i. getD a i 0) short
-    → HasLinks links → Room rel senders links short
+    → HasLinks links → SearchRoom rel senders links short
 room-of f h l = let z = f .sized in record {
   columns = z .columns;
   links-room = l;
   starts = λ i m. omega (arith, h .below i m, z .masks);
-  rows = λ i j m. omega (arith, user-row (f .used) i j m, z .masks);
+  rows = λ i j m. omega (arith, sender-row (f .used) i j m, z .masks);
 }
 
 -- the column that push goes to
@@ -51,11 +51,11 @@ pub record Load (rel : List ℕ) (F : Partial) (short free : ℕ) (from via : �
   pub some : 0 < d
   pub within-row : d ≤ getD (F .supply) i 0
   pub within-column : d ≤ getD (F .demand) j 0
-  pub walk : Walk (length (F .supply)) (length (F .demand)) rel (F .amounts) (F .supply) from via j d (F .amounts) depth r j
+  pub walk : PathWalk (length (F .supply)) (length (F .demand)) rel (F .amounts) (F .supply) from via j d (F .amounts) depth r j
 
 module _ {rel : List ℕ} {F : Partial} {short free : ℕ} {from via : ℕ → ℕ} {S : Test} {r depth : ℕ} (f : FlowIn rel F)
     (e : EndsOf F (length (F .supply)) (length (F .demand)) short free) (t : Reaches rel (F .senders) short free from via S r depth) where
-  abbrev tree : Tree (length (F .supply)) (length (F .demand)) rel (F .amounts) (F .supply) from via
+  abbrev tree : ReachedTree (length (F .supply)) (length (F .demand)) rel (F .amounts) (F .supply) from via
   tree = tree-of (t .forest) (f .used) (e .rows)
 
   pub path-row : r < length (F .supply)
@@ -84,7 +84,7 @@ module _ {rel : List ℕ} {F : Partial} {short free : ℕ} {from via : ℕ → �
     left-root : getD (F .supply) i 0 ≡ getD (F .supply) (root from via depth r) 0
     left-root = ap (λ (n : ℕ). getD (F .supply) n 0) ei
 
-    carries : Carries (F .amounts) (F .supply) from via d depth r × (d ≤ getD (F .demand) j 0)
+    carries : PathCarries (F .amounts) (F .supply) from via d depth r × (d ≤ getD (F .demand) j 0)
     carries = carries-of (F .amounts) (F .supply) from via d depth r (getD (F .demand) j 0) (omega (arith, em)) (omega (arith, left-root))
 
     positive : 0 < d
@@ -110,7 +110,7 @@ module _ {rel : List ℕ} {F : Partial} {short free : ℕ} {from via : ℕ → �
 
 -- the mask of what is left, where d is taken away at one place
 mask-left : {n m m′ k d : ℕ} {a a′ : List ℕ} → MaskOf n (λ i. getD a i 0) m → k < n → AddsAt a′ a k d
-    → member m′ ≡ put k (getD a′ k 0) (member m) → MaskOf n (λ i. getD a′ i 0) m′
+    → member m′ ≡ with-nonzero k (getD a′ k 0) (member m) → MaskOf n (λ i. getD a′ i 0) m′
 mask-left {m′ = m′} {d = d} h l s e = mask-put m′ h l refl (λ i o. omega (arith, s .more i, delta-other d (λ (z : _ ≡ i). o (sym z)))) e
 
 module _ {rel : List ℕ} {F : Partial} {short free : ℕ} {from via : ℕ → ℕ} {S : Test} {r depth j i d : ℕ}
@@ -144,7 +144,7 @@ module _ {rel : List ℕ} {F : Partial} {short free : ℕ} {from via : ℕ → �
 
     pub pushed : {short′ free′ : ℕ} → length (G .amounts) ≡ length (F .amounts) → length (G .supply) ≡ length (F .supply)
         → length (G .demand) ≡ length (F .demand) → length (G .senders) ≡ length (F .senders)
-        → member short′ ≡ put i (getD (G .supply) i 0) (member short) → member free′ ≡ put j (getD (G .demand) j 0) (member free)
+        → member short′ ≡ with-nonzero i (getD (G .supply) i 0) (member short) → member free′ ≡ with-nonzero j (getD (G .demand) j 0) (member free)
         → Pushed rel F G short′ free′
     pushed lx la lb lu es ef = let v = moved (w .flow .sized .few-columns) (w .walk) (w .flow .used) mv in record {
       improves = improved (w .flow) lx la lb lu (rw (w .is-root) (v .0)) s u (v .1);

@@ -16,8 +16,8 @@ use Rattle.buffer.specs.Buffer.{over, with-part, Filled}
 use lib.Seq.{take-suc-set, append-snoc, length-take-le, take-append-add, drop-append-add, take-append-seam, drop-append-seam, drop-drop, drop-set-lt, take-all}
 
 -- the part of a buffer from `at` on, and the buffer once the part is back at the list ys: what a loan of `&mut b[at..]` gives
-abbrev pub part : {A : Type 0} → ℕ → List A → List A
-part at l = take (length l - at) (drop at l)
+abbrev pub part-from : {A : Type 0} → ℕ → List A → List A
+part-from at l = take (length l - at) (drop at l)
 
 abbrev pub back : {A : Type 0} → ℕ → List A → List A → List A
 back at l ys = with-part at (length l - at) ys l
@@ -56,7 +56,7 @@ module _ {A : Type 0} where
   pub at-room : {total b rest now : List A} {at : ℕ} → Written total b rest now at → at ≤ length now
   at-room w = omega (arith, w .within, w .room, w .kept)
 
-  pub part-all : (at : ℕ) (l : List A) → part at l ≡ drop at l
+  pub part-all : (at : ℕ) (l : List A) → part-from at l ≡ drop at l
   part-all at l = take-all (length l - at) (drop at l) (simp length-drop (le-refl (length l - at)))
 
   pub back-all : (at : ℕ) (l ys : List A) → back at l ys ≡ take at l ++ ys
@@ -64,7 +64,7 @@ module _ {A : Type 0} where
 
   -- the rest of the buffer is lent to a function that puts bs at its start
   module _ {total b now : List A} {at : ℕ} (bs rest : List A) (w : Written total b (bs ++ rest) now at) where
-    module _ {ys : List A} (put : ys ≡ over bs (part at now)) where
+    module _ {ys : List A} (put : ys ≡ over bs (part-from at now)) where
       new-is : back at now ys ≡ take at now ++ (bs ++ drop (length bs) (drop at now))
       new-is = back-all at now ys ∙ ap (λ l. take at now ++ l) (put ∙ ap (over bs) (part-all at now))
 

@@ -16,7 +16,7 @@ use Rattle.simulation.proofs.Trees.Choice.{chosen-target, below-rank}
 use Rattle.form.specs.Form.{Loaded, transitions-of}
 use Rattle.form.specs.Tables.{first-form, second-form, first-table, second-table, first-step}
 use Rattle.form.proofs.FormLaws.{start-bound, weights-length, sound}
-use Rattle.relate.specs.Ranked.{Ranked}
+use Rattle.relate.specs.Ranked.{RanksRight}
 use Rattle.choice.specs.Choice.{Lost, Choice}
 
 module _ (tables : List ℕ) (l : Loaded (first-form tables)) (s t j : ℕ) (in-range : s < states-of (first-table tables)) (w : Choice tables s t j) where
@@ -27,7 +27,7 @@ module _ (tables : List ℕ) (l : Loaded (first-form tables)) (s t j : ℕ) (in-
   choice-width = ap (λ (m : Transition). length (m .entries)) (w .is)
 
 -- where a pair's rank stands
-module _ {tables ranks : List ℕ} (g : Ranked tables ranks) {s t : ℕ} (a : s < states-of (first-table tables)) (b : t < states-of (second-table tables)) where
+module _ {tables ranks : List ℕ} (g : RanksRight tables ranks) {s t : ℕ} (a : s < states-of (first-table tables)) (b : t < states-of (second-table tables)) where
   pub pair-place : s * states-of (second-table tables) + t < length ranks
   pair-place =
       let row : suc s * states-of (second-table tables) ≤ states-of (first-table tables) * states-of (second-table tables) = mul-le-mul-right (states-of (second-table tables)) a in

@@ -10,7 +10,7 @@ use native.Mathlib.Nat.{zero-add, not-suc-le-zero, le-of-suc-le-suc, sub-self}
 use native.Mathlib.Omega.{arith}
 use native.Mathlib.Decide.{ℕ-discrete, decLt}
 use lib.Dec.{T, eqb, eqb→eq}
-use borrow.Author.Tests.{lt-ltb, ltb-true}
+use borrow.Author.Tests.{lt-ltb, ltb-true, eqb-false}
 use lib.ListN.{length, getD, take}
 use lib.Seq.{take-all}
 use Rattle.simulation.specs.Limits.{most-pairs, most-states}
@@ -34,7 +34,8 @@ use Rattle.relation.proofs.Parts.{part-row}
 use Rattle.matrix.proofs.MaskedLaws.{true-or-false, neither, except-at, either-at, either-left, either-right, drop-at, drop-out, no-members}
 use Rattle.buffer.specs.Buffer.{with-part}
 use Rattle.buffer.proofs.Parts.{part-size, part-is, part-length, part-before}
-use Rattle.relate.specs.Ranked.{Ranked}
+use Rattle.relate.specs.Ranked.{RanksRight}
+use Rattle.fit.specs.Partner.{NextCoded}
 use Rattle.fit.specs.Ranked.{InRound, Cut}
 use Rattle.fit.proofs.Fitting.{other-code}
 use Rattle.fit.proofs.Comparing.{cut-fits}
@@ -206,23 +207,23 @@ module _ (R : Relation) (m n : Transition) where
 -- ---- the sets, and after them the rows of a relation, which were lent and came back
 
 -- the words of each half
-abbrev pub half : ℕ
-half = most-states * words
+abbrev pub half-words : ℕ
+half-words = most-states * words
 
 module _ (rel sets : List ℕ) (room : 2 * most-states ≤ height sets) (size : length rel ≡ length (rows-in most-states most-states sets)) where
-  rel-size : length rel ≡ half
-  rel-size = size ∙ part-size half half sets (omega arith)
+  rel-size : length rel ≡ half-words
+  rel-size = size ∙ part-size half-words half-words sets (omega arith)
 
-  pub lent-height : height (with-part half half rel sets) ≡ height sets
-  lent-height = ap (λ (n : ℕ). n / words) (part-length half half rel sets rel-size (omega arith))
+  pub lent-height : height (with-part half-words half-words rel sets) ≡ height sets
+  lent-height = ap (λ (n : ℕ). n / words) (part-length half-words half-words rel sets rel-size (omega arith))
 
-  pub lent-rows : rows-in most-states most-states (with-part half half rel sets) ≡ rel
-  lent-rows = part-is half half rel sets rel-size (omega arith)
+  pub lent-rows : rows-in most-states most-states (with-part half-words half-words rel sets) ≡ rel
+  lent-rows = part-is half-words half-words rel sets rel-size (omega arith)
 
-  pub lent-sets : (i : ℕ) → i < most-states → row-of (with-part half half rel sets) i ≡ row-of sets i
+  pub lent-sets : (i : ℕ) → i < most-states → row-of (with-part half-words half-words rel sets) i ≡ row-of sets i
   lent-sets i lt =
-      let l = with-part half half rel sets in
-      ap (row-of l) (sym (zero-add i)) ∙ sym (part-row 0 most-states l i lt) ∙ ap (λ (z : List ℕ). row-of z i) (part-before half half rel sets rel-size (omega arith) 0 half (omega arith))
+      let l = with-part half-words half-words rel sets in
+      ap (row-of l) (sym (zero-add i)) ∙ sym (part-row 0 most-states l i lt) ∙ ap (λ (z : List ℕ). row-of z i) (part-before half-words half-words rel sets rel-size (omega arith) 0 half-words (omega arith))
       ∙ part-row 0 most-states sets i lt ∙ ap (row-of sets) (zero-add i)
 
 -- ---- the transitions of a state, by number
@@ -255,7 +256,7 @@ module _ (f : List ℕ) (l : Loaded f) (t : ℕ) (b : t < states-of (table-of f)
 -- ---- a pair that is not kept, with its rank
 
 pub record LostPair (tables ranks : List ℕ) (s t r : ℕ) : Type 0 where
-  pub ranked : Ranked tables ranks
+  pub ranked : RanksRight tables ranks
   pub lost : Lost tables s t
   pub its-rank : r ≡ rank (first-table tables) (second-table tables) s t
 
@@ -389,6 +390,20 @@ module _ (R : Relation) (m : Transition) (tables : List ℕ) (l : Loaded (second
             ∙ sym (ap (λ (c : ℕ). any-of (λ n. apart-by R m i n u) (take c (steps (second-table tables) t))) e
             ∙ any-of-take (λ n. apart-by R m i n u) (steps (second-table tables) t) c (omega (arith, counts (second-form tables) l t b, g .scan .low)));
       }
+
+  -- those with another code add nothing
+  pub gathering-coded : {c k e r : ℕ} {sets : List ℕ} → c ≡ m .code → NextCoded tables c k e r → e ≡ start-of (second-form tables) (t + 1) → Gathering R m tables t k sets
+      → Gathering R m tables t r sets
+  gathering-coded {c} {k} {e} {r} {sets} code next end g = passed (r - k) r (omega (arith, next .from)) (omega arith)
+    where
+      move : {q q′ : ℕ} → q ≡ q′ → Gathering R m tables t q sets → Gathering R m tables t q′ sets
+      move = subst (λ (q : ℕ). Gathering R m tables t q sets)
+
+      passed : (n q : ℕ) → q ≡ k + n → q ≤ r → Gathering R m tables t q sets
+      passed zero q w le = move (omega arith) g
+      passed (suc n) q w le =
+          let other : m .code ≡ second-step tables (k + n) .code → ⊥ = λ d. eqb-false c (second-step tables (k + n) .code) (next .passed (k + n) (omega arith) (omega arith)) (code ∙ d) in
+          move (omega arith) (gathering-next (passed n (k + n) refl (omega arith)) (omega (arith, next .to)) (parted-other R m (second-step tables (k + n)) other sets) refl)
 
   pub gathering-end : {k : ℕ} {sets : List ℕ} → Gathering R m tables t k sets → start-of (second-form tables) (t + 1) ≤ k → (i : ℕ) → i < length (m .entries)
       → member (row-of sets i) ≡ apart R m (steps (second-table tables) t) i

@@ -44,7 +44,7 @@ pub record Choice (tables : List ℕ) (s t j : ℕ) : Type 0 where
   pub is : first-step tables j ≡ chosen (first-table tables) (second-table tables) s t
 
 -- a mask for the set of each target of the chosen transition
-pub record Sets (tables : List ℕ) (s t : ℕ) (sets : List ℕ) : Type 0 where
+pub record SetsChosen (tables : List ℕ) (s t : ℕ) (sets : List ℕ) : Type 0 where
   pub set : (i : ℕ) → i < length (chosen (first-table tables) (second-table tables) s t .entries)
       → member (row-of sets i) ≡ set-of (first-table tables) (second-table tables) s t i
 
@@ -59,4 +59,4 @@ pub record Tested (tables : List ℕ) (s t r j l : ℕ) (sets : List ℕ) : Type
   pub high : l ≤ start-of (second-form tables) (t + 1)
   pub one : l < start-of (second-form tables) (t + 1) → round-fits-some tables t r j ≡ true
   pub none : start-of (second-form tables) (t + 1) ≤ l → round-fits-some tables t r j ≡ false
-  pub found : Choice tables s t j → Sets tables s t sets
+  pub found : Choice tables s t j → SetsChosen tables s t sets

@@ -23,9 +23,9 @@ ghost use Rattle.relation.specs.Words.{mask, height};
 ghost use Rattle.relation.specs.Related.{holds};
 ghost use Rattle.form.specs.Form.{transitions-of, start-of};
 ghost use Rattle.form.specs.Tables.{first-form, second-form, first-table, second-table, first-step, second-step, BothLoaded};
-ghost use Rattle.relate.specs.Ranked.{Ranked};
+ghost use Rattle.relate.specs.Ranked.{RanksRight};
 ghost use Rattle.fit.specs.Ranked.{InRound};
-ghost use Rattle.choice.specs.Choice.{Names, SetsJoined, Parted, Lost, Choice, Sets, round-fits-some, Tested};
+ghost use Rattle.choice.specs.Choice.{Names, SetsJoined, Parted, Lost, Choice, SetsChosen, round-fits-some, Tested};
 
 // The rank of the pair (s, t).
 pub fn rank_at(tables: &[u16], ranks: &[u16], s: usize, t: usize) -> u16
@@ -89,8 +89,8 @@ fn join_sets(sets: &mut [Word], named: Set, more: Set)
     }
 }
 
-// Whether j fits k. If not, adds to the sets of the targets of j what they must be told apart from among the targets of k: one with another
-// code adds nothing. The sets have half of the rows; the other half is room for the rows of a relation.
+// Whether j fits k, which has its code. If not, adds to the sets of the targets of j what they must be told apart from among the targets of k.
+// The sets have half of the rows; the other half is room for the rows of a relation.
 fn part_sets(
     tables: &[u16],
     ranks: &[u16],
@@ -100,13 +100,11 @@ fn part_sets(
     sets: &mut [Word],
     amounts: &mut [u32],
 ) -> bool
-    requires { ⌜ InRound (now tables) (now ranks) r j k (now amounts) × (2 * most-states ≤ height (now sets)) ⌝ }
+    requires { ⌜ InRound (now tables) (now ranks) r j k (now amounts) × (2 * most-states ≤ height (now sets))
+        × (first-step (now tables) j .code ≡ second-step (now tables) k .code) ⌝ }
     ensures { λ b. ⌜ Parted (round (first-table (now (tables .entry))) (second-table (now (tables .entry))) (pred r))
         (first-step (now (tables .entry)) j) (second-step (now (tables .entry)) k) b (now (sets .entry)) (now (sets .exit)) ⌝ }
 {
-    if tables::code(tables, Form::FIRST, j) != tables::code(tables, Form::SECOND, k) {
-        return false;
-    }
     let rel = &mut sets[Relation::WORDS..2 * Relation::WORDS];
     let named = ranked::round_cut(tables, ranks, r, j, k, rel, amounts);
     if set::is_empty(named) {
@@ -130,19 +128,21 @@ pub fn find_sets(
     sets: &mut [Word],
     amounts: &mut [u32],
 ) -> usize
-    requires { ⌜ Ranked (now tables) (now ranks) × Lost (now tables) s t × (r ≡ rank (first-table (now tables)) (second-table (now tables)) s t)
+    requires { ⌜ RanksRight (now tables) (now ranks) × Lost (now tables) s t × (r ≡ rank (first-table (now tables)) (second-table (now tables)) s t)
         × (start-of (first-form (now tables)) s ≤ j) × (j < start-of (first-form (now tables)) (s + 1))
         × (2 * most-states ≤ height (now sets)) × (most-pairs ≤ length (now amounts)) ⌝ }
     ensures { λ l. ⌜ Tested (now (tables .entry)) s t r j l (now (sets .exit)) ⌝ }
 {
     rows::clear(sets, tables::targets(tables, Form::FIRST, j).len());
-    let last = tables::start_of(tables, Form::SECOND, t + 1);
-    let mut l = tables::start_of(tables, Form::SECOND, t);
-    while l < last {
+    let code = tables::code(tables, Form::FIRST, j);
+    let start = tables::start_of(tables, Form::SECOND, t);
+    let end = tables::start_of(tables, Form::SECOND, t + 1);
+    let mut l = fit::next_coded(tables, code, start, end);
+    while l < end {
         if part_sets(tables, ranks, r, j, l, sets, amounts) {
             return l;
         }
-        l += 1;
+        l = fit::next_coded(tables, code, l + 1, end);
     }
     l
 }
@@ -181,9 +181,9 @@ pub fn choose(
     sets: &mut [Word],
     amounts: &mut [u32],
 ) -> usize
-    requires { ⌜ Ranked (now tables) (now ranks) × Lost (now tables) s t × (r ≡ rank (first-table (now tables)) (second-table (now tables)) s t)
+    requires { ⌜ RanksRight (now tables) (now ranks) × Lost (now tables) s t × (r ≡ rank (first-table (now tables)) (second-table (now tables)) s t)
         × (2 * most-states ≤ height (now sets)) × (most-pairs ≤ length (now amounts)) ⌝ }
-    ensures { λ j. ⌜ Choice (now (tables .entry)) s t j × Sets (now (tables .entry)) s t (now (sets .exit)) ⌝ }
+    ensures { λ j. ⌜ Choice (now (tables .entry)) s t j × SetsChosen (now (tables .entry)) s t (now (sets .exit)) ⌝ }
 {
     let last = tables::start_of(tables, Form::SECOND, t + 1);
     let mut j = tables::start_of(tables, Form::FIRST, s);

@@ -26,9 +26,9 @@ use Rattle.relation.specs.Mask.{Test}
 use Rattle.relation.specs.Words.{height}
 use Rattle.relation.specs.Related.{related, all-below}
 use Rattle.relation.specs.declared.Relation.{Relation}
-use Rattle.relate.specs.Ranked.{Ranked}
+use Rattle.relate.specs.Ranked.{RanksRight}
 use Rattle.choice.specs.Choice.{Lost}
-use Rattle.flows.specs.FlowSteps.{Chosen}
+use Rattle.flows.specs.FlowSteps.{KeptPair}
 use Rattle.flows.proofs.FlowPlace.{right-amounts}
 use Rattle.buffer.specs.Buffer.{over}
 use Rattle.counting.specs.Count.{longest}
@@ -61,8 +61,8 @@ pub has-room : {k n N : ℕ} → n ≡ N → ltb k n ≡ false → N ≤ k
 has-room {k} {n} e z = omega (arith, ltb-false k n z)
 
 -- no amounts
-abbrev pub nothing : ℕ → Amounts
-nothing k i j = 0
+abbrev pub none-sent : ℕ → Amounts
+none-sent k i j = 0
 
 module _ (M N : Table) (s t : ℕ) where
   -- amounts that are right if the pair is kept
@@ -75,9 +75,9 @@ module _ (M N : Table) (s t : ℕ) where
     where
       go : Dec (s < states-of M) → Dec (t < states-of N) → Dec (Kept M N s t) → (x : ℕ → Amounts) × Fair x
       go (yes a) (yes c) (yes k) = let r = right-amounts M N s t a c k in (r .0, λ _ _ _. r .1)
-      go (no a) d k = (nothing, λ a′ _ _. absurd (a a′))
-      go (yes a) (no c) k = (nothing, λ _ c′ _. absurd (c c′))
-      go (yes a) (yes c) (no k) = (nothing, λ _ _ k′. absurd (k k′))
+      go (no a) d k = (none-sent, λ a′ _ _. absurd (a a′))
+      go (yes a) (no c) k = (none-sent, λ _ c′ _. absurd (c c′))
+      go (yes a) (yes c) (no k) = (none-sent, λ _ _ k′. absurd (k k′))
 
   module _ (b : Buffers) where
     -- the condition says what the call does, whatever amounts there are
@@ -118,15 +118,15 @@ module _ (M N : Table) (s t : ℕ) where
           at : Answer → List ℕ → Result
           at q l = left q (lent (over (rank-list M N) (b .ranks)) (b .flow) l)
 
-          fair : Fair nothing
+          fair : Fair none-sent
           fair _ _ k′ = absurd (k k′)
 
           go : Dec (longest < length (tree-bytes M N s t)) → Dec (length (b .tree) < length (tree-bytes M N s t)) → Compared M N s t b (at r tree′)
-          go (yes h) d = let w = f .long h in by-condition (long-tree ready k h) nothing fair (ap₂ at (w .0) (w .1))
-          go (no h) (yes g) = let w = f .refused (omega arith) g in by-condition (short-tree ready k (omega arith) g) nothing fair (ap₂ at (w .0) (w .1))
+          go (yes h) d = let w = f .long h in by-condition (long-tree ready k h) none-sent fair (ap₂ at (w .0) (w .1))
+          go (no h) (yes g) = let w = f .refused (omega arith) g in by-condition (short-tree ready k (omega arith) g) none-sent fair (ap₂ at (w .0) (w .1))
           go (no h) (no g) =
               let w = f .written (omega arith) (omega arith) in
-              by-condition (tree-fits ready k (omega arith) (omega arith)) nothing fair (ap₂ at (w .0 ∙ done (length (tree-bytes M N s t))) (w .1))
+              by-condition (tree-fits ready k (omega arith) (omega arith)) none-sent fair (ap₂ at (w .0 ∙ done (length (tree-bytes M N s t))) (w .1))
 
 -- the places of pairs are small
 pub place-small : (tables : List ℕ) → BothLoaded tables → {q : ℕ} → q ≡ states-of (second-table tables) → (s t : ℕ) → s < states-of (first-table tables)
@@ -167,7 +167,7 @@ module _ (tables : List ℕ) (loaded : BothLoaded tables) (s t : ℕ) (left-in :
       ∙ List·getD-append (rank-list M N) _ 0 (u * states-of N + v) (omega (arith, rank-list-length M N, place-below u v (states-of M) (states-of N) a c))
       ∙ rank-list-at M N u v a c
 
-  pub ranked-after : Ranked tables new
+  pub ranked-after : RanksRight tables new
   ranked-after = record { loaded = loaded; enough = long-enough; ranked = here }
 
   module _ {w : ℕ} (width : w ≡ states-of N) where
@@ -178,7 +178,7 @@ module _ (tables : List ℕ) (loaded : BothLoaded tables) (s t : ℕ) (left-in :
     rank-after = ap (λ (v : ℕ). getD new (s * v + t) 0) width ∙ here s t left-in right-in
 
     -- the pair, kept or not
-    pub chosen-after : {amounts : List ℕ} → most-states ≤ height rows → most-pairs ≤ length amounts → getD new (s * w + t) 0 ≡ 0 → Chosen tables rows amounts s t
+    pub chosen-after : {amounts : List ℕ} → most-states ≤ height rows → most-pairs ≤ length amounts → getD new (s * w + t) 0 ≡ 0 → KeptPair tables rows amounts s t
     chosen-after a b z =
         record {
           loaded = loaded;

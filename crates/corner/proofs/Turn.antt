@@ -21,16 +21,16 @@ use Rattle.greedy.proofs.StartLaws.{supply-fits, weight-le}
 use Rattle.corner.proofs.Overlap.{end-of, end-none, end-next, end-le, end-last, amount, row-within, column-within, shares-out}
 
 -- each pair in the first i rows or the first j columns that has something in common is related
-pub record Passed (R : ℕ → ℕ → Bool) (ws vs : List ℕ) (i j : ℕ) : Type 0 where
+pub record RelatedBefore (R : ℕ → ℕ → Bool) (ws vs : List ℕ) (i j : ℕ) : Type 0 where
   pub related : (k l : ℕ) → k < length ws → l < length vs → (k < i) ⊎ (l < j) → amount ws vs k l ≢ 0 → T (R k l)
 
 -- the rule is past i rows and j columns, whose shares end at a and b, and g is 1 only if it met related pairs alone
-pub record Reached (R : ℕ → ℕ → Bool) (ws vs : List ℕ) (i j a b g : ℕ) : Type 0 where
+pub record RuleAt (R : ℕ → ℕ → Bool) (ws vs : List ℕ) (i j a b g : ℕ) : Type 0 where
   pub column : i < length ws → j < length vs
   pub row-start : a ≡ end-of (total vs) ws i
   pub column-start : b ≡ end-of (total ws) vs j
   pub digit : g < 2
-  pub passed : g ≡ 1 → Passed R ws vs i j
+  pub passed : g ≡ 1 → RelatedBefore R ws vs i j
 
 -- what a turn finds at row i and column j: their shares end at x and y, and g is 1 only if this pair is related too
 pub record Turn (R : ℕ → ℕ → Bool) (ws vs : List ℕ) (i j x y g : ℕ) : Type 0 where
@@ -40,10 +40,10 @@ pub record Turn (R : ℕ → ℕ → Bool) (ws vs : List ℕ) (i j x y g : ℕ) 
   pub column-end : y ≡ end-of (total ws) vs (j + 1)
   pub digit : g < 2
   pub met : g ≡ 1 → T (R i j)
-  pub passed : g ≡ 1 → Passed R ws vs i j
+  pub passed : g ≡ 1 → RelatedBefore R ws vs i j
 
 module _ {R : ℕ → ℕ → Bool} {ws vs : List ℕ} where
-  pub start : 0 < length vs → Reached R ws vs 0 0 0 0 1
+  pub start : 0 < length vs → RuleAt R ws vs 0 0 0 0 1
   start h = record {
     column = λ _. h;
     row-start = sym (end-none (total vs) ws);
@@ -52,7 +52,7 @@ module _ {R : ℕ → ℕ → Bool} {ws vs : List ℕ} where
     passed = λ _. record { related = λ k l _ _ d. ⊎-elim (λ u. absurd (omega arith)) (λ u. absurd (omega arith)) d };
   }
 
-  pub past-row : {i j : ℕ} → Passed R ws vs i j → T (R i j) → end-of (total vs) ws (i + 1) ≤ end-of (total ws) vs (j + 1) → Passed R ws vs (i + 1) j
+  pub past-row : {i j : ℕ} → RelatedBefore R ws vs i j → T (R i j) → end-of (total vs) ws (i + 1) ≤ end-of (total ws) vs (j + 1) → RelatedBefore R ws vs (i + 1) j
   past-row {i} {j} p r m = record {
     related = λ k l hk hl d n. elim (ℕ-discrete k i) [
       | yes e ↦ elim (ℕ-discrete l j) [
@@ -67,7 +67,7 @@ module _ {R : ℕ → ℕ → Bool} {ws vs : List ℕ} where
   }
 
   -- the rule may be past row i already
-  pub past-column : {i i′ j : ℕ} → Passed R ws vs i′ j → i ≤ i′ → T (R i j) → end-of (total ws) vs (j + 1) ≤ end-of (total vs) ws (i + 1) → Passed R ws vs i′ (j + 1)
+  pub past-column : {i i′ j : ℕ} → RelatedBefore R ws vs i′ j → i ≤ i′ → T (R i j) → end-of (total ws) vs (j + 1) ≤ end-of (total vs) ws (i + 1) → RelatedBefore R ws vs i′ (j + 1)
   past-column {i} {i′} {j} p h r m = record {
     related = λ k l hk hl d n. elim (ℕ-discrete l j) [
       | yes f ↦ elim (ℕ-discrete k i) [
@@ -81,7 +81,7 @@ module _ {R : ℕ → ℕ → Bool} {ws vs : List ℕ} where
     ];
   }
 
-  module _ {i j a b g : ℕ} (s : Reached R ws vs i j a b g) where
+  module _ {i j a b g : ℕ} (s : RuleAt R ws vs i j a b g) where
     -- past the last row every pair is passed
     pub all-passed : length ws ≤ i → g ≡ 1 → fits? R ws vs ≡ true
     all-passed h e = shares-out ws vs R (λ k l hk hl n. s .passed e .related k l hk hl (inl (omega arith)) n)
@@ -116,10 +116,10 @@ module _ {R : ℕ → ℕ → Bool} {ws vs : List ℕ} where
     row-left : Positive ws → Positive vs → i + 1 < length ws → x < total ws * total vs
     row-left p q h = omega (arith, t .row-end, end-next (total vs) ws (i + 1), row-within ws vs (i + 1) h, mul-pos {m = weight ws (i + 1)} {n = total vs} (p (i + 1) h) (omega (arith, q j (t .column), weight-le vs j (t .column))))
 
-    rows-passed : x ≤ y → g ≡ 1 → Passed R ws vs (i + 1) j
+    rows-passed : x ≤ y → g ≡ 1 → RelatedBefore R ws vs (i + 1) j
     rows-passed l e = past-row (t .passed e) (t .met e) (omega (arith, t .row-end, t .column-end))
 
-    pub both-done : Positive ws → Positive vs → x ≡ y → Reached R ws vs (i + 1) (j + 1) x y g
+    pub both-done : Positive ws → Positive vs → x ≡ y → RuleAt R ws vs (i + 1) (j + 1) x y g
     both-done p q e = record {
       column = λ h. column-left (omega (arith, row-left p q h));
       row-start = t .row-end;
@@ -128,7 +128,7 @@ module _ {R : ℕ → ℕ → Bool} {ws vs : List ℕ} where
       passed = λ o. past-column (rows-passed (omega arith) o) (omega arith) (t .met o) (omega (arith, t .row-end, t .column-end));
     }
 
-    pub row-done : x < y → {b : ℕ} → b ≡ end-of (total ws) vs j → Reached R ws vs (i + 1) j x b g
+    pub row-done : x < y → {b : ℕ} → b ≡ end-of (total ws) vs j → RuleAt R ws vs (i + 1) j x b g
     row-done l e = record {
       column = λ _. t .column;
       row-start = t .row-end;
@@ -137,7 +137,7 @@ module _ {R : ℕ → ℕ → Bool} {ws vs : List ℕ} where
       passed = rows-passed (omega arith);
     }
 
-    pub column-done : y < x → {a : ℕ} → a ≡ end-of (total vs) ws i → Reached R ws vs i (j + 1) a y g
+    pub column-done : y < x → {a : ℕ} → a ≡ end-of (total vs) ws i → RuleAt R ws vs i (j + 1) a y g
     column-done l e = record {
       column = λ h. column-left (omega (arith, t .row-end, row-within ws vs i h));
       row-start = e;

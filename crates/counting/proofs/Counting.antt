@@ -18,7 +18,7 @@ use Rattle.simulation.specs.Table.{Table, targets, states-of}
 use Rattle.simulation.specs.Round.{pairs}
 use Rattle.simulation.specs.Length.{pair-length}
 use Rattle.simulation.proofs.Finite.Sums.{sum-bound, sum-none, sum-more, when-most}
-use Rattle.form.proofs.FormLaws.{limits, few-pairs}
+use Rattle.form.proofs.FormLaws.{limits, pairs-bound}
 use Rattle.relation.specs.Mask.{Test, member, without-member, Lowest}
 use Rattle.relation.specs.Words.{row-of}
 use Rattle.relation.proofs.Mask.{member-none}
@@ -44,8 +44,8 @@ pub record RowLoop (width s members c : ℕ) (counts₀ counts : List ℕ) (left
   pub kept : (t : ℕ) → T (member left t) → T (member members t)
 
 -- at first all members are left
-pub row-start : (width s members c : ℕ) (counts : List ℕ) → RowLoop width s members c counts counts members
-row-start width s members c counts = record { size = refl; due = λ u v _. refl; kept = λ t h. h }
+pub counting-start : (width s members c : ℕ) (counts : List ℕ) → RowLoop width s members c counts counts members
+counting-start width s members c counts = record { size = refl; due = λ u v _. refl; kept = λ t h. h }
 
 module _ {width s members c : ℕ} {counts₀ counts : List ℕ} {left : ℕ} (w : Within counts₀ width s members c) (l : RowLoop width s members c counts₀ counts left)
     {t : ℕ} (low : Lowest (member left) t) where
@@ -108,8 +108,8 @@ module _ {width s members c : ℕ} {counts₀ counts : List ℕ} {left : ℕ} (w
           )))
 
 -- when none is left, all members are counted
-pub row-end : {width s members c : ℕ} {counts₀ counts : List ℕ} {left : ℕ} → RowLoop width s members c counts₀ counts left → left ≡ 0 → RowAdded width s members c counts₀ counts
-row-end {s = s} {c = c} {left = left} l z =
+pub counting-end : {width s members c : ℕ} {counts₀ counts : List ℕ} {left : ℕ} → RowLoop width s members c counts₀ counts left → left ≡ 0 → RowAdded width s members c counts₀ counts
+counting-end {s = s} {c = c} {left = left} l z =
     record {
       at = λ u v b.
           omega (arith, l .due u v b, ap (λ p. when (eqb s u && p) c) (ap (λ (k : ℕ). member k v) z ∙ member-none v), ap (λ p. when p c) (and-false (eqb s u)));
@@ -182,20 +182,13 @@ counts-end {targets} {sets} {width} {c} {counts₀} {counts} {i} l h =
 
 -- ---- transitions counted one after another
 
--- what a walk keeps of the counts
-pub record Counted (tables counts₀ : List ℕ) (bytes₀ : ℕ) (counts : List ℕ) (bytes : ℕ) : Type 0 where
-  pub tallied : Tallied tables counts₀ bytes₀ counts bytes
-  pub same-counts : length counts ≡ length counts₀
+-- at first no transition is counted, and then some more are
+pub tallied-start : {tables counts : List ℕ} {bytes : ℕ} → Tally tables counts bytes → Tallied tables counts bytes counts bytes
+tallied-start t = record { tally = t; total = refl }
 
--- at first no transition is counted
-pub counted-start : {tables counts : List ℕ} {bytes : ℕ} → Tally tables counts bytes → Counted tables counts bytes counts bytes
-counted-start t = record { tallied = record { tally = t; total = refl }; same-counts = refl }
-
--- some more are counted
-pub counted-next : {tables counts₀ : List ℕ} {bytes₀ : ℕ} {counts : List ℕ} {bytes : ℕ} {counts′ : List ℕ} {bytes′ : ℕ}
-    → Counted tables counts₀ bytes₀ counts bytes → length counts′ ≡ length counts → Tallied tables counts bytes counts′ bytes′
-    → Counted tables counts₀ bytes₀ counts′ bytes′
-counted-next p e q = record { tallied = record { tally = q .tally; total = q .total ∙ p .tallied .total }; same-counts = e ∙ p .same-counts }
+pub tallied-next : {tables counts₀ : List ℕ} {bytes₀ : ℕ} {counts : List ℕ} {bytes : ℕ} {counts′ : List ℕ} {bytes′ : ℕ}
+    → Tallied tables counts₀ bytes₀ counts bytes → Tallied tables counts bytes counts′ bytes′ → Tallied tables counts₀ bytes₀ counts′ bytes′
+tallied-next p q = record { tally = q .tally; total = q .total ∙ p .total }
 
 -- ---- a pair hands on its count
 
@@ -221,7 +214,7 @@ module _ {tables : List ℕ} {s t j : ℕ} {sets counts : List ℕ} {bytes : ℕ
   hand-place width e = omega (arith, ap (λ (n : ℕ). s * n + t) e, lost-place (g .lost), g .tally .room)
 
   pub hand-low : (width : ℕ) → width ≡ states-of N → s * width + t < most-pairs
-  hand-low width e = omega (arith, ap (λ (n : ℕ). s * n + t) e, lost-place (g .lost), few-pairs (first-form tables) (second-form tables) (g .loaded .first) (g .loaded .second))
+  hand-low width e = omega (arith, ap (λ (n : ℕ). s * n + t) e, lost-place (g .lost), pairs-bound (first-form tables) (second-form tables) (g .loaded .first) (g .loaded .second))
 
   due-small : due ≤ bytes
   due-small = g .tally .few s t (g .lost .left) (g .lost .right)

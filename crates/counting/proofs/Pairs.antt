@@ -18,7 +18,7 @@ use Rattle.simulation.proofs.Finite.Tests.{and-left}
 use Rattle.form.specs.Tables.{first-form, second-form, first-table, second-table, BothLoaded}
 use Rattle.form.proofs.FormLaws.{limits}
 use Rattle.relation.specs.Mask.{Test, member, without-member, Lowest}
-use Rattle.relate.specs.Ranked.{Ranked}
+use Rattle.relate.specs.Ranked.{RanksRight}
 use Rattle.choice.specs.Choice.{Lost}
 use Rattle.choice.proofs.Choices.{pair-place}
 use Rattle.counting.specs.Pair.{number, row, column}
@@ -55,7 +55,7 @@ module _ {tables : List ℕ} {s t : ℕ} (p : Lost tables s t) where
   lost-low b = (omega (arith, p .left, limits (first-form tables) (b .first) .states-few), omega (arith, p .right, limits (second-form tables) (b .second) .states-few))
 
   -- what asking for its rank rests on
-  pub rank-asked : {ranks : List ℕ} → Ranked tables ranks → BothLoaded tables × (s < most-states) × (t < most-states) × (number tables s t < length ranks)
+  pub rank-asked : {ranks : List ℕ} → RanksRight tables ranks → BothLoaded tables × (s < most-states) × (t < most-states) × (number tables s t < length ranks)
   rank-asked g = let low = lost-low (g .loaded) in (g .loaded, low .0, low .1, pair-place g (p .left) (p .right))
 
 -- the same for a pair that is given by its number

@@ -20,7 +20,7 @@ use Rattle.form.specs.Tables.{first-form, first-table, second-table, first-step
 use Rattle.form.proofs.FormLaws.{sound}
 use Rattle.relation.specs.Mask.{Test, member}
 use Rattle.relation.specs.Words.{row-of}
-use Rattle.choice.specs.Choice.{Lost, Choice, Sets}
+use Rattle.choice.specs.Choice.{Lost, Choice, SetsChosen}
 use Rattle.relate.proofs.Places.{targets-count, target-state, target-small, few-places}
 use Rattle.choice.proofs.Choices.{choice-number, choice-width, below-lost}
 
@@ -66,7 +66,7 @@ module _ {tables : List ℕ} {s t j : ℕ} (g : ChoiceGiven tables s t j) where
     pub state-row : (i : ℕ) → i < length ts → getD ts i 0 * states-of N + states-of N ≤ pairs M N
     state-row i b = omega (arith, mul-le-mul-right (states-of N) (state-at i b), suc-mul (getD ts i 0) (states-of N))
 
-    module _ {sets : List ℕ} (z : Sets tables s t sets) where
+    module _ {sets : List ℕ} (z : SetsChosen tables s t sets) where
       -- the mask at a target's place holds its set
       pub set-at : (i : ℕ) → i < length ts → member (row-of sets i) ≡ set-of M N s t i
       set-at i b = z .set i (omega (arith, count-is))

@@ -14,7 +14,7 @@ use Rattle.simulation.specs.Length.{pair-length}
 use Rattle.form.specs.Tables.{first-table, second-table, BothLoaded}
 use Rattle.relation.specs.Mask.{member}
 use Rattle.relation.specs.Words.{row-of, height}
-use Rattle.choice.specs.Choice.{Lost, Choice, Sets}
+use Rattle.choice.specs.Choice.{Lost, Choice, SetsChosen}
 
 -- the bytes of the transitions that still have to be counted, each with all below it
 unfoldable pub owed : Table → Table → (counts : List ℕ) → ℕ
@@ -77,5 +77,5 @@ module _ (tables : List ℕ) where
     pub lost : Lost tables s t
     pub choice : Choice tables s t j
     pub words : most-states ≤ height sets
-    pub told : Sets tables s t sets
+    pub told : SetsChosen tables s t sets
     pub tally : Tally counts bytes

@@ -16,11 +16,11 @@ use Rattle.simulation.specs.Fit.{Positive, total, weight-of, fits?, cut}
 use Rattle.simulation.proofs.Fit.Quick.{weight-short, cut-products, cut-none, cut-some}
 use Rattle.relation.specs.Mask.{Test, member, up-to, with-member, both, either, except}
 use Rattle.relation.specs.Words.{row-of}
-use Rattle.relation.proofs.Mask.{member-none, below-or-not, no-member}
+use Rattle.relation.proofs.Mask.{member-none, below-or-not, no-member, some-member}
 use Rattle.relation.specs.Related.{holds}
 use Rattle.cut.specs.Quick.{CutOf, Lacking, IsCut, heavier}
 use Rattle.cut.proofs.Alike.{alike-fits, alike-cut}
-use Rattle.matrix.proofs.MaskedLaws.{true-or-false, neither, both-at, both-in, both-out, except-at, except-out, either-at, either-left, either-right, some-member, no-members}
+use Rattle.matrix.proofs.MaskedLaws.{true-or-false, neither, both-at, both-in, both-out, except-at, except-out, either-at, either-left, either-right, no-members}
 
 -- ---- the rows that lack a column
 
@@ -82,7 +82,7 @@ module _ {rel : List ℕ} {n q rows has lacks : ℕ} (all gap : ℕ) (s : Lackin
 
     gap-here : (j : ℕ) × (j < q) × (holds rel n j ≡ false)
     gap-here =
-        let w = some-member gap fits some in
+        let w = some-member most-states gap fits some in
         let h = except-at (member all) (member (row-of rel n)) (w .0) eg (w .1) in
         (w .0, ltb-true (w .0) q (sym (ap (λ (X : Test). X (w .0)) ea) ∙ h .0), h .1)
 

@@ -7,7 +7,7 @@ use lib.ListN.{length}
 use lib.Seq.{sets}
 
 -- there is room for bs from place `at` on
-pub record Room (bs : List ℕ) (at : ℕ) (buf : List ℕ) : Type 0 where
+pub record RoomFor (bs : List ℕ) (at : ℕ) (buf : List ℕ) : Type 0 where
   pub enough : at + length bs ≤ length buf
 
 -- bs went into the buffer at the place `at`, nothing else changed, and `next` is the place after it

@@ -2,11 +2,11 @@
 ghost use mathlib.Core.List.{[], _∷_};
 ghost use Prim.Native.Nat.{_+_, _<_};
 ghost use Rattle.digits.specs.Digits.{decimal, hex, hex-digit, labelled};
-ghost use Rattle.digits.specs.Writes.{Room, Writes};
+ghost use Rattle.digits.specs.Writes.{RoomFor, Writes};
 ghost use mathlib.Core.Path.{_≡_};
 
 pub fn put_byte(b: u8, buf: &mut [u8], at: usize) -> usize
-    requires { ⌜ Room (b ∷ []) at (now buf) ⌝ }
+    requires { ⌜ RoomFor (b ∷ []) at (now buf) ⌝ }
     ensures { λ r. ⌜ Writes (b ∷ []) at (now (buf .entry)) r (now (buf .exit)) ⌝ }
 {
     buf[at] = b;
@@ -14,7 +14,7 @@ pub fn put_byte(b: u8, buf: &mut [u8], at: usize) -> usize
 }
 
 pub fn put_word(word: &[u8], buf: &mut [u8], at: usize) -> usize
-    requires { ⌜ Room (now word) at (now buf) ⌝ }
+    requires { ⌜ RoomFor (now word) at (now buf) ⌝ }
     ensures { λ r. ⌜ Writes (now (word .entry)) at (now (buf .entry)) r (now (buf .exit)) ⌝ }
 {
     let mut i = 0;
@@ -27,7 +27,7 @@ pub fn put_word(word: &[u8], buf: &mut [u8], at: usize) -> usize
 
 // A number in base ten: what its last digit leaves, then that digit.
 pub fn put_decimal(n: usize, buf: &mut [u8], at: usize) -> usize
-    requires { ⌜ Room (decimal n) at (now buf) ⌝ }
+    requires { ⌜ RoomFor (decimal n) at (now buf) ⌝ }
     ensures { λ r. ⌜ Writes (decimal n) at (now (buf .entry)) r (now (buf .exit)) ⌝ }
 {
     if n < 10 {
@@ -38,7 +38,7 @@ pub fn put_decimal(n: usize, buf: &mut [u8], at: usize) -> usize
 }
 
 pub fn put_labelled(word: &[u8], n: usize, buf: &mut [u8], at: usize) -> usize
-    requires { ⌜ Room (labelled (now word) n) at (now buf) ⌝ }
+    requires { ⌜ RoomFor (labelled (now word) n) at (now buf) ⌝ }
     ensures { λ r. ⌜ Writes (labelled (now (word .entry)) n) at (now (buf .entry)) r (now (buf .exit)) ⌝ }
 {
     let next = put_word(word, buf, at);
@@ -47,7 +47,7 @@ pub fn put_labelled(word: &[u8], n: usize, buf: &mut [u8], at: usize) -> usize
 
 // A byte in base sixteen.
 pub fn put_hex(b: u8, buf: &mut [u8], at: usize) -> usize
-    requires { ⌜ Room (hex b) at (now buf) ⌝ }
+    requires { ⌜ RoomFor (hex b) at (now buf) ⌝ }
     ensures { λ r. ⌜ Writes (hex b) at (now (buf .entry)) r (now (buf .exit)) ⌝ }
 {
     let next = put_byte(glyph(b / 16), buf, at);

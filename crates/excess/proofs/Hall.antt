@@ -17,7 +17,7 @@ use Rattle.simulation.proofs.Fit.Gain.{weight-split, gain-is, gain-ext, fits-ga
 use Rattle.simulation.proofs.Fit.Hall.{fits?→Fits, Fits→fits?}
 use Rattle.greedy.proofs.StartLaws.{supply-fits}
 use Rattle.relation.specs.Mask.{member}
-use Rattle.excess.specs.Excess.{few, sets, under, Carries, set-of, related-to, BySets}
+use Rattle.excess.specs.Excess.{few, set-count, under, Carries, set-of, related-to, NoSums, BySets}
 use Rattle.excess.proofs.Sets.{set-small, member-at, outside, within-is}
 use Rattle.excess.proofs.Gathering.{under-is, all-is, sum-weights}
 
@@ -44,7 +44,7 @@ module _ (R : ℕ → ℕ → Bool) (ws vs sums : List ℕ) (small : length ws �
   gain-outside k = omega (arith, gain-is R ws vs (outside k), under-demand k, ap (λ (n : ℕ). total vs * n) (weight-split ws (member k)))
 
   -- each set of places is what lies outside one of the numbers
-  gains-least : ((k : ℕ) → k < sets → under sums k ≤ total vs * weight-of ws (member k)) → (S : Set) → gain R ws vs S ≤ total ws * total vs
+  gains-least : ((k : ℕ) → k < set-count → under sums k ≤ total vs * weight-of ws (member k)) → (S : Set) → gain R ws vs S ≤ total ws * total vs
   gains-least h S =
       let k = set-of few (λ i. not (S i)) in
       omega (
@@ -59,31 +59,50 @@ module _ (R : ℕ → ℕ → Bool) (ws vs sums : List ℕ) (small : length ws �
       same-test r (fits? R ws vs) (λ t. gain-fits R ws vs (gains-least (c .yes (is-true r t))))
       (λ t. by-contradiction r (λ n. let w = c .no (is-false r n) in omega (arith, w .2, gain-outside (w .0), fits-gain R ws vs t (outside (w .0)))))
 
--- the sums that the code gathers of the side with few targets, by its own lengths p and q and total t
-module _ (R : ℕ → ℕ → Bool) (ws vs : List ℕ) {sums : List ℕ} {p q t u : ℕ} (rows : p ≡ length ws) (columns : q ≡ length vs)
-    (total-rows : t ≡ total ws) (total-columns : u ≡ total vs) (small : length ws ≤ few) (s : BySets q (related-to p R) (λ j. weight vs j * t) sums) where
+-- a side with few targets, whose weights are ws, and the other, by the code's own lengths p and q and total t, before any weight is added
+pub record FewSide (ws vs : List ℕ) (p q t : ℕ) (old : List ℕ) : Type 0 where
+  pub rows : p ≡ length ws
+  pub total-rows : t ≡ total ws
+  pub begun : NoSums p q vs t old
+
+pub few-side : {ws vs old : List ℕ} {p q t : ℕ} → p ≡ length ws → q ≡ length vs → t ≡ total ws → length ws ≤ few → total ws ≤ most-total → total vs ≤ most-total
+    → (length old ≡ set-count) × ((i : ℕ) → getD old i 0 ≡ 0) → FewSide ws vs p q t old
+few-side {vs = vs} {t = t} rows columns total-rows small h l z =
+    record {
+      rows = rows;
+      total-rows = total-rows;
+      begun = record { small = omega arith; paired = columns; fits = supply-fits (total vs) t l (omega arith); all = z .0; none = z .1 };
+    }
+
+module _ {ws vs old : List ℕ} {p q t : ℕ} (w : FewSide ws vs p q t old) (R : ℕ → ℕ → Bool) {sums : List ℕ} {u : ℕ} (total-columns : u ≡ total vs)
+    (s : BySets q (related-to p R) (λ j. weight vs j * t) sums) where
   as-sides : BySets (length vs) (related-to (length ws) R) (demand ws vs) sums
   as-sides =
-      subst (λ (k : ℕ). BySets (length vs) (related-to (length ws) R) (λ j. weight vs j * k) sums) total-rows
-      (subst (λ (k : ℕ). BySets k (related-to (length ws) R) (λ j. weight vs j * t) sums) columns (subst (λ (k : ℕ). BySets q (related-to k R) (λ j. weight vs j * t) sums) rows s))
+      subst (λ (k : ℕ). BySets (length vs) (related-to (length ws) R) (λ j. weight vs j * k) sums) (w .total-rows)
+      (subst (λ (k : ℕ). BySets k (related-to (length ws) R) (λ j. weight vs j * t) sums) (w .begun .paired)
+      (subst (λ (k : ℕ). BySets q (related-to k R) (λ j. weight vs j * t) sums) (w .rows) s))
+
+  few-rows : length ws ≤ few
+  few-rows = omega (arith, w .rows, w .begun .small)
 
   pub decides : {r : Bool} → Carries sums ws u r → r ≡ fits? R ws vs
-  decides {r} c = verdict R ws vs sums small as-sides (subst (λ (k : ℕ). Carries sums ws k r) total-columns c)
+  decides {r} c = verdict R ws vs sums few-rows as-sides (subst (λ (k : ℕ). Carries sums ws k r) total-columns c)
 
   -- the sums and the shares have room
-  pub has-room : total ws ≤ most-total → total vs ≤ most-total
-      → (length sums ≡ sets) × (sum sets (λ k. getD sums k 0) < 2 ^ 32) × (length ws ≤ few) × (u * total ws < 2 ^ 32)
-  has-room h l = (
-    s .all,
-    omega (
-      arith,
-      all-is (length vs) (related-to (length ws) R) (demand ws vs) sums (λ j _. set-small (length ws) (λ i. R i j) small) as-sides,
-      sum-weights vs (total ws),
-      supply-fits (total vs) (total ws) l h,
-    ),
-    small,
-    supply-fits u (total ws) (omega arith) h,
-  )
+  pub has-room : (length sums ≡ set-count) × (sum set-count (λ k. getD sums k 0) < 2 ^ 32) × (length ws ≤ few) × (u * total ws < 2 ^ 32)
+  has-room =
+      let product : total vs * t ≡ u * total ws = ap₂ _*_ (sym total-columns) (w .total-rows) in (
+        s .all,
+        omega (
+          arith,
+          all-is q (related-to p R) (λ j. weight vs j * t) sums (λ j _. set-small p (λ i. R i j) (w .begun .small)) s,
+          ap (λ (n : ℕ). sum n (λ j. weight vs j * t)) (w .begun .paired),
+          sum-weights vs t,
+          w .begun .fits,
+        ),
+        few-rows,
+        omega (arith, product, w .begun .fits),
+      )
 
 -- what the one sends the other takes, and the other way round
 turned : (R : ℕ → ℕ → Type 0) (ws vs : List ℕ) → Fits R ws vs → Fits (λ j i. R i j) vs ws

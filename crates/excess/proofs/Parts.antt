@@ -8,7 +8,7 @@ use Prim.Native.Nat.{ℕ, zero, suc, _+_, _*_, _^_, _≤_, _<_}
 use native.Mathlib.Nat.{mul-one, mul-zero, mul-le-mul-left}
 use native.Mathlib.Numerals.{add-one}
 use native.Mathlib.Omega.{arith}
-use lib.ListN.{length, getD, replicate, length-replicate, getD-replicate, List·getD-eq-default}
+use lib.ListN.{length, List·getD-eq-default}
 use Rattle.simulation.specs.Sum.{sum, when}
 use Rattle.simulation.specs.Fit.{Set, weight, weight-of, total}
 use Rattle.simulation.proofs.Finite.Tests.{last-or-below}
@@ -17,10 +17,6 @@ use Rattle.relation.specs.Mask.{member}
 use Rattle.relation.proofs.Mask.{below-or-not}
 use Rattle.greedy.proofs.StartLaws.{weight-le}
 use Rattle.excess.specs.Excess.{few, parts, Summed, AtMost, Carries}
-
--- a list of zeros has no other number
-pub zeros-at : (n k : ℕ) → _≡_ {A = ℕ} (getD (replicate n 0) k 0) 0
-zeros-at n k = ⊎-elim (λ lt. getD-replicate n k 0 0 lt) (λ le. List·getD-eq-default (replicate n 0) 0 (omega (arith, length-replicate {A = ℕ} n 0))) (below-or-not k n)
 
 -- what a loop has found below k, and at k
 pub and-here : (P : ℕ → Type 0) (k : ℕ) → ((a : ℕ) → a < k → P a) → P k → (a : ℕ) → a < k + 1 → P a

@@ -12,10 +12,9 @@ use Rattle.simulation.specs.Sum.{any, when}
 use Rattle.simulation.specs.Fit.{Set, touched}
 use Rattle.simulation.proofs.Finite.Tests.{same-test, any-some, some-any, touched-some, some-touched, both, and-left, and-right}
 use Rattle.simulation.proofs.Finite.Sums.{one-most}
-use Rattle.relation.specs.Mask.{Test, member, part, bit, with-bit}
-use Rattle.relation.specs.Words.{word-bits}
-use Rattle.relation.proofs.Mask.{member-none, mask-by-members, one-is, part-start, part-bit}
-use Rattle.excess.specs.Excess.{few, sets, within, set-of, related-to}
+use Rattle.relation.specs.Mask.{member, part}
+use Rattle.relation.proofs.Mask.{member-none, mask-by-members, one-is}
+use Rattle.excess.specs.Excess.{few, set-count, within, set-of, related-to}
 
 one-below : (c : Bool) → when c 1 < 2
 one-below c = omega (arith, one-most c)
@@ -42,7 +41,7 @@ unfolding set-of
 set-below zero X = lit< tt
 set-below (suc n) X = let p = pow-suc 2 n in omega (arith, set-below n (λ i. X (suc i)), one-below (X 0))
 
-pub set-small : (n : ℕ) (X : ℕ → Bool) → n ≤ few → set-of n X < sets
+pub set-small : (n : ℕ) (X : ℕ → Bool) → n ≤ few → set-of n X < set-count
 set-small n X h = let p : 2 ^ n ≤ 2 ^ few = pow-le-pow-right (lit< tt) h in omega (arith, set-below n X)
 
 below-power : (x n m : ℕ) → x < 2 ^ n → n ≤ m → x < 2 ^ m
@@ -53,30 +52,10 @@ below-own zero = lit< tt
 below-own (suc x) = let p = pow-suc 2 x in omega (arith, below-own x)
 
 -- a number with these members is the set
-set-is : (n : ℕ) (X : ℕ → Bool) (x : ℕ) → member x ≡ part n X → x ≡ set-of n X
+pub set-is : (n : ℕ) (X : ℕ → Bool) (x : ℕ) → member x ≡ part n X → x ≡ set-of n X
 set-is n X x e =
     mask-by-members (x + n) x (set-of n X) (below-power x x (x + n) (below-own x) (omega arith)) (below-power (set-of n X) n (x + n) (set-below n X) (omega arith))
     (e ∙ sym (member-set n X))
-
--- a loop over n places: r has those of the first i that pass
-pub record Placed (X : Test) (n i r : ℕ) : Type 0 where
-  pub below : i ≤ n
-  pub has : member r ≡ part i X
-
-module _ {X : Test} {n : ℕ} where
-  pub placed-none : Placed X n 0 0
-  placed-none = record { below = omega arith; has = part-start X }
-
-  module _ {i r : ℕ} (p : Placed X n i r) where
-    -- the next place and its bit fit a word
-    pub bit-fits : {b : ℕ} → n ≤ few → i < n → b ≡ bit X i → (i < word-bits) × (b < 2)
-    bit-fits h l e = (omega arith, omega (arith, one-most (X i)))
-
-    pub placed-next : {r′ b : ℕ} → i < n → b ≡ bit X i → member r′ ≡ with-bit i b (member r) → Placed X n (i + 1) r′
-    placed-next {r′} {b} l e f = record { below = omega arith; has = part-bit X i r r′ b (p .has) e f }
-
-    pub placed-all : n ≤ i → n ≤ few → (r ≡ set-of n X) × (r < sets)
-    placed-all l h = let e = set-is n X r (p .has ∙ ap (λ (m : ℕ). part m X) (omega (arith, p .below))) in (e, omega (arith, e, set-small n X h))
 
 abbrev pub outside : ℕ → Set
 outside k i = not (member k i)

@@ -1,20 +1,22 @@
 // Whether one distribution fits another, decided by all sets of targets of a side that has few: no flow is needed.
 // A set of places is a number, and place i is a member if bit i is one.
+use gather::row_word;
 use greedy::total_weight;
 use relation::Word;
 use relation::rows;
 use relation::word;
 ghost use mathlib.Core.Path.{_≡_};
 ghost use Prim.Native.Nat.{ℕ, _+_, _-_, _*_, _^_, _≤_, _<_};
-ghost use lib.ListN.{length, getD};
+ghost use lib.ListN.{length, getD, set};
 ghost use Rattle.simulation.specs.Limits.{most-states};
 ghost use Rattle.simulation.specs.Sum.{sum, when};
 ghost use Rattle.simulation.specs.Fit.{fits?, total, weight};
-ghost use Rattle.relation.specs.Mask.{member};
-ghost use Rattle.relation.specs.Words.{word-bits, height};
+ghost use Rattle.relation.specs.Mask.{member, part};
+ghost use Rattle.relation.specs.Words.{word-bits};
 ghost use Rattle.relation.specs.Related.{holds};
 ghost use Rattle.matrix.specs.Problem.{Sides, joins};
-ghost use Rattle.excess.specs.Excess.{few, sets, joined, Joined, Summed, parts, AtMost, Carries, «set-of», «related-to», HasRows, AreStates, BySets};
+ghost use Rattle.excess.specs.Excess.{few, set-count, joined, Joined, Summed, parts, AtMost, Carries};
+ghost use Rattle.excess.specs.Excess.{«set-of», «related-to», HasRows, AreStates, NoSums, BySets};
 
 pub struct Few {}
 
@@ -27,7 +29,7 @@ impl Few {
 }
 
 fn no_sums() -> [u32; Few::SETS]
-    ensures { λ r. ⌜ (length r ≡ sets) × ((i : ℕ) → getD r i 0 ≡ 0) ⌝ }
+    ensures { λ r. ⌜ (length r ≡ set-count) × ((i : ℕ) → getD r i 0 ≡ 0) ⌝ }
 {
     [0u32; Few::SETS]
 }
@@ -35,7 +37,7 @@ fn no_sums() -> [u32; Few::SETS]
 // The places of the targets of m that are related to t.
 fn column(from: &[u16], rows: &[Word], t: usize) -> Word
     requires { ⌜ HasRows (now rows) (now from) × (length (now from) ≤ few) × (t < most-states) ⌝ }
-    ensures { λ r. ⌜ (r ≡ set-of (length (now (from .entry))) (λ i. holds (now (rows .entry)) (getD (now (from .entry)) i 0) t)) × (r < sets) ⌝ }
+    ensures { λ r. ⌜ member r ≡ part (length (now (from .entry))) (λ i. holds (now (rows .entry)) (getD (now (from .entry)) i 0) t) ⌝ }
 {
     let mut r: Word = 0;
     let mut i = 0;
@@ -46,24 +48,17 @@ fn column(from: &[u16], rows: &[Word], t: usize) -> Word
     r
 }
 
-// The places of the targets of n that s is related to.
-fn row(rows: &[Word], s: usize, to: &[u16]) -> Word
-    requires { ⌜ (s < height (now rows)) × AreStates (now to) × (length (now to) ≤ few) ⌝ }
-    ensures { λ r. ⌜ (r ≡ set-of (length (now (to .entry))) (λ j. holds (now (rows .entry)) s (getD (now (to .entry)) j 0))) × (r < sets) ⌝ }
+// The weight w, times t, is added to what a set has.
+fn add_weight(sums: &mut [u32], at: usize, w: u16, t: u32)
+    requires { ⌜ (at < length (now sums)) × (getD (now sums) at 0 + w * t < 2 ^ 32) ⌝ }
+    ensures { λ r. ⌜ now (sums .exit) ≡ set (now (sums .entry)) at (getD (now (sums .entry)) at 0 + w * t) ⌝ }
 {
-    let mut r: Word = 0;
-    let mut j = 0;
-    while j < to.len() {
-        r = word::with_bit(r, j, rows::bit(rows, s, to[j] as usize));
-        j += 1;
-    }
-    r
+    sums[at] = sums[at] + w as u32 * t;
 }
 
 // What the targets of n weigh, times t, by the set of those of m that are related to them.
 fn column_sums(from: &[u16], to: &[u16], n: &[u16], t: u32, rows: &[Word], sums: &mut [u32])
-    requires { ⌜ HasRows (now rows) (now from) × AreStates (now to) × (length (now from) ≤ few) × (length (now to) ≡ length (now n))
-        × (total (now n) * t < 2 ^ 32) × (length (now sums) ≡ sets) × ((i : ℕ) → getD (now sums) i 0 ≡ 0) ⌝ }
+    requires { ⌜ HasRows (now rows) (now from) × AreStates (now to) × NoSums (length (now from)) (length (now to)) (now n) t (now sums) ⌝ }
     ensures { λ r. ⌜ BySets (length (now (to .entry)))
         (related-to (length (now (from .entry))) (joins (now (rows .entry)) (now (from .entry)) (now (to .entry))))
         (λ j. weight (now (n .entry)) j * t) (now (sums .exit)) ⌝ }
@@ -71,30 +66,29 @@ fn column_sums(from: &[u16], to: &[u16], n: &[u16], t: u32, rows: &[Word], sums:
     let mut j = 0;
     while j < to.len() {
         let at = column(from, rows, to[j] as usize) as usize;
-        sums[at] = sums[at] + n[j] as u32 * t;
+        add_weight(sums, at, n[j], t);
         j += 1;
     }
 }
 
 // What the targets of m weigh, times u, by the set of those of n that they are related to.
 fn row_sums(from: &[u16], m: &[u16], to: &[u16], u: u32, rows: &[Word], sums: &mut [u32])
-    requires { ⌜ HasRows (now rows) (now from) × AreStates (now to) × (length (now to) ≤ few) × (length (now from) ≡ length (now m))
-        × (total (now m) * u < 2 ^ 32) × (length (now sums) ≡ sets) × ((i : ℕ) → getD (now sums) i 0 ≡ 0) ⌝ }
+    requires { ⌜ HasRows (now rows) (now from) × AreStates (now to) × NoSums (length (now to)) (length (now from)) (now m) u (now sums) ⌝ }
     ensures { λ r. ⌜ BySets (length (now (from .entry)))
         (λ i. set-of (length (now (to .entry))) (joins (now (rows .entry)) (now (from .entry)) (now (to .entry)) i))
         (λ i. weight (now (m .entry)) i * u) (now (sums .exit)) ⌝ }
 {
     let mut i = 0;
     while i < from.len() {
-        let at = row(rows, from[i] as usize, to) as usize;
-        sums[at] = sums[at] + m[i] as u32 * u;
+        let at = row_word(rows, from[i] as usize, to) as usize;
+        add_weight(sums, at, m[i], u);
         i += 1;
     }
 }
 
 // What the set without place i has, if i is a member.
 fn without(sums: &[u32], set: usize, i: usize) -> u32
-    requires { ⌜ (length (now sums) ≡ sets) × (set < sets) × (i < few) ⌝ }
+    requires { ⌜ (length (now sums) ≡ set-count) × (set < set-count) × (i < few) ⌝ }
     ensures { λ r. ⌜ r ≡ when (member set i) (getD (now (sums .entry)) (set - 2 ^ i) 0) ⌝ }
 {
     if (set >> i) % 2 == 1 {
@@ -105,7 +99,7 @@ fn without(sums: &[u32], set: usize, i: usize) -> u32
 
 // Each set with place i gets what the set without it has, too.
 fn join(sums: &mut [u32], i: usize)
-    requires { ⌜ (length (now sums) ≡ sets) × (i < few) × ((k : ℕ) → k < sets → joined i (now sums) k < 2 ^ 32) ⌝ }
+    requires { ⌜ (length (now sums) ≡ set-count) × (i < few) × ((k : ℕ) → k < set-count → joined i (now sums) k < 2 ^ 32) ⌝ }
     ensures { λ r. ⌜ Joined i (now (sums .entry)) (now (sums .exit)) ⌝ }
 {
     for k in 0..Few::SETS {
@@ -115,7 +109,7 @@ fn join(sums: &mut [u32], i: usize)
 
 // Each set gets the sum of all its subsets.
 fn add_subsets(sums: &mut [u32])
-    requires { ⌜ (length (now sums) ≡ sets) × (sum sets (λ k. getD (now sums) k 0) < 2 ^ 32) ⌝ }
+    requires { ⌜ (length (now sums) ≡ set-count) × (sum set-count (λ k. getD (now sums) k 0) < 2 ^ 32) ⌝ }
     ensures { λ r. ⌜ Summed (now (sums .entry)) (now (sums .exit)) ⌝ }
 {
     join(sums, 0);
@@ -145,7 +139,7 @@ fn if_member(set: usize, i: usize, d: u32) -> u32
 
 // No set has more than what its members have of a, b, c and d, each the amount of a place.
 fn at_most(sums: &[u32], a: u32, b: u32, c: u32, d: u32) -> bool
-    requires { ⌜ (length (now sums) ≡ sets) × (a + b + c + d < 2 ^ 32) ⌝ }
+    requires { ⌜ (length (now sums) ≡ set-count) × (a + b + c + d < 2 ^ 32) ⌝ }
     ensures { λ r. ⌜ AtMost (now (sums .entry)) (parts a b c d) r ⌝ }
 {
     for k in 0..Few::SETS {
@@ -162,7 +156,8 @@ fn at_most(sums: &[u32], a: u32, b: u32, c: u32, d: u32) -> bool
 
 // Whether no set of places is too light for what can go to its members alone.
 fn carries(sums: &mut [u32], w: &[u16], t: u32) -> bool
-    requires { ⌜ (length (now sums) ≡ sets) × (sum sets (λ k. getD (now sums) k 0) < 2 ^ 32) × (length (now w) ≤ few) × (t * total (now w) < 2 ^ 32) ⌝ }
+    requires { ⌜ (length (now sums) ≡ set-count) × (sum set-count (λ k. getD (now sums) k 0) < 2 ^ 32)
+        × (length (now w) ≤ few) × (t * total (now w) < 2 ^ 32) ⌝ }
     ensures { λ r. ⌜ Carries (now (sums .entry)) (now (w .entry)) t r ⌝ }
 {
     add_subsets(sums);

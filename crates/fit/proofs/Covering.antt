@@ -1,42 +1,32 @@
 -- What sets of targets tell of a fit, target by target.
 -- Assumes nothing.
 use mathlib.Core.Path.{_≡_, refl, sym, ap, _∙_}
-use mathlib.Core.Bool.{Bool, true, false, not, _&&_, _||_, true≢false}
+use mathlib.Core.Bool.{Bool, true, false, not, _&&_, true≢false}
 use mathlib.Core.List.{List}
 use mathlib.Core.Logic.{⊎-elim, _≢_}
 use Prim.Native.Nat.{ℕ, _+_, _^_, _≤_, _<_}
 use native.Mathlib.Omega.{arith}
 use borrow.Author.Tests.{ltb-false, not-true, not-false}
-use lib.Count.{trailingZeros}
 use lib.ListN.{length, getD}
 use Rattle.simulation.specs.Limits.{most-states}
-use Rattle.simulation.proofs.Finite.Tests.{last-or-below}
+use Rattle.simulation.proofs.Finite.Tests.{both-true, neither-true, last-or-below}
 use Rattle.relation.specs.Mask.{Test, member, up-to, either, both, except}
 use Rattle.relation.specs.Words.{row-of}
-use Rattle.relation.proofs.Mask.{member-none, member-high, lowest-of}
+use Rattle.relation.proofs.Mask.{member-none, member-high, some-member}
 use Rattle.relation.proofs.Sets.{row-lt}
 use Rattle.relation.specs.Related.{holds}
 use Rattle.fit.specs.Quick.{RowMissing, Bounding}
-
-both-hold : (a b : Bool) → (a && b) ≡ true → (a ≡ true) × (b ≡ true)
-both-hold true true e = (refl, refl)
-both-hold true false e = (refl, e)
-both-hold false b e = (e, absurd (true≢false (sym e)))
 
 first-fails : (a b : Bool) → (a && b) ≡ false → b ≡ true → a ≡ false
 first-fails true b e h = absurd (true≢false (sym h ∙ e))
 first-fails false b e h = refl
 
-neither-holds : (a b : Bool) → (a || b) ≡ false → (a ≡ false) × (b ≡ false)
-neither-holds true b e = (e, absurd (true≢false e))
-neither-holds false b e = (refl, e)
-
 -- a difference that is not empty has a member that one mask has and the other lacks
-pub missing : (to some d : ℕ) → d < 2 ^ most-states → d ≢ 0 → member d ≡ except (member to) (member some) → (u : ℕ) × (member to u ≡ true) × (member some u ≡ false)
-missing to some d h n e =
-    let r = lowest-of most-states d h (omega arith) in
-    let u = trailingZeros most-states d in
-    let b = both-hold (member to u) (not (member some u)) (sym (ap (λ (X : Test). X u) e) ∙ r .1 .here) in
+pub outside-member : (to some d : ℕ) → d < 2 ^ most-states → d ≢ 0 → member d ≡ except (member to) (member some) → (u : ℕ) × (member to u ≡ true) × (member some u ≡ false)
+outside-member to some d h n e =
+    let r = some-member most-states d h n in
+    let u = r .0 in
+    let b = both-true (member to u) (not (member some u)) (sym (ap (λ (X : Test). X u) e) ∙ r .1) in
     (u, b .0, not-true (member some u) (b .1))
 
 -- where it is empty, the one has no member that the other lacks
@@ -46,13 +36,13 @@ covered to every d z e u t =
     not-false (member every u) (sym (ap (λ (b : Bool). b && not (member every u)) t) ∙ n)
 
 -- each of the first n targets is related to all of every, and to none outside some
-pub record Passed (rows ms : List ℕ) (n some every : ℕ) : Type 0 where
+pub record BoundsSoFar (rows ms : List ℕ) (n some every : ℕ) : Type 0 where
   pub others : (i u : ℕ) → i < n → member some u ≡ false → holds rows (getD ms i 0) u ≡ false
   pub within : (i u : ℕ) → i < n → member every u ≡ true → holds rows (getD ms i 0) u ≡ true
 
 module _ (rows ms : List ℕ) where
   -- any sets will do for no targets
-  pub passed-start : (some every : ℕ) → Passed rows ms 0 some every
+  pub passed-start : (some every : ℕ) → BoundsSoFar rows ms 0 some every
   passed-start some every = record { others = λ i u a _. absurd (omega arith); within = λ i u a _. absurd (omega arith) }
 
   module _ (n near : ℕ) (e : near ≡ row-of rows (getD ms n 0)) where
@@ -60,18 +50,18 @@ module _ (rows ms : List ℕ) where
     near-at i u b q h = ap (λ (k : ℕ). holds rows (getD ms k 0) u) q ∙ sym (ap (λ (x : ℕ). member x u) e) ∙ h
 
     pub passed-next : (some every some′ every′ : ℕ) → member some′ ≡ either (member some) (member near) → member every′ ≡ both (member every) (member near)
-        → Passed rows ms n some every → Passed rows ms (n + 1) some′ every′
+        → BoundsSoFar rows ms n some every → BoundsSoFar rows ms (n + 1) some′ every′
     passed-next some every some′ every′ x y h =
         record {
           others = λ i u a s.
-              let z = neither-holds (member some u) (member near u) (sym (ap (λ (X : Test). X u) x) ∙ s) in
+              let z = neither-true (member some u) (member near u) (sym (ap (λ (X : Test). X u) x) ∙ s) in
               ⊎-elim (λ q. near-at i u false q (z .1)) (λ l. h .others i u l (z .0)) (last-or-below i n (omega arith));
           within = λ i u a s.
-              let z = both-hold (member every u) (member near u) (sym (ap (λ (X : Test). X u) y) ∙ s) in
+              let z = both-true (member every u) (member near u) (sym (ap (λ (X : Test). X u) y) ∙ s) in
               ⊎-elim (λ q. near-at i u true q (z .1)) (λ l. h .within i u l (z .0)) (last-or-below i n (omega arith));
         }
 
-  pub passed-all : (n some every : ℕ) → length ms ≤ n → Passed rows ms n some every → Bounding rows ms some every
+  pub passed-all : (n some every : ℕ) → length ms ≤ n → BoundsSoFar rows ms n some every → Bounding rows ms some every
   passed-all n some every a h = record { others = λ i u b s. h .others i u (omega arith) s; within = λ i u b s. h .within i u (omega arith) s }
 
   -- all states, and none, bound what any targets are related to

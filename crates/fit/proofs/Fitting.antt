@@ -25,12 +25,13 @@ use Rattle.form.specs.Form.{Loaded, transitions-of, transition-at}
 use Rattle.form.specs.Tables.{first-form, second-form, first-table, second-table, first-step, second-step}
 use Rattle.form.proofs.FormLaws.{limits, limited-at, distribution-at, weights-length, targets-length}
 use Rattle.transport.specs.Answer.{MaximumFlow}
-use Rattle.fit.specs.Held.{Ascending, Places, Gathered, relation-of, fitting, fits-step-at}
+use Rattle.gather.specs.Places.{Places, Ascending, Gathered}
+use Rattle.fit.specs.Held.{relation-of, fitting}
 use Rattle.fit.specs.Known.{SetOf, Asked}
-use Rattle.fit.specs.Quick.{RowMissing, Covers, Bounding}
+use Rattle.fit.specs.Quick.{RowMissing, Settles, Bounding}
 use Rattle.fit.specs.Partner.{SharedOut}
-use Rattle.fit.specs.declared.Told.{Told}
-use Rattle.fit.specs.declared.Told.the-variants.{Fits, Misfits, Open}
+use Rattle.fit.specs.declared.FromBounds.{FromBounds}
+use Rattle.fit.specs.declared.FromBounds.the-variants.{Fits, Misfits, Open}
 
 pub targets-ascend : (f : List ℕ) (loaded : Loaded f) (j : ℕ) → j < transitions-of f → Ascending (targets (transition-at f j))
 targets-ascend f loaded j b i h = distribution-at f loaded j b .ascending i (omega (arith, targets-length (transition-at f j)))
@@ -57,7 +58,7 @@ total-at : (f : List ℕ) (loaded : Loaded f) (j : ℕ) → j < transitions-of f
 total-at f loaded j b = total-positive (weights (transition-at f j)) (limited-at f loaded j b .some) (positive-at f loaded j b)
 
 -- a test as it was told
-abbrev pub Tells : Bool → Told → Type 0
+abbrev pub Tells : Bool → FromBounds → Type 0
 Tells b Fits = true ≡ b
 Tells b Misfits = false ≡ b
 Tells b Open = Unit {0}
@@ -164,12 +165,12 @@ module _ {tables rows amounts : List ℕ} {j l : ℕ} (asked : Asked tables rows
         (total-at (second-form tables) second l (asked .from-second)) (λ k b. related-at i k c b ∙ h (target-at n k) (target-in k b)))
 
     module _ {some every : ℕ} (h : Bounding rows (targets m) some every) where
-      all-fit : Covers some every to Fits → true ≡ fitting tables rows j l
+      all-fit : Settles some every to Fits → true ≡ fitting tables rows j l
       all-fit s =
           sym (fits-full (between R m n) (weights m) (weights n)
           (λ i k a b. related-at i k a b ∙ h .within i (target-at n k) (omega (arith, first-paired)) (s (target-at n k) (target-in k b))))
 
-      column-misfits : Covers some every to Misfits → false ≡ fitting tables rows j l
+      column-misfits : Settles some every to Misfits → false ≡ fitting tables rows j l
       column-misfits (u, t, o) =
           let w = set .only u t in
           let c : w .0 < length (weights n) = omega (arith, w .1, second-paired) in
@@ -177,7 +178,7 @@ module _ {tables rows amounts : List ℕ} {j l : ℕ} (asked : Asked tables rows
           (total-at (first-form tables) first j (asked .from-first))
           (λ i a. related-at i (w .0) a c ∙ ap (holds rows (target-at m i)) (w .2) ∙ h .others i u (omega (arith, first-paired)) o))
 
-      pub by-sets : (r : Told) → m .code ≡ n .code → Covers some every to r → Tells (fits-step-at tables rows j l) r
-      by-sets Fits c s = same-code R m n c (all-fit s)
-      by-sets Misfits c s = same-code R m n c (column-misfits s)
-      by-sets Open c s = tt
+      pub by-sets : (r : FromBounds) → Settles some every to r → Tells (fitting tables rows j l) r
+      by-sets Fits s = all-fit s
+      by-sets Misfits s = column-misfits s
+      by-sets Open s = tt

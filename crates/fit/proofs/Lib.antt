@@ -2,7 +2,6 @@
 -- Assumes nothing.
 pub mod Sets
 pub mod Covering
-pub mod Gathering
 pub mod Fitting
 pub mod Steps
 pub mod Trying

@@ -7,19 +7,21 @@ use mathlib.Core.Logic.{⊎-elim}
 use Prim.Native.Nat.{ℕ, zero, suc, _+_, _-_, _≤_, _<_, zero-le, suc-le-suc}
 use native.Mathlib.Nat.{not-suc-le-zero, le-of-suc-le-suc}
 use native.Mathlib.Omega.{arith}
-use lib.Dec.{T}
+use borrow.Author.Tests.{lt-ltb, le-ltb}
+use lib.Dec.{T, eqb, ltb}
 use lib.ListN.{length, getD}
-use Rattle.simulation.specs.Table.{Transition, steps, no-transition, transition}
+use Rattle.simulation.specs.Table.{Transition, states-of, steps, no-transition, transition}
 use Rattle.simulation.specs.Round.{Relation, fits-step}
 use Rattle.relation.proofs.Mask.{below-or-not}
 use Rattle.matrix.specs.Matrix.{cell}
-use Rattle.form.specs.Form.{start-of}
-use Rattle.form.specs.Tables.{second-form, second-table, first-step}
-use Rattle.form.proofs.FormLaws.{counts, start-bound, transition-of, transition-numbered}
-use Rattle.fit.specs.Held.{relation-of, fits-step-at}
+use Rattle.form.specs.Form.{start-of, transitions-of}
+use Rattle.form.specs.Tables.{second-form, second-table, first-step, BothLoaded}
+use Rattle.form.proofs.FormLaws.{counts, starts-ascend, start-bound, transition-of, transition-numbered}
+use Rattle.fit.specs.Held.{relation-of, fits-step-at, coded}
 use Rattle.fit.specs.Known.{Asked}
-use Rattle.fit.specs.Partner.{place, SharesIn, SharedOut, Sought, FirstFit}
-use Rattle.fit.proofs.Trying.{Passing}
+use Rattle.fit.specs.Partner.{NextCoded, place, SharesIn, SharedOut, Sought, FirstFit}
+use Rattle.fit.proofs.Steps.{one-passes, none-passes}
+use Rattle.fit.proofs.Trying.{Unfitted}
 
 module _ (R : Relation) (m : Transition) where
   -- what the place is, as the first transition of the list fits or not
@@ -51,8 +53,26 @@ module _ (R : Relation) (m : Transition) where
   place-is (n ∷ ns) (suc k) b h x =
       placed n ns false (h 0 (suc-le-suc zero-le)) ∙ ap suc (place-is ns k (le-of-suc-le-suc b) (λ i c. h (suc i) (suc-le-suc c)) x)
 
+-- a search over the transitions of the state t
+module _ {tables : List ℕ} {t start end : ℕ} (loaded : BothLoaded tables) (state : t < states-of (second-table tables)) (begin : start ≡ start-of (second-form tables) t)
+    (stop : end ≡ start-of (second-form tables) (t + 1)) where
+  -- what its first question asks
+  pub search-begins : BothLoaded tables × (start ≤ end) × (end ≤ transitions-of (second-form tables))
+  search-begins =
+      let g = second-form tables in
+      (loaded, omega (arith, starts-ascend g (loaded .second) t (t + 1) (omega arith) (omega arith)), omega (arith, start-bound g (loaded .second) (t + 1) (omega arith)))
+
+  -- what it answers
+  pub search-answers : {c r : ℕ} → NextCoded tables c start end r → ltb r end ≡ coded c (steps (second-table tables) t)
+  search-answers {c} {r} next =
+      let g = second-form tables in
+      let code : Transition → Bool = λ n. eqb c (n .code) in
+      ⊎-elim (λ lt. lt-ltb r end lt ∙ one-passes g (loaded .second) t state code r (omega (arith, next .from)) (omega arith) refl (next .found lt))
+      (λ le. le-ltb r end le ∙ none-passes g (loaded .second) t state code (λ k a b. next .passed k (omega arith) (omega arith)))
+      (below-or-not r end)
+
 -- a search that has come to l, and has found none
-module _ {tables rows amounts : List ℕ} {j t l : ℕ} (q : Sought tables rows amounts j t) (from : start-of (second-form tables) t ≤ l) (none : Passing tables rows j t l) where
+module _ {tables rows amounts : List ℕ} {j t l : ℕ} (q : Sought tables rows amounts j t) (from : start-of (second-form tables) t ≤ l) (none : Unfitted tables rows j t l) where
   abbrev start : ℕ
   start = start-of (second-form tables) t
 

@@ -1,16 +1,16 @@
 -- The sets of targets, number by number.
 -- Assumes nothing.
-use mathlib.Core.Path.{_≡_, refl, sym, ap, _∙_, subst}
-use mathlib.Core.Bool.{Bool, true, false, _||_, or-true, true≢false}
+use mathlib.Core.Path.{_≡_, sym, ap, _∙_, subst}
+use mathlib.Core.Bool.{Bool, _||_, or-true, true≢false}
 use mathlib.Core.List.{List}
-use mathlib.Core.Logic.{_⊎_, inl, inr, ⊎-elim}
+use mathlib.Core.Logic.{_⊎_, ⊎-elim}
 use Prim.Native.Nat.{ℕ, _+_, _<_}
 use native.Mathlib.Omega.{arith}
 use borrow.Author.Tests.{eq-eqb, eqb-true}
 use lib.Dec.{eqb}
 use lib.ListN.{length, getD}
 use Rattle.simulation.specs.Table.{targets, states-of}
-use Rattle.simulation.proofs.Finite.Tests.{last-or-below}
+use Rattle.simulation.proofs.Finite.Tests.{last-or-below, either-true}
 use Rattle.relation.specs.Mask.{Test, member, with-member}
 use Rattle.relation.specs.Words.{mask, row-of, height, put-row}
 use Rattle.relation.specs.declared.set.Set.{Set}
@@ -19,10 +19,6 @@ use Rattle.relation.proofs.Sets.{row-put, row-put-other}
 use Rattle.form.specs.Form.{start-of, transitions-of, transition-at, table-of}
 use Rattle.form.proofs.FormLaws.{states-count}
 use Rattle.fit.specs.Known.{SetOf, TargetSets}
-
-either-true : (a b : Bool) → (a || b) ≡ true → (a ≡ true) ⊎ (b ≡ true)
-either-true true b e = inl refl
-either-true false b e = inr e
 
 pub set-start : (ts : List ℕ) → SetOf ts 0 0
 set-start ts = record { has = λ i a. absurd (omega arith); only = λ u e. absurd (true≢false (sym e ∙ member-none u)) }

@@ -7,6 +7,8 @@ use mathlib.Core.Logic.{⊎-elim}
 use Prim.Native.Nat.{ℕ, _+_, _-_, _*_, _≤_, _<_}
 use native.Mathlib.Omega.{arith}
 use native.Mathlib.Decide.{ℕ-discrete}
+use borrow.Author.Tests.{eqb-true, eqb-false}
+use lib.Dec.{eqb}
 use lib.ListN.{length, getD, set, length-set}
 use lib.Seq.{getD-set-same, getD-set-other}
 use Rattle.simulation.specs.Limits.{most-states, most-transitions}
@@ -17,8 +19,11 @@ use Rattle.simulation.proofs.Fit.Quick.{fits-step-less}
 use Rattle.form.specs.Form.{Loaded, start-of, transitions-of, table-of}
 use Rattle.form.specs.Tables.{first-form, second-form, second-table, first-step, second-step, BothLoaded}
 use Rattle.form.proofs.FormLaws.{limits, start-bound}
-use Rattle.fit.specs.Held.{relation-of, fits-step-at}
+use Rattle.relation.proofs.Mask.{below-or-not}
+use Rattle.fit.specs.Held.{relation-of, fitting, fits-step-at}
 use Rattle.fit.specs.Known.{Asked, Lent, Tried}
+use Rattle.fit.specs.Partner.{NextCoded}
+use Rattle.fit.proofs.Fitting.{other-code, same-code}
 
 -- lengths are all that is asked of what is lent for work
 pub lent-all : {tables sets rows amounts rows′ amounts′ : List ℕ} → Lent tables sets rows amounts → length rows′ ≡ length rows → length amounts′ ≡ length amounts → Lent tables sets rows′ amounts′
@@ -73,27 +78,42 @@ pub start-few : (g : List ℕ) → Loaded g → (t : ℕ) → t ≤ states-of (t
 start-few g loaded t a = omega (arith, start-bound g loaded t a, limits g loaded .transitions-few)
 
 -- of the transitions of the state t, those before l are not fitted by the transition j
-abbrev pub Passing : (tables rows : List ℕ) (j t l : ℕ) → Type 0
-Passing tables rows j t l = (k : ℕ) → start-of (second-form tables) t ≤ k → k < l → k < start-of (second-form tables) (t + 1) → fits-step-at tables rows j k ≡ false
+abbrev pub Unfitted : (tables rows : List ℕ) (j t l : ℕ) → Type 0
+Unfitted tables rows j t l = (k : ℕ) → start-of (second-form tables) t ≤ k → k < l → k < start-of (second-form tables) (t + 1) → fits-step-at tables rows j k ≡ false
 
 module _ (tables rows : List ℕ) (j t : ℕ) where
   abbrev starts : ℕ → ℕ
   starts = start-of (second-form tables)
 
   -- a search begins behind those tried
-  pub passing-start : {tried : List ℕ} {l : ℕ} → Tried tables rows tried → j < transitions-of (first-form tables) → t < states-of (second-table tables)
-      → l ≡ starts t + getD tried ((j + 1) * most-states + t) 0 → Passing tables rows j t l
-  passing-start h a b e k from to end =
+  pub unfitted-start : {tried : List ℕ} {l : ℕ} → Tried tables rows tried → j < transitions-of (first-form tables) → t < states-of (second-table tables)
+      → l ≡ starts t + getD tried ((j + 1) * most-states + t) 0 → Unfitted tables rows j t l
+  unfitted-start h a b e k from to end =
       let x : starts t + (k - starts t) ≡ k = omega arith in
       rw x at (h .passed j t (k - starts t) a b (omega arith) (omega arith))
 
-  pub passing-next : {l : ℕ} {r : Bool} → Passing tables rows j t l → r ≡ fits-step-at tables rows j l → r ≡ false → Passing tables rows j t (l + 1)
-  passing-next {l} h e w k from to end =
+  pub unfitted-next : {l : ℕ} {r : Bool} → Unfitted tables rows j t l → r ≡ fits-step-at tables rows j l → r ≡ false → Unfitted tables rows j t (l + 1)
+  unfitted-next {l} h e w k from to end =
       ⊎-elim (λ q. ap (fits-step-at tables rows j) q ∙ sym e ∙ w) (λ v. h k from v end) (last-or-below k l (omega arith))
+
+  -- a transition with another code is passed, and one with the same code fits as its targets do
+  module _ {c : ℕ} (code : c ≡ first-step tables j .code) where
+    pub unfitted-coded : {l end r : ℕ} → NextCoded tables c l end r → Unfitted tables rows j t l → Unfitted tables rows j t r
+    unfitted-coded {l} next h k from to bound =
+        ⊎-elim (λ b. h k from b bound)
+        (λ b. sym (other-code (relation-of tables rows) (first-step tables j) (second-step tables k) (λ e. eqb-false c (second-step tables k .code) (next .passed k b to) (code ∙ e))))
+        (below-or-not k l)
+
+    pub fits-coded : (l : ℕ) → eqb c (second-step tables l .code) ≡ true → {b : Bool} → b ≡ fitting tables rows j l → b ≡ fits-step-at tables rows j l
+    fits-coded l same = same-code (relation-of tables rows) (first-step tables j) (second-step tables l) (sym code ∙ eqb-true c (second-step tables l .code) same)
+
+  -- nothing is left behind the end
+  pub unfitted-end : {l : ℕ} → starts (t + 1) ≤ l → Unfitted tables rows j t l → Unfitted tables rows j t (l + 1)
+  unfitted-end le h k from to bound = h k from (omega arith) bound
 
   -- where it ends, those passed are counted
   module _ (loaded : BothLoaded tables) (own : j < transitions-of (first-form tables)) (within : t < states-of (second-table tables)) (tried : List ℕ) (n : ℕ) (h : Tried tables rows tried)
-      (none : Passing tables rows j t (starts t + n)) where
+      (none : Unfitted tables rows j t (starts t + n)) where
     abbrev place : ℕ → ℕ → ℕ
     place k u = (k + 1) * most-states + u
 

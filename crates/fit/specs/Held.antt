@@ -1,14 +1,10 @@
 -- Relations held as rows of masks, and the matching of transitions in them.
 -- Assumes nothing.
-use mathlib.Core.Path.{_≡_}
 use mathlib.Core.Bool.{Bool}
 use mathlib.Core.List.{List}
-use Prim.Native.Nat.{ℕ, _+_, _≤_, _<_}
+use Prim.Native.Nat.{ℕ}
 use lib.Dec.{eqb}
-use lib.ListN.{length, getD}
-use Rattle.simulation.specs.Limits.{most-states}
 use Rattle.relation.specs.Related.{holds}
-use Rattle.relation.specs.Mask.{Test, member}
 use Rattle.form.specs.Tables.{first-table, second-table, first-step, second-step}
 use Rattle.simulation.specs.Sum.{all-of, any-of}
 use Rattle.simulation.specs.Fit.{fits?}
@@ -43,20 +39,3 @@ answered tables rows j t = any-of (fits-step (relation-of tables rows) (first-st
 -- one of the transitions has the code
 abbrev pub coded : ℕ → List Transition → Bool
 coded c ns = any-of (λ (n : Transition). eqb c (n .code)) ns
-
--- places of targets: few, and each a state below n
-pub record Places (n : ℕ) (ts : List ℕ) : Type 0 where
-  pub few : length ts ≤ most-states
-  pub below : (j : ℕ) → j < length ts → getD ts j 0 < n
-
--- they ascend strictly
-abbrev pub Ascending : List ℕ → Type 0
-Ascending ts = (i : ℕ) → i + 1 < length ts → getD ts i 0 < getD ts (i + 1) 0
-
--- a row by positions: the places of a list whose states the row has
-abbrev pub row-at : ℕ → List ℕ → Test
-row-at row ts j = member row (getD ts j 0)
-
--- rel has the first n rows of a relation by positions: bit j of place i relates the i-th of ms to the j-th of ns
-pub record Gathered (rows ms ns : List ℕ) (n : ℕ) (rel : List ℕ) : Type 0 where
-  pub related-at : (i j : ℕ) → i < n → j < length ns → holds rel i j ≡ holds rows (getD ms i 0) (getD ns j 0)

@@ -1,10 +1,10 @@
 -- The first transition of a state that a transition fits, and the amounts that share it out.
 -- Assumes nothing.
 use mathlib.Core.Path.{_≡_}
-use mathlib.Core.Bool.{Bool, true, cond}
+use mathlib.Core.Bool.{Bool, true, false, cond}
 use mathlib.Core.List.{List, [], _∷_}
 use Prim.Native.Nat.{ℕ, suc, _≤_, _<_}
-use lib.Dec.{T}
+use lib.Dec.{T, eqb}
 use lib.ListN.{length}
 use Rattle.simulation.specs.Limits.{most-pairs, most-states}
 use Rattle.simulation.specs.Fit.{Amounts, Shares}
@@ -15,6 +15,13 @@ use Rattle.matrix.specs.Matrix.{cell}
 use Rattle.form.specs.Form.{transitions-of}
 use Rattle.form.specs.Tables.{first-form, second-table, first-step, second-step, BothLoaded}
 use Rattle.fit.specs.Held.{relation-of, fitting}
+
+-- r is the first transition of the second table that has the code c, from l on and before the end; the end if there is none
+pub record NextCoded (tables : List ℕ) (c l end r : ℕ) : Type 0 where
+  pub from : l ≤ r
+  pub to : r ≤ end
+  pub passed : (k : ℕ) → l ≤ k → k < r → eqb c (second-step tables k .code) ≡ false
+  pub found : r < end → eqb c (second-step tables r .code) ≡ true
 
 -- the place of the first like-coded transition that m fits in R
 unfoldable pub place : Relation → Transition → List Transition → ℕ

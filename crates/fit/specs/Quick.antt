@@ -7,8 +7,8 @@ use Prim.Native.Nat.{ℕ, _<_}
 use lib.ListN.{length, getD}
 use Rattle.relation.specs.Mask.{member}
 use Rattle.relation.specs.Related.{holds}
-use Rattle.fit.specs.declared.Told.{Told}
-use Rattle.fit.specs.declared.Told.the-variants.{Fits, Misfits, Open}
+use Rattle.fit.specs.declared.FromBounds.{FromBounds}
+use Rattle.fit.specs.declared.FromBounds.the-variants.{Fits, Misfits, Open}
 
 -- a target of m is related to none of n
 abbrev pub RowMissing : (rows ms : List ℕ) (to : ℕ) → Type 0
@@ -20,7 +20,7 @@ pub record Bounding (rows ms : List ℕ) (some every : ℕ) : Type 0 where
   pub within : (i u : ℕ) → i < length ms → member every u ≡ true → holds rows (getD ms i 0) u ≡ true
 
 -- what is settled by such bounds
-abbrev pub Covers : (some every to : ℕ) → Told → Type 0
-Covers some every to Fits = (u : ℕ) → member to u ≡ true → member every u ≡ true
-Covers some every to Misfits = (u : ℕ) × (member to u ≡ true) × (member some u ≡ false)
-Covers some every to Open = Unit {0}
+abbrev pub Settles : (some every to : ℕ) → FromBounds → Type 0
+Settles some every to Fits = (u : ℕ) → member to u ≡ true → member every u ≡ true
+Settles some every to Misfits = (u : ℕ) × (member to u ≡ true) × (member some u ≡ false)
+Settles some every to Open = Unit {0}

@@ -15,11 +15,11 @@ use Rattle.relation.specs.Mask.{member}
 use Rattle.relation.specs.Words.{row-of}
 use Rattle.form.specs.Form.{transitions-of}
 use Rattle.form.specs.Tables.{first-form, second-form}
-use Rattle.relate.specs.Ranked.{Ranked}
+use Rattle.relate.specs.Ranked.{RanksRight}
 
 -- two transitions by their numbers, to be compared in the round before round r
 pub record InRound (tables ranks : List ℕ) (r j k : ℕ) (amounts : List ℕ) : Type 0 where
-  pub ranked : Ranked tables ranks
+  pub ranked : RanksRight tables ranks
   pub later : 0 < r
   pub from-first : j < transitions-of (first-form tables)
   pub from-second : k < transitions-of (second-form tables)

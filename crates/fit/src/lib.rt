@@ -9,22 +9,21 @@ use relation::Word;
 use relation::rows;
 use relation::set;
 use relation::set::Set;
-use relation::word;
 use simulation::Table;
 ghost use mathlib.Core.Path.{_≡_};
 ghost use mathlib.Core.Bool.{true, false};
-ghost use Prim.Native.Nat.{_<_, _≤_, _+_, _*_};
+ghost use Prim.Native.Nat.{_<_, _≤_, _*_};
 ghost use lib.ListN.{length};
 ghost use Rattle.simulation.specs.Limits.{most-states, most-transitions};
 ghost use Rattle.simulation.specs.Table.{targets, states-of, steps};
-ghost use Rattle.relation.specs.Mask.{member, part};
-ghost use Rattle.relation.specs.Words.{word-bits, words, mask, row-of, height};
+ghost use Rattle.relation.specs.Words.{words, mask, height};
 ghost use Rattle.form.specs.Form.{transitions-of};
 ghost use Rattle.form.specs.Tables.{first-form, second-form, second-table, first-step, second-step, BothLoaded};
-ghost use Rattle.fit.specs.Held.{row-at, Places, Ascending, Gathered, fitting, fits-step-at, coded};
-ghost use Rattle.fit.specs.Quick.{Covers, RowMissing, Bounding};
+ghost use Rattle.gather.specs.Places.{Places};
+ghost use Rattle.fit.specs.Held.{fitting, fits-step-at, coded};
+ghost use Rattle.fit.specs.Quick.{Settles, RowMissing, Bounding};
 ghost use Rattle.fit.specs.Known.{SetOf, TargetSets, Asked, Lent, Tried, SomeFits};
-ghost use Rattle.fit.specs.Partner.{SharedOut, Sought, FirstFit};
+ghost use Rattle.fit.specs.Partner.{NextCoded, SharedOut, Sought, FirstFit};
 
 // The set of the targets.
 fn set_of(to: &[u16]) -> Set
@@ -50,72 +49,6 @@ pub fn target_sets(tables: &[u16], sets: &mut [Word])
     while l < n {
         rows::put(sets, l, set_of(tables::targets(tables, Form::SECOND, l)));
         l += 1;
-    }
-}
-
-// Row s by positions, at most as many as a word has bits: bit j is that of the state at place j.
-fn row_word(rows: &[Word], s: usize, to: &[u16]) -> Word
-    requires { ⌜ (s < height (now rows)) × Places most-states (now to) × (length (now to) ≤ word-bits) ⌝ }
-    ensures { λ r. ⌜ member r ≡ part (length (now (to .entry))) (row-at (row-of (now (rows .entry)) s) (now (to .entry))) ⌝ }
-{
-    let mut r: Word = 0;
-    let mut j = 0;
-    while j < to.len() {
-        r = word::with_bit(r, j, rows::bit(rows, s, to[j] as usize));
-        j += 1;
-    }
-    r
-}
-
-// Word w of row s by positions. A whole word is a case of its own, since the compiler then knows the number of places.
-fn row_word_at(rows: &[Word], s: usize, to: &[u16], w: usize) -> Word
-    requires { ⌜ (s < height (now rows)) × Places most-states (now to) × (w < words) ⌝ }
-    ensures { λ r. ⌜ member r
-        ≡ part word-bits (λ u. part (length (now (to .entry))) (row-at (row-of (now (rows .entry)) s) (now (to .entry))) (w * word-bits + u)) ⌝ }
-{
-    let n = to.len();
-    if (w + 1) * Set::BITS <= n {
-        return row_word(rows, s, &to[w * Set::BITS..(w + 1) * Set::BITS]);
-    }
-    row_word(rows, s, &to[set::start(w, n)..])
-}
-
-// Row s by positions, place by place: place j is a member if the state there is one of the row.
-fn sparse_row(rows: &[Word], s: usize, to: &[u16]) -> Set
-    requires { ⌜ (s < height (now rows)) × Places most-states (now to) ⌝ }
-    ensures { λ r. ⌜ member (mask r) ≡ part (length (now (to .entry))) (row-at (row-of (now (rows .entry)) s) (now (to .entry))) ⌝ }
-{
-    let mut row = set::empty();
-    for w in 0..Set::WORDS {
-        row.words[w] = row_word_at(rows, s, to, w);
-    }
-    row
-}
-
-// Row s by positions. Targets that ascend to their number less one are all states in order, and positions are then states.
-fn gather_row(rows: &[Word], s: usize, to: &[u16]) -> Set
-    requires { ⌜ (s < height (now rows)) × Places most-states (now to) × Ascending (now to) ⌝ }
-    ensures { λ r. ⌜ member (mask r) ≡ part (length (now (to .entry))) (row-at (row-of (now (rows .entry)) s) (now (to .entry))) ⌝ }
-{
-    let n = to.len();
-    if n == 0 {
-        return set::empty();
-    }
-    if to[n - 1] as usize + 1 == n {
-        return set::intersection(rows::get(rows, s), set::below(n));
-    }
-    sparse_row(rows, s, to)
-}
-
-// The rows between the targets of two transitions, by positions.
-fn gather_rows(from: &[u16], to: &[u16], rows: &[Word], rel: &mut [Word])
-    requires { ⌜ Places (height (now rows)) (now from) × Places most-states (now to) × Ascending (now to) × (length (now from) ≤ height (now rel)) ⌝ }
-    ensures { λ r. ⌜ Gathered (now (rows .entry)) (now (from .entry)) (now (to .entry)) (length (now (from .entry))) (now (rel .exit)) ⌝ }
-{
-    let mut i = 0;
-    while i < from.len() {
-        rows::put(rel, i, gather_row(rows, from[i] as usize, to));
-        i += 1;
     }
 }
 
@@ -149,7 +82,7 @@ fn flow_over(
 {
     let from = tables::targets(tables, Form::FIRST, j);
     let to = tables::targets(tables, Form::SECOND, l);
-    gather_rows(from, to, rows, rel);
+    gather::gather_rows(from, to, rows, rel);
     let m = tables::weights(tables, Form::FIRST, j);
     let n = tables::weights(tables, Form::SECOND, l);
     let flow = transport::maximum_flow(m, n, rel, amounts);
@@ -239,7 +172,7 @@ fn decide(tables: &[u16], j: usize, l: usize, to: Set, rows: &[Word], amounts: &
 }
 
 // What bounds on the related states tell of a fit, before any flow.
-enum Told {
+enum FromBounds {
     Fits,
     Misfits,
     Open,
@@ -253,16 +186,16 @@ pub struct Bounds {
 }
 
 // `to` has the targets of n.
-fn by_bounds(known: Bounds, to: Set) -> Told
-    ensures { λ r. ⌜ Covers (mask (known .some)) (mask (known .every)) (mask to) r ⌝ }
+fn by_bounds(known: Bounds, to: Set) -> FromBounds
+    ensures { λ r. ⌜ Settles (mask (known .some)) (mask (known .every)) (mask to) r ⌝ }
 {
     if set::is_empty(set::difference(to, known.every)) {
-        return Told::Fits;
+        return FromBounds::Fits;
     }
     if !set::is_empty(set::difference(to, known.some)) {
-        return Told::Misfits;
+        return FromBounds::Misfits;
     }
-    Told::Open
+    FromBounds::Open
 }
 
 // The bounds by all rows of the targets.
@@ -296,8 +229,8 @@ pub fn bounds_of(from: &[u16], rows: &[Word]) -> Bounds
     row_bounds(from, rows)
 }
 
-// Transition j of the first table fits transition l of the second, and they have the same code.
-fn fits_step(
+// Whether it fits: what is known of the related states is asked first.
+fn fits_known(
     tables: &[u16],
     j: usize,
     l: usize,
@@ -309,25 +242,35 @@ fn fits_step(
     requires { ⌜ Lent (now tables) (now sets) (now rows) (now amounts) × (j < transitions-of (first-form (now tables)))
         × (l < transitions-of (second-form (now tables)))
         × Bounding (now rows) (targets (first-step (now tables) j)) (mask (known .some)) (mask (known .every)) ⌝ }
-    ensures { λ r. ⌜ r ≡ fits-step-at (now (tables .entry)) (now (rows .entry)) j l ⌝ }
+    ensures { λ r. ⌜ r ≡ fitting (now (tables .entry)) (now (rows .entry)) j l ⌝ }
 {
-    if tables::code(tables, Form::FIRST, j) != tables::code(tables, Form::SECOND, l) {
-        return false;
-    }
     let to = rows::get(sets, l);
     let told = by_bounds(known, to);
     match told {
-        Told::Fits => true,
-        Told::Misfits => false,
-        Told::Open => decide(tables, j, l, to, rows, amounts),
+        FromBounds::Fits => true,
+        FromBounds::Misfits => false,
+        FromBounds::Open => decide(tables, j, l, to, rows, amounts),
     }
+}
+
+// The first transition of the second table that has the code, from l on and before the end; the end if there is none. Whoever looks for a
+// partner of a transition asks here.
+pub fn next_coded(tables: &[u16], code: u16, l: usize, end: usize) -> usize
+    requires { ⌜ BothLoaded (now tables) × (l ≤ end) × (end ≤ transitions-of (second-form (now tables))) ⌝ }
+    ensures { λ r. ⌜ NextCoded (now (tables .entry)) code l end r ⌝ }
+{
+    let mut next = l;
+    while next < end && code != tables::code(tables, Form::SECOND, next) {
+        next += 1;
+    }
+    next
 }
 
 // Where more partners than this are left, a guess comes first.
 pub const PARTNERS: usize = 16;
 
 // Transition j of the first table fits transition l of the second, which is below the end, and they have the same code. What bounds tell
-// is not asked: guesses are few, and a second caller of `fits_step` would keep the compiler from putting it into the loop.
+// is not asked: guesses are few, and a second caller of `fits_known` would keep the compiler from putting it into the loop.
 fn fits_guess(
     tables: &[u16],
     j: usize,
@@ -370,6 +313,7 @@ pub fn fits_some(
     let place = (j + 1) * Table::STATES + t;
     let start = tables::start_of(tables, Form::SECOND, t);
     let end = tables::start_of(tables, Form::SECOND, t + 1);
+    let code = tables::code(tables, Form::FIRST, j);
     let mut l = start + tried[place] as usize;
     if l + PARTNERS < end {
         let guess = start + tried[t] as usize;
@@ -378,7 +322,8 @@ pub fn fits_some(
         }
     }
     while l < end {
-        if fits_step(tables, j, l, sets, rows, amounts, known) {
+        l = next_coded(tables, code, l, end);
+        if l < end && fits_known(tables, j, l, sets, rows, amounts, known) {
             tried[place] = (l - start) as u8;
             tried[t] = (l - start) as u8;
             return true;
@@ -393,27 +338,9 @@ pub fn has_code(tables: &[u16], t: usize, code: u16) -> bool
     requires { ⌜ BothLoaded (now tables) × (t < states-of (second-table (now tables))) ⌝ }
     ensures { λ r. ⌜ r ≡ coded code (steps (second-table (now (tables .entry))) t) ⌝ }
 {
+    let start = tables::start_of(tables, Form::SECOND, t);
     let end = tables::start_of(tables, Form::SECOND, t + 1);
-    let mut l = tables::start_of(tables, Form::SECOND, t);
-    while l < end {
-        if tables::code(tables, Form::SECOND, l) == code {
-            return true;
-        }
-        l += 1;
-    }
-    false
-}
-
-// Transition j of the first table fits transition l of the second, and they have the same code. If so, the amounts share it out.
-fn shares_out(tables: &[u16], j: usize, l: usize, rows: &[Word], amounts: &mut [u32]) -> bool
-    requires { ⌜ Asked (now tables) (now rows) (now amounts) j l ⌝ }
-    ensures { λ r. ⌜ (r ≡ fits-step-at (now (tables .entry)) (now (rows .entry)) j l)
-        × (r ≡ true → SharedOut (now (tables .entry)) (now (rows .entry)) j l r (now (amounts .exit))) ⌝ }
-{
-    if tables::code(tables, Form::FIRST, j) != tables::code(tables, Form::SECOND, l) {
-        return false;
-    }
-    by_flow(tables, j, l, rows, amounts)
+    next_coded(tables, code, start, end) < end
 }
 
 // The place in t of the first transition that the transition j of the first table fits, of which there is one; the amounts share it out.
@@ -422,9 +349,11 @@ pub fn first_fit(tables: &[u16], j: usize, t: usize, rows: &[Word], amounts: &mu
     ensures { λ r. ⌜ FirstFit (now (tables .entry)) (now (rows .entry)) j t r (now (amounts .exit)) ⌝ }
 {
     let start = tables::start_of(tables, Form::SECOND, t);
-    let mut l = start;
-    while !shares_out(tables, j, l, rows, amounts) {
-        l += 1;
+    let end = tables::start_of(tables, Form::SECOND, t + 1);
+    let code = tables::code(tables, Form::FIRST, j);
+    let mut l = next_coded(tables, code, start, end);
+    while !by_flow(tables, j, l, rows, amounts) {
+        l = next_coded(tables, code, l + 1, end);
     }
     l - start
 }

@@ -14,8 +14,8 @@ use Rattle.simulation.specs.Sum.{sum, when}
 use Rattle.simulation.specs.Fit.{Amounts}
 use Rattle.simulation.proofs.Finite.Sums.{sum-ext, sum-mul, sum-bound, one-most}
 use Rattle.buffer.specs.Buffer.{over, Filled}
-use Rattle.flows.specs.Flow.{record-of, flow-record, flow-row, flow-records, count, head-of, flow-of}
-use Rattle.buffer.proofs.Buffer.{part, back}
+use Rattle.flows.specs.Flow.{record-of, flow-record, flow-row, flow-records, amounts-count, head-of, flow-of}
+use Rattle.buffer.proofs.Buffer.{part-from, back}
 use Rattle.flows.proofs.Pieces.{pieces, pieces-length, part-rest, back-rest, Plan, even-plan}
 
 pub record-length : (s t a : ℕ) → length (flow-record s t a) ≡ 6 * when (not (eqb a 0)) 1
@@ -43,24 +43,24 @@ row-most s ns a = omega (arith, row-length s ns a, sum-bound (length ns) 1 (λ j
 abbrev pub record-at : (s : ℕ) (nt : List ℕ) (a : ℕ → ℕ) → ℕ → List ℕ
 record-at s nt a j = flow-record s (getD nt j 0) (a j)
 
-abbrev pub row-at : (mt nt : List ℕ) → Amounts → ℕ → List ℕ
-row-at mt nt x i = flow-row (getD mt i 0) nt (x i)
+abbrev pub flow-row-at : (mt nt : List ℕ) → Amounts → ℕ → List ℕ
+flow-row-at mt nt x i = flow-row (getD mt i 0) nt (x i)
 
 pub row-is : (s : ℕ) (nt : List ℕ) (a : ℕ → ℕ) → flow-row s nt a ≡ pieces (length nt) (record-at s nt a)
 unfolding flow-row
 row-is s nt a = refl
 
-pub records-plan : (mt nt : List ℕ) (x : Amounts) (old : List ℕ) → length mt * (length nt * 6) ≤ length old → Plan [] (row-at mt nt x) (λ i. length nt * 6) (length mt) old
+pub records-plan : (mt nt : List ℕ) (x : Amounts) (old : List ℕ) → length mt * (length nt * 6) ≤ length old → Plan [] (flow-row-at mt nt x) (λ i. length nt * 6) (length mt) old
 records-plan mt nt x old room = even-plan (length nt * 6) (length mt) room (λ i _. row-most (getD mt i 0) nt (x i))
 
-pub records-done : (mt nt : List ℕ) (x : Amounts) {at : ℕ} {old now : List ℕ} → Filled (pieces (length mt) (row-at mt nt x)) at old now
+pub records-done : (mt nt : List ℕ) (x : Amounts) {at : ℕ} {old now : List ℕ} → Filled (pieces (length mt) (flow-row-at mt nt x)) at old now
     → Filled (flow-records mt nt x) at old now
 unfolding flow-records
 records-done mt nt x w = w
 
 -- six bytes for each amount that is not zero
-pub records-length : (ms ns : List ℕ) (x : Amounts) → length (flow-records ms ns x) ≡ 6 * count (length ms) (length ns) x
-unfolding flow-records count
+pub records-length : (ms ns : List ℕ) (x : Amounts) → length (flow-records ms ns x) ≡ 6 * amounts-count (length ms) (length ns) x
+unfolding flow-records amounts-count
 records-length ms ns x =
     pieces-length (λ i. flow-row (getD ms i 0) ns (x i)) (length ms)
     ∙ sum-ext (length ms) (λ i. length (flow-row (getD ms i 0) ns (x i))) (λ i. 6 * sum (length ns) (λ j. when (not (eqb (x i j) 0)) 1))
@@ -86,19 +86,19 @@ bytes-few mt nt x r a b e = omega (arith, records-most mt nt x, mul-le-mul a b�
 
 -- the records behind room for the head, then the head
 pub head-before : (place : ℕ) (mt nt : List ℕ) (x : Amounts) (old : List ℕ) {ys new : List ℕ} {r : ℕ} → 3 ≤ length old
-    → Filled (flow-records mt nt x) r (part 3 old) ys → new ≡ over (head-of place (r / 6)) (back 3 old ys) → Filled (flow-of place mt nt x) (r + 3) old new
+    → Filled (flow-records mt nt x) r (part-from 3 old) ys → new ≡ over (head-of place (r / 6)) (back 3 old ys) → Filled (flow-of place mt nt x) (r + 3) old new
 unfolding flow-of
 head-before place mt nt x old {ys} {new} {r} room w e =
     let recs = flow-records mt nt x in
-    let c : r / 6 ≡ count (length mt) (length nt) x = omega (arith, w .count, records-length mt nt x) in
-    let past : 3 + length recs ≡ length (head-of place (count (length mt) (length nt) x) ++ recs) = omega arith in
+    let c : r / 6 ≡ amounts-count (length mt) (length nt) x = omega (arith, w .count, records-length mt nt x) in
+    let past : 3 + length recs ≡ length (head-of place (amounts-count (length mt) (length nt) x) ++ recs) = omega arith in
     let seam : drop 3 (take 3 old ++ ys) ≡ ys = subst (λ (n : ℕ). drop n (take 3 old ++ ys) ≡ ys) (length-take-le 3 old room) (drop-append-seam (take 3 old) ys) in
     record {
       count = omega (arith, w .count);
       bytes =
           e
           ∙ ap (λ (n : ℕ). over (head-of place n) (back 3 old ys)) c
-          ∙ ap (λ l. head-of place (count (length mt) (length nt) x) ++ l)
+          ∙ ap (λ l. head-of place (amounts-count (length mt) (length nt) x) ++ l)
           (ap (drop 3) (back-rest 3 old ys) ∙ seam ∙ w .bytes ∙ ap (λ l. recs ++ drop (length recs) l) (part-rest 3 old)
           ∙ ap (λ l. recs ++ l) (drop-drop (length recs) 3 old ∙ ap (λ (n : ℕ). drop n old) past));
     }

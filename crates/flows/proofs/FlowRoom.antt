@@ -16,7 +16,7 @@ use Rattle.form.specs.Form.{start-of}
 use Rattle.form.specs.Tables.{first-form, first-table, second-table}
 use Rattle.form.proofs.Items.{entries-most}
 use Rattle.flows.specs.Flow.{step-room, most-flow, flow-bytes, flow-room}
-use Rattle.flows.specs.FlowSteps.{Chosen}
+use Rattle.flows.specs.FlowSteps.{KeptPair}
 use Rattle.flows.proofs.Pieces.{pieces-length}
 use Rattle.flows.proofs.FlowWhole.{flow-at, Pair, most}
 
@@ -34,7 +34,7 @@ room-most M N s a b c =
     let few : 6 * sum (length (steps M s)) e ≤ 6 * most-entries = omega (arith, entries-most M s) in
     omega (arith, rooms (length (steps M s)) (states-of N) e, mul-le-mul few c)
 
-pub flow-within : {tables rows x : List ℕ} {s t : ℕ} → Chosen tables rows x s t → (xs : ℕ → Amounts)
+pub flow-within : {tables rows x : List ℕ} {s t : ℕ} → KeptPair tables rows x s t → (xs : ℕ → Amounts)
     → length (flow-bytes (first-table tables) (second-table tables) s t xs) ≤ flow-room (first-table tables) (second-table tables) s
 unfolding flow-bytes flow-room
 flow-within {tables} {rows} {x} {s} {t} q xs =

@@ -12,7 +12,7 @@ use lib.Seq.{take-suc-set, length-take-le}
 use Rattle.simulation.specs.Sum.{below, concat}
 use Rattle.buffer.specs.Buffer.{over, Filled}
 use Rattle.flows.specs.Flow.{flow-record, flow-row, record-of}
-use Rattle.flows.specs.Records.{cell-record, kept-record, row-records, Gathered, record-bytes, all-bytes}
+use Rattle.flows.specs.Records.{cell-record, kept-record, row-records, RecordsGathered, record-bytes, all-bytes}
 use Rattle.flows.specs.declared.records.Record.{Record}
 use Rattle.flows.proofs.Pieces.{pieces, pieces-next}
 use Rattle.flows.proofs.FlowBytes.{record-at, row-is}
@@ -115,7 +115,7 @@ module _ (s : ℕ) (nt : List ℕ) (a : ℕ → ℕ) where
       first = g .first ∙ sym (append-nil (pieces j kept-at)) ∙ ap (λ l. pieces j kept-at ++ l) (sym (kept-none (cell-record s nt a j) h)) ∙ sym (pieces-next kept-at j);
     }
 
-    pub gathering-end : length nt ≤ j → Gathered (row-records s nt a) n rs
+    pub gathering-end : length nt ≤ j → RecordsGathered (row-records s nt a) n rs
     unfolding row-records
     gathering-end le =
         let e : j ≡ length nt = omega (arith, g .reached) in
@@ -123,7 +123,7 @@ module _ (s : ℕ) (nt : List ℕ) (a : ℕ → ℕ) where
         record { count = omega (arith, ap length all, length-take-le n rs (omega (arith, g .few, g .reached, g .room))); first = all }
 
   -- once they are written
-  pub gathered-filled : {rs : List Record} {n r : ℕ} {old new : List ℕ} → Gathered (row-records s nt a) n rs → (r ≡ n) × (new ≡ over (all-bytes (take n rs)) old)
+  pub gathered-filled : {rs : List Record} {n r : ℕ} {old new : List ℕ} → RecordsGathered (row-records s nt a) n rs → (r ≡ n) × (new ≡ over (all-bytes (take n rs)) old)
       → Filled (flow-row s nt a) (r * 6) old new
   gathered-filled {old = old} g w = record {
     count = omega (arith, g .count, w .0, bytes-length (row-records s nt a), ap length row-bytes);

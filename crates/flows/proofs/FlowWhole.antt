@@ -24,8 +24,8 @@ use Rattle.fit.specs.Partner.{SharesIn, Sought}
 use Rattle.matrix.specs.Matrix.{cell}
 use Rattle.buffer.specs.Buffer.{Filled}
 use Rattle.flows.specs.Flow.{kept-relation, one-flow, place-of, partner, step-room, Right, flow-bytes, flow-room}
-use Rattle.flows.specs.FlowSteps.{Shown, Chosen, Flowed}
-use Rattle.buffer.proofs.Buffer.{part, back}
+use Rattle.flows.specs.FlowSteps.{Shown, KeptPair, Flowed}
+use Rattle.buffer.proofs.Buffer.{part-from, back}
 use Rattle.flows.proofs.Pieces.{Plan, Going, going-start, going-within, going-room, going-fits, going-next, going-end, going-ext, stored, stored-past}
 use Rattle.flows.proofs.FlowBytes.{flow-length}
 use Rattle.flows.proofs.FlowPlace.{partner-fits}
@@ -58,11 +58,11 @@ with-other xs k x l d = ap (λ b. cond b x (xs l)) (ne-eqb l k d)
 
 -- a kept pair of two tables, and where the transitions of s start
 pub record Pair (tables rows x : List ℕ) (s t start : ℕ) : Type 0 where
-  pub chosen : Chosen tables rows x s t
+  pub chosen : KeptPair tables rows x s t
   pub from : start ≡ start-of (first-form tables) s
 
 module _ {tables rows x : List ℕ} {s t start : ℕ} (p : Pair tables rows x s t start) where
-  abbrev q : Chosen tables rows x s t
+  abbrev q : KeptPair tables rows x s t
   q = p .chosen
 
   abbrev f : List ℕ
@@ -100,8 +100,8 @@ module _ {tables rows x : List ℕ} {s t start : ℕ} (p : Pair tables rows x s 
   step-is k lt = ap (λ (i : ℕ). transition-at f (i + k)) (p .from) ∙ transition-of f (q .loaded .first) s k (q .first) lt
 
   -- each transition fits some transition of t
-  pub step-asked : (y : List ℕ) (k : ℕ) → k < n → length y ≡ length x → Sought tables rows y (start + k) t
-  step-asked y k lt e =
+  pub step-sought : (y : List ℕ) (k : ℕ) → k < n → length y ≡ length x → Sought tables rows y (start + k) t
+  step-sought y k lt e =
       let r = in-matched M N (pairs M N) s t (kept-in M N (suc (pairs M N)) s t (q .first) (q .second) (q .kept)) k lt in
       record {
         loaded = q .loaded;
@@ -144,12 +144,12 @@ module _ {tables rows x : List ℕ} {s t start : ℕ} (p : Pair tables rows x s 
       flowing-within = going-within (flow-plan (w .amounts) old room) (w .going)
 
       module _ (lt : k < n) where
-        pub flowing-room : step-room N (transition-at f (start + k)) ≤ length (part at now)
-        flowing-room = subst (λ m. step-room N m ≤ length (part at now)) (sym (step-is k lt)) (going-room (flow-plan (w .amounts) old room) (w .going) lt)
+        pub flowing-room : step-room N (transition-at f (start + k)) ≤ length (part-from at now)
+        flowing-room = subst (λ m. step-room N m ≤ length (part-from at now)) (sym (step-is k lt)) (going-room (flow-plan (w .amounts) old room) (w .going) lt)
 
-        module _ {r : ℕ} {y ys : List ℕ} (d : Shown M N (first-step tables (start + k)) t r y (part at now) ys) where
-          shown : Shown M N (transition M s k) t r y (part at now) ys
-          shown = subst (λ m. Shown M N m t r y (part at now) ys) (step-is k lt) d
+        module _ {r : ℕ} {y ys : List ℕ} (d : Shown M N (first-step tables (start + k)) t r y (part-from at now) ys) where
+          shown : Shown M N (transition M s k) t r y (part-from at now) ys
+          shown = subst (λ m. Shown M N m t r y (part-from at now) ys) (step-is k lt) d
 
           abbrev more : ℕ → Amounts
           more = with-amounts (w .amounts) k (cell y)
@@ -167,7 +167,7 @@ module _ {tables rows x : List ℕ} {s t start : ℕ} (p : Pair tables rows x s 
                 (going-ext (flow-at M N s t more) (λ l lt. ap (λ z. one-flow (place-of M N s t l) (transition M s l) (partner M N s t l) z)
                 (sym (with-other (w .amounts) k (cell y) l (λ e. omega arith)))) (w .going))
                 lt
-                (subst (λ z. Filled (one-flow (place-of M N s t k) (transition M s k) (partner M N s t k) z) r (part at now) ys)
+                (subst (λ z. Filled (one-flow (place-of M N s t k) (transition M s k) (partner M N s t k) z) r (part-from at now) ys)
                 (sym (with-same (w .amounts) k (cell y))) (shown .filled));
           }
             where

@@ -12,7 +12,7 @@ use Rattle.simulation.specs.Sum.{sum, below, concat}
 use Rattle.simulation.proofs.Finite.Sums.{sum-mono, sum-bound}
 use Rattle.simulation.proofs.Finite.Lists.{below-ext}
 use Rattle.buffer.specs.Buffer.{over, Filled}
-use Rattle.buffer.proofs.Buffer.{part, back, Written, lend, finish}
+use Rattle.buffer.proofs.Buffer.{part-from, back, Written, lend, finish}
 
 -- ---- the pieces f 0, …, f (n - 1) one after the other
 concat-snoc : {A : Type 0} (f : ℕ → List A) (i n : ℕ) → concat (below i (suc n) f) ≡ concat (below i n f) ++ f (i + n)
@@ -38,7 +38,7 @@ pieces-length f (suc n) =
     ap length (ap (λ (k : ℕ). pieces k f) (sym (add-one n)) ∙ pieces-next f n) ∙ length-append (pieces n f) (f n) ∙ omega (arith, pieces-length f n)
 
 -- ---- the rest of a buffer from a place on, and the buffer with something else there
-pub part-rest : (at : ℕ) (l : List ℕ) → part at l ≡ drop at l
+pub part-rest : (at : ℕ) (l : List ℕ) → part-from at l ≡ drop at l
 part-rest at l = take-all (length l - at) (drop at l) (simp length-drop (le-refl (length l - at)))
 
 pub back-rest : (at : ℕ) (l ys : List ℕ) → back at l ys ≡ take at l ++ ys
@@ -51,7 +51,7 @@ back-room at l ys le = omega (arith, ap length (back-rest at l ys), length-appen
 
 -- ---- a buffer that holds bs at its start, and is lent on from there for the next piece
 extend : {bs old now ys : List ℕ} {at : ℕ} (cs : List ℕ) (r : ℕ) → length bs + length cs ≤ length old → Filled bs at old now
-    → r ≡ length cs → ys ≡ over cs (part at now) → Written (bs ++ cs) old [] (back at now ys) (at + r)
+    → r ≡ length cs → ys ≡ over cs (part-from at now) → Written (bs ++ cs) old [] (back at now ys) (at + r)
 extend {bs} {old} {now} {ys} {at} cs r room w e put =
     lend cs [] whole put r [] e refl
   where
@@ -113,13 +113,13 @@ module _ {head old : List ℕ} {f : ℕ → List ℕ} {c : ℕ → ℕ} {n : ℕ
     going-within = omega (arith, g .filled .count, g .kept, so-far k (g .below), sum-below c n k (g .below), p .room)
 
     module _ (lt : k < n) where
-      pub going-room : c k ≤ length (part at now)
+      pub going-room : c k ≤ length (part-from at now)
       going-room = rw (part-rest at now, length-drop) (omega (arith, g .filled .count, g .kept, fit k lt))
 
       pub going-fits : at + c k ≤ length old
       going-fits = omega (arith, g .filled .count, fit k lt)
 
-      pub going-next : {r : ℕ} {ys : List ℕ} → Filled (f k) r (part at now) ys → Going head f n old (k + 1) (at + r) (back at now ys)
+      pub going-next : {r : ℕ} {ys : List ℕ} → Filled (f k) r (part-from at now) ys → Going head f n old (k + 1) (at + r) (back at now ys)
       going-next {r} {ys} q =
           let w : Written ((head ++ pieces k f) ++ f k) old [] (back at now ys) (at + r) = extend (f k) r (omega (arith, fit k lt, p .most k lt))
           (g .filled) (q .count) (q .bytes) in

@@ -10,7 +10,7 @@ use lib.Seq.{drop-cons, getD-take, length-take-le}
 use Rattle.buffer.specs.Buffer.{over}
 use Rattle.flows.specs.Records.{no-record, record-bytes, all-bytes, at-record}
 use Rattle.flows.specs.declared.records.Record.{Record}
-use Rattle.buffer.proofs.Buffer.{part, back, Written, start, lend}
+use Rattle.buffer.proofs.Buffer.{part-from, back, Written, start, lend}
 
 pub bytes-length : (l : List Record) → length (all-bytes l) ≡ 6 * length l
 unfolding all-bytes
@@ -55,7 +55,7 @@ module _ (ys : List Record) (n : ℕ) (le : n ≤ length ys) where
   all-turn {b} {now} {zs} k lt w e =
       let at : 6 * k + 6 ≡ 6 * (k + 1) = omega arith in
       subst (λ (l : List ℕ). Written total b (left (k + 1)) l (6 * (k + 1))) (sym e)
-      (subst (λ (m : ℕ). Written total b (left (k + 1)) (back (6 * k) now (over (record-bytes (getD ys k no-record)) (part (6 * k) now))) m) at
+      (subst (λ (m : ℕ). Written total b (left (k + 1)) (back (6 * k) now (over (record-bytes (getD ys k no-record)) (part-from (6 * k) now))) m) at
       (lend (record-bytes (getD ys k no-record)) (left (k + 1)) (turned k lt w) refl 6 (left (k + 1)) refl refl))
 
   pub all-end : {b now : List ℕ} (k : ℕ) → n ≤ k → Written total b (left k) now (6 * k) → Written total b [] now (6 * k)

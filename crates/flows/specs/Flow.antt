@@ -41,17 +41,17 @@ unfolding below concat flow-row
 flow-records ms ns x = concat (below 0 (length ms) (λ i. flow-row (getD ms i 0) ns (x i)))
 
 -- how many of the amounts are not zero
-unfoldable pub count : (p q : ℕ) → Amounts → ℕ
+unfoldable pub amounts-count : (p q : ℕ) → Amounts → ℕ
 unfolding sum
-count p q x = sum p (λ i. sum q (λ j. when (not (eqb (x i j) 0)) 1))
+amounts-count p q x = sum p (λ i. sum q (λ j. when (not (eqb (x i j) 0)) 1))
 
 -- place and count of amounts, then the records
 abbrev pub head-of : (place count : ℕ) → List ℕ
 head-of k c = k ∷ two-bytes c
 
 unfoldable pub flow-of : ℕ → (ms ns : List ℕ) → Amounts → List ℕ
-unfolding count flow-records
-flow-of k ms ns x = head-of k (count (length ms) (length ns) x) ++ flow-records ms ns x
+unfolding amounts-count flow-records
+flow-of k ms ns x = head-of k (amounts-count (length ms) (length ns) x) ++ flow-records ms ns x
 
 -- the flow of one transition m over n, the transition at place k
 abbrev pub one-flow : ℕ → Transition → Transition → Amounts → List ℕ

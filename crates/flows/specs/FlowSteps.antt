@@ -36,7 +36,7 @@ abbrev pub KeptIn : (tables rows : List ℕ) → Type 0
 KeptIn tables rows = relation-of tables rows ≡ kept-relation (first-table tables) (second-table tables)
 
 -- two tables with their kept pairs, a pair of them, and room for amounts
-pub record Chosen (tables rows amounts : List ℕ) (s t : ℕ) : Type 0 where
+pub record KeptPair (tables rows amounts : List ℕ) (s t : ℕ) : Type 0 where
   pub loaded : BothLoaded tables
   pub rows-room : most-states ≤ height rows
   pub rows-kept : KeptIn tables rows

@@ -28,7 +28,7 @@ unfolding below concat kept-record
 row-records s ns a = concat (below 0 (length ns) (λ j. kept-record (cell-record s ns a j)))
 
 -- the first r of rs are those of the list
-pub record Gathered (l : List Record) (r : ℕ) (rs : List Record) : Type 0 where
+pub record RecordsGathered (l : List Record) (r : ℕ) (rs : List Record) : Type 0 where
   pub count : r ≡ length l
   pub first : take r rs ≡ l
 

@@ -13,7 +13,7 @@ ghost use Rattle.matrix.specs.Matrix.{cell};
 ghost use Rattle.flows.specs.Flow.{flow-row, flow-records, head-of, flow-of, step-room, flow-room};
 ghost use Rattle.form.specs.Tables.{first-table, second-table, first-step};
 ghost use Rattle.fit.specs.Partner.{Sought};
-ghost use Rattle.flows.specs.FlowSteps.{Row, Records, KeptIn, Shown, Chosen, Flowed};
+ghost use Rattle.flows.specs.FlowSteps.{Row, Records, KeptIn, Shown, KeptPair, Flowed};
 
 // The records of one target of s, for the amounts in row i that are not zero. Returns how many bytes were written, as all that follow do.
 fn put_row(s: u8, nt: &[u16], amounts: &[u32], i: usize, buf: &mut [u8]) -> usize
@@ -95,7 +95,7 @@ pub fn put_flows(
     amounts: &mut [u32],
     buf: &mut [u8],
 ) -> usize
-    requires { ⌜ Chosen (now tables) (now rows) (now amounts) s t
+    requires { ⌜ KeptPair (now tables) (now rows) (now amounts) s t
         × (flow-room (first-table (now tables)) (second-table (now tables)) s ≤ length (now buf)) ⌝ }
     ensures { λ r. ⌜ Flowed (first-table (now (tables .entry))) (second-table (now (tables .entry))) s t r (now (buf .entry)) (now (buf .exit)) ⌝ }
 {

@@ -8,7 +8,7 @@ ghost use lib.ListN.{length, take};
 ghost use Rattle.buffer.specs.Buffer.{over};
 ghost use Rattle.matrix.specs.Matrix.{cell};
 ghost use Rattle.flows.specs.FlowSteps.{Row};
-ghost use Rattle.flows.specs.Records.{cell-record, row-records, Gathered, record-bytes, all-bytes, at-record};
+ghost use Rattle.flows.specs.Records.{cell-record, row-records, RecordsGathered, record-bytes, all-bytes, at-record};
 
 pub struct Record {
     pub from: u8,
@@ -39,7 +39,7 @@ fn kept(r: Record) -> bool
 // The records of the amounts of row i that are not zero, in order, at the start of rs. Returns how many.
 pub fn gather(s: u8, nt: &[u16], amounts: &[u32], i: usize, rs: &mut [Record]) -> usize
     requires { ⌜ Row (now nt) (now amounts) i × (length (now nt) ≤ length (now rs)) ⌝ }
-    ensures { λ r. ⌜ Gathered (row-records s (now (nt .entry)) (cell (now (amounts .entry)) i)) r (now (rs .exit)) ⌝ }
+    ensures { λ r. ⌜ RecordsGathered (row-records s (now (nt .entry)) (cell (now (amounts .entry)) i)) r (now (rs .exit)) ⌝ }
 {
     let mut n = 0;
     for j in 0..nt.len() {

@@ -17,7 +17,7 @@ use Rattle.form.specs.Valid.{Distribution}
 use Rattle.form.specs.Form.{Loaded, targets-from, weights-from, count-of, start-of, transitions-of, entry-start, size-of, column-of, entry-at, transition-at, table-of, Span}
 use Rattle.form.proofs.Lists.{getD-below, map-below}
 use Rattle.form.proofs.Sound.{few-targets, shaped-sound}
-use Rattle.form.proofs.FormLists.{part, ascends, passing}
+use Rattle.form.proofs.FormLists.{part-below, ascends, crossed-at}
 
 pub weights-length : (m : Transition) → length (weights m) ≡ length (m .entries)
 weights-length m = length-map (m .entries) (λ (e : Entry). e .weight)
@@ -70,7 +70,7 @@ pub column-part : (f : List ℕ) (column j : ℕ) → Span f column j
 column-part f column j w =
     let e : column + entry-start f (j + 1) - (column + entry-start f j) ≡ size-of f j = omega arith in
     ap (λ (n : ℕ). take n (drop (column + entry-start f j) f)) e
-    ∙ part f column (entry-start f j) (size-of f j) (omega (arith, w .ordered, w .within))
+    ∙ part-below f column (entry-start f j) (size-of f j) (omega (arith, w .ordered, w .within))
 
 -- the limits of a form
 pub record Limits (f : List ℕ) : Type 0 where
@@ -148,7 +148,7 @@ module _ (f : List ℕ) (l : Loaded f) where
     by-state : (P : Transition → Type 0) → ((s k : ℕ) → k < length (steps (table-of f) s) → P (transition (table-of f) s k)) → P (transition-at f j)
     unfolding transitions-of
     by-state P p =
-        let o = passing (start-of f) (count-of f) j (omega (arith, l .from-zero)) h in
+        let o = crossed-at (start-of f) (count-of f) j (omega (arith, l .from-zero)) h in
         let s = o .step in
         let b : s < states-of (table-of f) = omega (arith, states-count f, o .within) in
         subst P (sym (transition-numbered s j b (o .from) (o .to))) (p s (j - start-of f s) (omega (arith, counts s b, o .to)))
@@ -175,5 +175,5 @@ module _ (f : List ℕ) (l : Loaded f) where
   sound = shaped-sound (table-of f) (l .valid .shape)
 
 -- two tables have no more pairs than the limits allow
-pub few-pairs : (f g : List ℕ) → Loaded f → Loaded g → states-of (table-of f) * states-of (table-of g) ≤ most-pairs
-few-pairs f g l k = mul-le-mul (limits f l .states-few) (limits g k .states-few)
+pub pairs-bound : (f g : List ℕ) → Loaded f → Loaded g → states-of (table-of f) * states-of (table-of g) ≤ most-pairs
+pairs-bound f g l k = mul-le-mul (limits f l .states-few) (limits g k .states-few)

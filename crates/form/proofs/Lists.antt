@@ -80,19 +80,19 @@ module _ {ℓ} {A : Type ℓ} where
       ap (λ (p : ℕ). getD (x ++ concat xs) p d) e ∙ getD-append-add x (concat xs) (sum q (sizes xs) + k) d ∙ concat-at d xs q k (le-of-suc-le-suc l) m
 
   -- each element of lists one after the other is an element of one of them
-  pub record Found (d : A) (ls : List (List A)) (j : ℕ) : Type ℓ where
+  pub record FromOneOf (d : A) (ls : List (List A)) (j : ℕ) : Type ℓ where
     pub place : ℕ
     pub within : ℕ
     pub place-below : place < length ls
     pub within-below : within < sizes ls place
     pub is : getD (concat ls) j d ≡ getD (getD ls place []) within d
 
-  pub concat-find : (d : A) (ls : List (List A)) (j : ℕ) → j < length (concat ls) → Found d ls j
+  pub concat-find : (d : A) (ls : List (List A)) (j : ℕ) → j < length (concat ls) → FromOneOf d ls j
   unfolding concat
   concat-find d [] j l = absurd (not-suc-le-zero l)
   concat-find d (x ∷ xs) j l = go (decLt j (length x)) (concat-find d xs)
     where
-      go : Dec (j < length x) → ((i : ℕ) → i < length (concat xs) → Found d xs i) → Found d (x ∷ xs) j
+      go : Dec (j < length x) → ((i : ℕ) → i < length (concat xs) → FromOneOf d xs i) → FromOneOf d (x ∷ xs) j
       go (yes b) later = record { place = 0; within = j; place-below = omega arith; within-below = b; is = List·getD-append x (concat xs) d j b }
       go (no b) later =
           let n = length-append x (concat xs) in

@@ -4,3 +4,4 @@ pub mod Items
 pub mod Valid
 pub mod Form
 pub mod Tables
+pub mod Examples

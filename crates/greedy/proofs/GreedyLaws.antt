@@ -17,10 +17,10 @@ use Rattle.relation.specs.Words.{row-of, height}
 use Rattle.relation.proofs.Mask.{member-none, below-or-not}
 use Rattle.relation.specs.Related.{holds}
 use Rattle.matrix.specs.Matrix.{cell, delta, row-sum, column-sum, AddsAt, Adds}
-use Rattle.matrix.specs.Masks.{put, MaskOf, Noted}
+use Rattle.matrix.specs.Masks.{with-nonzero, MaskOf, Noted}
 use Rattle.matrix.specs.Flow.{Partial, FlowIn, ImprovedIn, Preserves}
 use Rattle.greedy.specs.Greedy.{Greedy, CellFilled, RowFilled}
-use Rattle.matrix.proofs.MatrixLaws.{delta-same, sum-next, row-same, column-same, row-none, column-none, row-adds, adds-row, adds-column, adds-at-other}
+use Rattle.matrix.proofs.MatrixLaws.{delta-same, sum-next, row-same, column-same, row-sum-none, column-none, row-adds, adds-row, adds-column, adds-at-other}
 use Rattle.matrix.proofs.MaskedLaws.{neither, both-at, both-out, drop-at, drop-out, no-members, mask-put, used-adds}
 use Rattle.matrix.proofs.FlowLaws.{improves-refl, flow-now, improves-on, improved, cell-extends, cell-fits}
 
@@ -104,7 +104,7 @@ filling-none {q} {i} {rel} {x} {a} {b} {free} {left} z m e = record {
     | yes c ↦ omega arith
     | no o ↦ absurd (neither (m .there j h o) (both-out (member (row-of rel i)) (member free) j e t r))
   ]);
-  sent = omega (arith, row-none q i x z);
+  sent = omega (arith, row-sum-none q i x z);
   others = λ k j o l. refl;
 }
 
@@ -209,7 +209,7 @@ module _ {i : ℕ} {rel : List ℕ} {F₀ F : Partial} {still left : ℕ} (s : U
       others : (c : ℕ) → c ≢ j → getD (G .demand) c 0 ≡ getD (F .demand) c 0
       others c o = sym (adds-at-other (f .taken) c (λ e. o (sym e)))
 
-      pub under-way-next : (still′ : ℕ) {left′ : ℕ} → member still′ ≡ put j (getD (G .demand) j 0) (member still)
+      pub under-way-next : (still′ : ℕ) {left′ : ℕ} → member still′ ≡ with-nonzero j (getD (G .demand) j 0) (member still)
           → member left′ ≡ both (λ k. not (eqb (getD (G .supply) i 0) 0)) (without-member j (member left)) → UnderWay i rel F₀ G still′ left′
       under-way-next still′ {left′} e n = record {
         improves = cell-on;
@@ -224,7 +224,7 @@ greedy-none = record { each = λ i j h. absurd (omega arith) }
 module _ {p q n : ℕ} {rel a₀ b₀ x₀ x a b x′ : List ℕ} (hp : n < p) (w : q ≤ most-states) (z₀ : (i j : ℕ) → i < p → j < q → cell x₀ i j ≡ 0) (z : (i j : ℕ) → n ≤ i → i < p → j < q → cell x i j ≡ 0)
     (k : Preserves p q x₀ a₀ b₀ x a b) (f : RowFilled q n rel a b x x′) where
   row-left : getD a n 0 ≡ getD a₀ n 0
-  row-left = omega (arith, k .sent n hp, row-none q n x (λ j h. z n j (omega arith) hp h), row-none q n x₀ (λ j h. z₀ n j hp h))
+  row-left = omega (arith, k .sent n hp, row-sum-none q n x (λ j h. z n j (omega arith) hp h), row-sum-none q n x₀ (λ j h. z₀ n j hp h))
 
   column-kept : (i j : ℕ) → i ≤ n → j < q → column-sum i x′ j ≡ column-sum i x j
   column-kept i j l h = column-same i j x x′ (λ c m. f .others c j (λ e. omega arith) (omega arith))

@@ -16,7 +16,7 @@ use Rattle.matrix.specs.Matrix.{cell, row-sum, column-sum}
 use Rattle.matrix.specs.Problem.{Given}
 use Rattle.matrix.specs.Flow.{missing, Flow, Preserves}
 use Rattle.greedy.specs.Start.{Supplies, RowCleared, Cleared, Begun, Balanced}
-use Rattle.matrix.proofs.MatrixLaws.{row-none, column-none, outside-refl}
+use Rattle.matrix.proofs.MatrixLaws.{row-sum-none, column-none, outside-refl}
 use Rattle.matrix.proofs.MaskedLaws.{mask-zero}
 
 pub supplies-none : {ws a : List ℕ} {other : ℕ} → Supplies ws other 0 a
@@ -77,7 +77,7 @@ cleared-end {q = q} {x = x} {y = y} e s = subst (λ (n : ℕ). Cleared n q x y) 
 
 module _ {ws vs x₀ x a b : List ℕ} (s : Begun ws vs x₀ x a b) where
   no-row : (i : ℕ) → i < length ws → row-sum (length vs) x i ≡ 0
-  no-row i h = row-none (length vs) i x (λ j l. s .cleared .zero i j h l)
+  no-row i h = row-sum-none (length vs) i x (λ j l. s .cleared .zero i j h l)
 
   no-column : (j : ℕ) → j < length vs → column-sum (length ws) x j ≡ 0
   no-column j h = column-none (length ws) j x (λ i l. s .cleared .zero i j l h)

@@ -21,12 +21,12 @@ pub read-end : {r t : Bool} (w a : ℕ) → r ≡ t → r ≡ false → End ≡ 
 read-end w a e h = rw (sym e ∙ h)
 
 -- the answer was a value n and a cursor c
-pub record Told (t : Bool) (v a n : ℕ) (c : Cursor) : Type 0 where
+pub record ValueTold (t : Bool) (v a n : ℕ) (c : Cursor) : Type 0 where
   pub present : t ≡ true
   pub value : n ≡ v
   pub place : c .at ≡ a
 
-told : (t : Bool) (v a : ℕ) {r : Read} {n : ℕ} {c : Cursor} → r ≡ read-if t v a → r ≡ Value n c → Told t v a n c
+told : (t : Bool) (v a : ℕ) {r : Read} {n : ℕ} {c : Cursor} → r ≡ read-if t v a → r ≡ Value n c → ValueTold t v a n c
 told true v a {r} {n} {c} e q =
     let p : Value n c ≡ Value v (record { at = a }) = cc in
     let h : c ≡ record { at = a } = cc in
@@ -38,19 +38,19 @@ ended true v a e q = let z : _≡_ {A = ℕ} 0 1 = cc in absurd (omega arith)
 ended false v a e q = refl
 
 module _ (s : List ℕ) (p : ℕ) {q : ℕ} (at : q ≡ p) where
-  pub byte-told : {r : Read} {n : ℕ} {c : Cursor} → r ≡ byte-read s q → r ≡ Value n c → Told (leb (p + 1) (length s)) (byte s p) (p + 1) n c
+  pub byte-told : {r : Read} {n : ℕ} {c : Cursor} → r ≡ byte-read s q → r ≡ Value n c → ValueTold (leb (p + 1) (length s)) (byte s p) (p + 1) n c
   byte-told e = told _ _ _ (rw at at e)
 
   pub byte-ended : {r : Read} → r ≡ byte-read s q → r ≡ End → leb (p + 1) (length s) ≡ false
   byte-ended e = ended _ (byte s p) (p + 1) (rw at at e)
 
-  pub half-told : {r : Read} {n : ℕ} {c : Cursor} → r ≡ half-read s q → r ≡ Value n c → Told (leb (p + 2) (length s)) (half s p) (p + 2) n c
+  pub half-told : {r : Read} {n : ℕ} {c : Cursor} → r ≡ half-read s q → r ≡ Value n c → ValueTold (leb (p + 2) (length s)) (half s p) (p + 2) n c
   half-told e = told _ _ _ (rw at at e)
 
   pub half-ended : {r : Read} → r ≡ half-read s q → r ≡ End → leb (p + 2) (length s) ≡ false
   half-ended e = ended _ (half s p) (p + 2) (rw at at e)
 
-  pub part-told : (k : ℕ) {m : ℕ} → m ≡ k → {r : Read} {n : ℕ} {c : Cursor} → r ≡ part-read s q m → r ≡ Value n c → Told (leb (p + k) (length s)) p (p + k) n c
+  pub part-told : (k : ℕ) {m : ℕ} → m ≡ k → {r : Read} {n : ℕ} {c : Cursor} → r ≡ part-read s q m → r ≡ Value n c → ValueTold (leb (p + k) (length s)) p (p + k) n c
   part-told k size e = told _ _ _ (rw (at, size) at e)
 
   pub part-ended : (k : ℕ) {m : ℕ} → m ≡ k → {r : Read} → r ≡ part-read s q m → r ≡ End → leb (p + k) (length s) ≡ false

@@ -11,7 +11,7 @@ use Rattle.items.specs.declared.cursor.Read.{Read}
 use Rattle.items.specs.declared.cursor.Read.the-variants.{Value, End}
 
 -- r is the value v, which is below the bound
-pub record Small (bound v r : ℕ) : Type 0 where
+pub record ValueBelow (bound v r : ℕ) : Type 0 where
   pub is : r ≡ v
   pub small : r < bound
 

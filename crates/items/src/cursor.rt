@@ -4,7 +4,7 @@ ghost use Prim.Native.Nat.{_+_, _<_};
 ghost use lib.Dec.{leb};
 ghost use lib.ListN.{length};
 ghost use Rattle.layout.specs.Bytes.{byte, half};
-ghost use Rattle.items.specs.Reads.{Small, byte-read, half-read, part-read};
+ghost use Rattle.items.specs.Reads.{ValueBelow, byte-read, half-read, part-read};
 
 pub struct Cursor {
     pub at: usize,
@@ -29,7 +29,7 @@ fn present(s: &[u8], at: usize, n: usize) -> bool
 // The byte at a place.
 pub fn byte_at(s: &[u8], at: usize) -> usize
     requires { ⌜ at < length (now s) ⌝ }
-    ensures { λ r. ⌜ Small 256 (byte (now (s .entry)) at) r ⌝ }
+    ensures { λ r. ⌜ ValueBelow 256 (byte (now (s .entry)) at) r ⌝ }
 {
     s[at] as usize
 }
@@ -37,7 +37,7 @@ pub fn byte_at(s: &[u8], at: usize) -> usize
 // The two bytes at a place, low byte first.
 pub fn half_at(s: &[u8], at: usize) -> usize
     requires { ⌜ at + 1 < length (now s) ⌝ }
-    ensures { λ r. ⌜ Small 65536 (half (now (s .entry)) at) r ⌝ }
+    ensures { λ r. ⌜ ValueBelow 65536 (half (now (s .entry)) at) r ⌝ }
 {
     byte_at(s, at) + 256 * byte_at(s, at + 1)
 }

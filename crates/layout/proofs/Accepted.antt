@@ -12,15 +12,15 @@ use Rattle.simulation.specs.Demands.{Sound}
 use Rattle.simulation.proofs.Finite.Lists.{below-length, below-ext}
 use Rattle.form.specs.Items.{all-transitions, all-entries}
 use Rattle.form.specs.Valid.{Shaped, Valid}
-use Rattle.layout.specs.Bytes.{Octets, byte, half, actions, states-at, states, count, state-start, transitions-at, transitions, entries-at, entries, entry, transition, table, refusal, accepted, decode}
-use Rattle.layout.specs.Encode.{half-bytes, transition-bytes, entry-bytes, actions-section, states-section, transitions-section, entries-section, encode}
+use Rattle.layout.specs.Bytes.{Octets, byte, half, actions, states-at, states, count, state-start, transitions-at, transitions, entries-at, entries, decoded-entry, decoded-transition, table, refusal, accepted, decode}
+use Rattle.layout.specs.Encode.{half-bytes, encode-transition, encode-entry, actions-section, states-section, transitions-section, entries-section, encode}
 use Rattle.form.proofs.Lists.{below-is, below-append, below-shift, below-records, map-below}
 use Rattle.layout.proofs.Bounds.{passes, states-is, transitions-at-is, transitions-is, entries-at-is, entries-is, end-is}
 use Rattle.layout.proofs.PlaceLaws.{code-count, steps-from, states-are as table-states, state-count, entry-count, label-is}
 use Rattle.layout.proofs.LayoutLaws.{transitions-in-order, entries-in-order}
 use Rattle.layout.proofs.ValidLaws.{shaped, valid}
 use Rattle.form.proofs.Sound.{shaped-sound}
-use Rattle.layout.proofs.DecodeLaws.{accepted-told}
+use Rattle.layout.proofs.DecodeLaws.{decode-told}
 
 -- the two bytes of a field
 half-back : (a b : ℕ) → a < 256 → half-bytes (a + 256 * b) ≡ a ∷ b ∷ []
@@ -54,12 +54,12 @@ module _ (s : List ℕ) (bytes : Octets s) (e : refusal s ≡ 0) where
       let counts : map length (table s .states) ≡ part (states-at s + 1) (states s)
       = ap (λ (ls : List (List Transition)). map length ls) (table-states s)
       ∙ map-below length 0 (states s) (steps-from s)
-      ∙ below-ext (λ q. length (steps-from s q)) (count s) 0 (states s) (λ q _ _. below-length (transition s) (state-start s q) (count s q))
+      ∙ below-ext (λ q. length (steps-from s q)) (count s) 0 (states s) (λ q _ _. below-length (decoded-transition s) (state-start s q) (count s q))
       ∙ below-shift (byte s) (states-at s + 1) 0 (states s)
       ∙ ap (λ (p : ℕ). part p (states s)) (add-zero (states-at s + 1)) in
       ap₂ _∷_ (state-count s ∙ states-is s) counts ∙ one-part (states-at s) (states s)
 
-  transition-part : (j : ℕ) → transition-bytes (transition s j) ≡ part (transitions-at s + 2 + 2 * j) 2
+  transition-part : (j : ℕ) → encode-transition (decoded-transition s j) ≡ part (transitions-at s + 2 + 2 * j) 2
   unfolding below
   transition-part j =
       let q : transitions-at s + 3 + 2 * j ≡ suc (transitions-at s + 2 + 2 * j) = omega arith in
@@ -70,15 +70,15 @@ module _ (s : List ℕ) (bytes : Octets s) (e : refusal s ≡ 0) where
       let m = transitions s in
       let p = transitions-at s + 2 in
       let order = transitions-in-order s e in
-      let items : concat (map transition-bytes (all-transitions (table s))) ≡ part p (2 * m)
-      = ap (λ (ms : List Transition). concat (map transition-bytes ms)) order
-      ∙ ap concat (map-below transition-bytes 0 m (transition s))
-      ∙ below-records (byte s) 2 p 0 m (λ j. transition-bytes (transition s j)) (λ j _ _. transition-part j)
+      let items : concat (map encode-transition (all-transitions (table s))) ≡ part p (2 * m)
+      = ap (λ (ms : List Transition). concat (map encode-transition ms)) order
+      ∙ ap concat (map-below encode-transition 0 m (decoded-transition s))
+      ∙ below-records (byte s) 2 p 0 m (λ j. encode-transition (decoded-transition s j)) (λ j _ _. transition-part j)
       ∙ ap (λ (q : ℕ). part q (2 * m)) (add-zero p) in
-      ap₂ (λ (n : ℕ) (l : List ℕ). half-bytes n ++ l) (ap length order ∙ below-length (transition s) 0 m ∙ transitions-is s) items
+      ap₂ (λ (n : ℕ) (l : List ℕ). half-bytes n ++ l) (ap length order ∙ below-length (decoded-transition s) 0 m ∙ transitions-is s) items
       ∙ half-part (transitions-at s) (2 * m)
 
-  entry-part : (j : ℕ) → entry-bytes (entry s j) ≡ part (entries-at s + 2 + 3 * j) 3
+  entry-part : (j : ℕ) → encode-entry (decoded-entry s j) ≡ part (entries-at s + 2 + 3 * j) 3
   unfolding below
   entry-part j =
       let p = entries-at s + 2 + 3 * j in
@@ -91,12 +91,12 @@ module _ (s : List ℕ) (bytes : Octets s) (e : refusal s ≡ 0) where
       let n = entries s in
       let p = entries-at s + 2 in
       let order = entries-in-order s e in
-      let items : concat (map entry-bytes (all-entries (table s))) ≡ part p (3 * n)
-      = ap (λ (es : List Entry). concat (map entry-bytes es)) order
-      ∙ ap concat (map-below entry-bytes 0 n (entry s))
-      ∙ below-records (byte s) 3 p 0 n (λ j. entry-bytes (entry s j)) (λ j _ _. entry-part j)
+      let items : concat (map encode-entry (all-entries (table s))) ≡ part p (3 * n)
+      = ap (λ (es : List Entry). concat (map encode-entry es)) order
+      ∙ ap concat (map-below encode-entry 0 n (decoded-entry s))
+      ∙ below-records (byte s) 3 p 0 n (λ j. encode-entry (decoded-entry s j)) (λ j _ _. entry-part j)
       ∙ ap (λ (q : ℕ). part q (3 * n)) (add-zero p) in
-      ap₂ (λ (n : ℕ) (l : List ℕ). half-bytes n ++ l) (ap length order ∙ below-length (entry s) 0 n ∙ entries-is s) items
+      ap₂ (λ (n : ℕ) (l : List ℕ). half-bytes n ++ l) (ap length order ∙ below-length (decoded-entry s) 0 n ∙ entries-is s) items
       ∙ half-part (entries-at s) (3 * n)
 
   join : (a n b : ℕ) → a + n ≡ b → part 0 a ++ part a n ≡ part 0 b
@@ -117,14 +117,14 @@ module _ (s : List ℕ) (bytes : Octets s) (e : refusal s ≡ 0) where
 
 module _ (s : List ℕ) (M : Table) (h : decode s ≡ accepted M) where
   pub accepted-shaped : Shaped M
-  accepted-shaped = let d = accepted-told s M h in subst Shaped (d .table-is) (shaped s (d .passed))
+  accepted-shaped = let d = decode-told s M h in subst Shaped (d .table-is) (shaped s (d .passed))
 
   pub accepted-sound : Sound M
   accepted-sound = shaped-sound M accepted-shaped
 
 module _ (s : List ℕ) (bytes : Octets s) (M : Table) (h : decode s ≡ accepted M) where
   pub accepted-valid : Valid M
-  accepted-valid = let d = accepted-told s M h in subst Valid (d .table-is) (valid s bytes (d .passed))
+  accepted-valid = let d = decode-told s M h in subst Valid (d .table-is) (valid s bytes (d .passed))
 
   pub accepted-encodes : encode M ≡ s
-  accepted-encodes = let d = accepted-told s M h in ap encode (sym (d .table-is)) ∙ encodes s bytes (d .passed)
+  accepted-encodes = let d = decode-told s M h in ap encode (sym (d .table-is)) ∙ encodes s bytes (d .passed)

@@ -15,7 +15,7 @@ use Rattle.simulation.proofs.Finite.Tests.{any-ext}
 use Rattle.simulation.specs.Limits.{most-states, most-transitions, most-entries, most-total}
 use Rattle.layout.specs.Bytes.{_then_, refuse_unless_, first, byte, half, size-from, actions, code, states-at, states, count, transitions-at, transitions, size, entries-at, entries, end, weight-from, target-right, weight-right, code-refusal, transition-refusal, entry-refusal, run-refusal, refusal, actions-refusal, states-refusal, transitions-refusal, entries-refusal}
 use Rattle.layout.proofs.SectionLaws.{first-ext, section-items, section-broken, section-whole}
-use Rattle.layout.proofs.Bounds.{passes, accepted, states-is, transitions-at-is, transitions-is, entries-at-is, entries-is, end-is}
+use Rattle.layout.proofs.Bounds.{passes, accepted-bounds, states-is, transitions-at-is, transitions-is, entries-at-is, entries-is, end-is}
 
 module _ (s t : List ℕ) (k : ℕ) (same : (p : ℕ) → p < k → byte t p ≡ byte s p) where
   half-same : (p : ℕ) → p + 1 < k → half t p ≡ half s p
@@ -180,7 +180,7 @@ module _ (s t : List ℕ) (k : ℕ) (same : (p : ℕ) → p < k → byte t p ≡
         let m = entries-same h in
         let places : first 0 (transitions t) (run-refusal t (states t) (transitions-at t + 3) (entries-at t + 2)) ≡ first 0 (transitions s) (run-refusal t (states s) (transitions-at s + 3) (entries-at s + 2))
         = λ i. first 0 (transitions-same h₃ i) (run-refusal t (states-same (after-states h₃) i) (from i + 3) (at i + 2)) in
-        let counted = accepted s e .of-entries .counted in
+        let counted = accepted-bounds s e .of-entries .counted in
         section-items _ _ _ _ (le-leb (entries-at t + 2) (length t) (omega arith)) (entries-rule h) (le-leb (entries-at t + 2 + 3 * entries t) (length t) (omega arith))
         ∙ places
         ∙ first-ext 0 (transitions s) (run-refusal t (states s) (transitions-at s + 3) (entries-at s + 2)) (run-refusal s (states s) (transitions-at s + 3) (entries-at s + 2))

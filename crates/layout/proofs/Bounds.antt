@@ -11,9 +11,9 @@ use borrow.Author.Tests.{leb-true, ltb-true, eqb-true}
 use Rattle.simulation.specs.Sum.{sum}
 use Rattle.simulation.proofs.Finite.Sums.{sum-ext}
 use Rattle.simulation.specs.Limits.{most-states, most-transitions, most-entries}
+use Rattle.simulation.proofs.Finite.Tests.{both-true}
 use Rattle.layout.specs.Bytes.{_then_, byte, half, actions, states-at, states, count, transitions-at, transitions, size, entries-at, entries, end, refuse_unless_, actions-refusal, states-refusal, transitions-refusal, entries-refusal, refusal}
-use Rattle.layout.proofs.Laws.{and-left, and-right}
-use Rattle.layout.proofs.SectionLaws.{holds, section-whole, then-parts}
+use Rattle.layout.proofs.SectionLaws.{accepted-holds, section-whole, then-parts}
 
 module _ (s : List ℕ) where
   -- each count, and where its section begins
@@ -52,10 +52,10 @@ module _ (s : List ℕ) where
   pub states-bounds : states-refusal s ≡ 0 → States
   states-bounds e =
       let w = section-whole _ _ _ _ e in
-      let rule = holds 3 (ltb 0 (states s) && leb (states s) most-states) (w .rule-kept) in
+      let rule = accepted-holds 3 (ltb 0 (states s) && leb (states s) most-states) (w .rule-kept) in
       record {
-        some = ltb-true 0 (states s) (and-left _ _ rule);
-        few = leb-true (states s) most-states (and-right (ltb 0 (states s)) _ rule);
+        some = ltb-true 0 (states s) (both-true _ _ rule .0);
+        few = leb-true (states s) most-states (both-true (ltb 0 (states s)) _ rule .1);
         bytes = leb-true (states-at s + 1 + states s) (length s) (w .all-present);
       }
 
@@ -67,10 +67,10 @@ module _ (s : List ℕ) where
   pub transitions-bounds : transitions-refusal s ≡ 0 → Transitions
   transitions-bounds e =
       let w = section-whole _ _ _ _ e in
-      let rule = holds 4 (leb (transitions s) most-transitions && eqb (transitions s) (sum (states s) (count s))) (w .rule-kept) in
+      let rule = accepted-holds 4 (leb (transitions s) most-transitions && eqb (transitions s) (sum (states s) (count s))) (w .rule-kept) in
       record {
-        few = leb-true (transitions s) most-transitions (and-left _ _ rule);
-        counted = eqb-true (transitions s) (sum (states s) (count s)) (and-right (leb (transitions s) most-transitions) _ rule);
+        few = leb-true (transitions s) most-transitions (both-true _ _ rule .0);
+        counted = eqb-true (transitions s) (sum (states s) (count s)) (both-true (leb (transitions s) most-transitions) _ rule .1);
         bytes = leb-true (transitions-at s + 2 + 2 * transitions s) (length s) (w .all-present);
       }
 
@@ -88,10 +88,10 @@ module _ (s : List ℕ) where
   pub entries-bounds : entries-refusal s ≡ 0 → Entries
   entries-bounds e =
       let w = section-whole _ _ _ _ e in
-      let rule = holds 6 (leb (entries s) most-entries && eqb (entries s) (sum (transitions s) (size s))) (w .rule-kept) in
+      let rule = accepted-holds 6 (leb (entries s) most-entries && eqb (entries s) (sum (transitions s) (size s))) (w .rule-kept) in
       record {
-        few = leb-true (entries s) most-entries (and-left _ _ rule);
-        counted = eqb-true (entries s) (sum (transitions s) (size s)) (and-right (leb (entries s) most-entries) _ rule);
+        few = leb-true (entries s) most-entries (both-true _ _ rule .0);
+        counted = eqb-true (entries s) (sum (transitions s) (size s)) (both-true (leb (entries s) most-entries) _ rule .1);
         bytes = leb-true (entries-at s + 2 + 3 * entries s) (length s) (w .all-present);
       }
 
@@ -118,16 +118,16 @@ module _ (s : List ℕ) where
         of-states = f .1;
         of-transitions = d .1;
         of-entries = b .1;
-        of-end = eqb-true (end s) (length s) (holds 1 (eqb (end s) (length s)) (a .1));
+        of-end = eqb-true (end s) (length s) (accepted-holds 1 (eqb (end s) (length s)) (a .1));
       }
 
   -- the counts and places of an accepted table
-  pub record Accepted : Type 0 where
+  pub record AcceptedBounds : Type 0 where
     pub of-states : States
     pub of-transitions : Transitions
     pub of-entries : Entries
 
-  pub accepted : refusal s ≡ 0 → Accepted
-  accepted e =
+  pub accepted-bounds : refusal s ≡ 0 → AcceptedBounds
+  accepted-bounds e =
       let p = passes e in
       record { of-states = states-bounds (p .of-states); of-transitions = transitions-bounds (p .of-transitions); of-entries = entries-bounds (p .of-entries) }

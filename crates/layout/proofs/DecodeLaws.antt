@@ -36,9 +36,9 @@ module _ (s : List ℕ) where
     pub passed : refusal s ≡ 0
     pub table-is : table s ≡ M
 
-  pub accepted-told : (M : Table) → decode s ≡ accepted M → Decodes M
+  pub decode-told : (M : Table) → decode s ≡ accepted M → Decodes M
   unfolding decided
-  accepted-told M e = go (refusal s) refl
+  decode-told M e = go (refusal s) refl
     where
       go : (k : ℕ) → refusal s ≡ k → Decodes M
       go zero p = let h = decode-by p in record { passed = p; table-is = cc }

@@ -10,17 +10,17 @@ use lib.Dec.{ltb, eqb}
 use lib.ListN.{length, getD, length-map}
 use borrow.Author.Tests.{lt-ltb, le-leb, eq-eqb, ne-eqb}
 use Rattle.simulation.specs.Sum.{below, sum, any, concat}
-use Rattle.simulation.specs.Fit.{total, weight as weight-at}
+use Rattle.simulation.specs.Fit.{total, weight}
 use Rattle.simulation.specs.Table.{Entry, Table, weights, target-at, states-of, steps, no-transition}
 use Rattle.simulation.proofs.Finite.Sums.{sum-ext, sum-le, sum-more}
 use Rattle.simulation.proofs.Finite.Tests.{is-true, same-eqb, some-any}
 use Rattle.simulation.specs.Limits.{most-states, most-transitions, most-entries, most-total}
 use Rattle.form.specs.Items.{all-transitions, all-entries}
 use Rattle.form.specs.Valid.{Distribution, Valid}
-use Rattle.layout.specs.Bytes.{_then_, refuse_unless_, byte, actions, code, states-at, states, count, transitions-at, transitions, label, size, start, entries-at, entries, target, weight, weight-from, target-right, weight-right, code-refusal, transition-refusal, entry-refusal, run-refusal, entry, transition, end, table, refusal, actions-refusal, states-refusal, transitions-refusal, entries-refusal}
+use Rattle.layout.specs.Bytes.{_then_, refuse_unless_, byte, actions, code, states-at, states, count, transitions-at, transitions, label, size, start, entries-at, entries, entry-target, entry-weight, weight-from, target-right, weight-right, code-refusal, transition-refusal, entry-refusal, run-refusal, decoded-entry, decoded-transition, end, table, refusal, actions-refusal, states-refusal, transitions-refusal, entries-refusal}
 use Rattle.form.proofs.Lists.{below-is, sizes, length-concat, concat-at}
 use Rattle.layout.proofs.Numbered.{lists, lists-many, list-is, numbered, listed-at, distribution-at}
-use Rattle.layout.proofs.Laws.{not-refused, both}
+use Rattle.layout.proofs.Laws.{not-refused, both-hold}
 use Rattle.layout.proofs.SectionLaws.{then-zero, pass-all, section-items}
 use Rattle.layout.proofs.Bounds.{refusal-is, transitions-at-is, entries-at-is, end-is}
 use Rattle.layout.proofs.PlaceLaws.{no-entry, steps-from, states-are, entry-count, target-is, weight-is, entries-from, target-at-place, weight-at-place}
@@ -45,28 +45,28 @@ pub record Laid (s : List ℕ) (M : Table) : Type 0 where
   pub labels-are : (j : ℕ) → j < length (all-transitions M) → label s j ≡ numbered M j .code
   pub sizes-are : (j : ℕ) → j < length (all-transitions M) → size s j ≡ length (numbered M j .entries)
   pub entries-count : entries s ≡ length (all-entries M)
-  pub targets-are : (e : ℕ) → e < length (all-entries M) → target s e ≡ getD (all-entries M) e no-entry .target
-  pub weights-are : (e : ℕ) → e < length (all-entries M) → weight s e ≡ getD (all-entries M) e no-entry .weight
+  pub targets-are : (e : ℕ) → e < length (all-entries M) → entry-target s e ≡ getD (all-entries M) e no-entry .target
+  pub weights-are : (e : ℕ) → e < length (all-entries M) → entry-weight s e ≡ getD (all-entries M) e no-entry .weight
   pub end-at : end s ≡ length s
 
 module _ (s : List ℕ) (M : Table) (L : Laid s M) where
-  entry-laid : (e : ℕ) → e < length (all-entries M) → entry s e ≡ getD (all-entries M) e no-entry
+  entry-laid : (e : ℕ) → e < length (all-entries M) → decoded-entry s e ≡ getD (all-entries M) e no-entry
   entry-laid e l = λ i. record { target = L .targets-are e l i; weight = L .weights-are e l i }
 
   size-laid : (j : ℕ) → j < length (lists M) → size s j ≡ sizes (lists M) j
   size-laid j l = L .sizes-are j (omega (arith, lists-many M)) ∙ sym (ap length (list-is M j))
 
-  transition-laid : (j : ℕ) → j < length (all-transitions M) → transition s j ≡ numbered M j
-  unfolding transition
+  transition-laid : (j : ℕ) → j < length (all-transitions M) → decoded-transition s j ≡ numbered M j
+  unfolding decoded-transition
   transition-laid j l =
-      let run : below (start s j) (size s j) (entry s) ≡ numbered M j .entries
-      = runs-are no-entry (lists M) (size s) (entry s) size-laid entry-laid j (omega (arith, lists-many M)) ∙ list-is M j in
+      let run : below (start s j) (size s j) (decoded-entry s) ≡ numbered M j .entries
+      = runs-are no-entry (lists M) (size s) (decoded-entry s) size-laid entry-laid j (omega (arith, lists-many M)) ∙ list-is M j in
       λ i. record { code = L .labels-are j l i; entries = run i }
 
   states-laid : table s .states ≡ M .states
   states-laid =
       states-are s ∙ below-is [] (M .states) 0 (states s) (steps-from s) (L .states-count) (λ q l.
-      ap (steps-from s) (zero-add q) ∙ runs-are no-transition (M .states) (count s) (transition s) (L .counts-are) transition-laid q (omega (arith, L .states-count)))
+      ap (steps-from s) (zero-add q) ∙ runs-are no-transition (M .states) (count s) (decoded-transition s) (L .counts-are) transition-laid q (omega (arith, L .states-count)))
 
   codes-laid : table s .codes ≡ M .codes
   unfolding table
@@ -106,7 +106,7 @@ module _ (s : List ℕ) (M : Table) (L : Laid s M) where
         let some = v .shape .some in
         let few = v .shape .few-states in
         section-items _ _ _ _ (le-leb (states-at s + 1) (length s) (omega arith))
-        (not-refused 4 (both (lt-ltb 0 (states s) (omega arith)) (le-leb (states s) most-states (omega arith))))
+        (not-refused 4 (both-hold (lt-ltb 0 (states s) (omega arith)) (le-leb (states s) most-states (omega arith))))
         (le-leb (states-at s + 1 + states s) (length s) (omega arith))
 
     transitions-counted : transitions s ≡ sum (states s) (count s)
@@ -114,7 +114,7 @@ module _ (s : List ℕ) (M : Table) (L : Laid s M) where
         L .transitions-count ∙ length-concat (M .states) ∙ sym (sum-ext (states-of M) (count s) (sizes (M .states)) (L .counts-are))
         ∙ sym (ap (λ (n : ℕ). sum n (count s)) (L .states-count))
 
-    distribution : (j : ℕ) → j < length (all-transitions M) → Distribution (states-of M) (transition s j)
+    distribution : (j : ℕ) → j < length (all-transitions M) → Distribution (states-of M) (decoded-transition s j)
     distribution j l = subst (Distribution (states-of M)) (sym (transition-laid j l)) (distribution-at M (v .shape) j l)
 
     transition-passes : (j : ℕ) → j < transitions s → transition-refusal s (transitions-at s + 2 + 2 * j) ≡ 0
@@ -138,7 +138,7 @@ module _ (s : List ℕ) (M : Table) (L : Laid s M) where
         let n = L .transitions-count in
         let few = v .shape .few-transitions in
         section-items _ _ _ _ (le-leb (transitions-at s + 2) (length s) (omega arith))
-        (not-refused 5 (both (le-leb (transitions s) most-transitions (omega arith)) (eq-eqb (transitions s) (sum (states s) (count s)) transitions-counted)))
+        (not-refused 5 (both-hold (le-leb (transitions s) most-transitions (omega arith)) (eq-eqb (transitions s) (sum (states s) (count s)) transitions-counted)))
         (le-leb (transitions-at s + 2 + 2 * transitions s) (length s) (omega arith))
         ∙ pass-all (transitions s) (λ j. transition-refusal s (transitions-at s + 2 + 2 * j)) transition-passes
 
@@ -151,13 +151,13 @@ module _ (s : List ℕ) (M : Table) (L : Laid s M) where
       abbrev p : ℕ
       p = entries-from s j
 
-      abbrev d : Distribution (states-of M) (transition s j)
+      abbrev d : Distribution (states-of M) (decoded-transition s j)
       d = distribution j l
 
-      target-here : (k : ℕ) → k < size s j → byte s (p + 3 * k) ≡ target-at (transition s j) k
+      target-here : (k : ℕ) → k < size s j → byte s (p + 3 * k) ≡ target-at (decoded-transition s j) k
       target-here k m = target-at-place s j k ∙ sym (target-is s j k m)
 
-      weight-here : (k : ℕ) → k < size s j → weight-from s p k ≡ weight-at (weights (transition s j)) k
+      weight-here : (k : ℕ) → k < size s j → weight-from s p k ≡ weight (weights (decoded-transition s j)) k
       weight-here k m = weight-at-place s j k ∙ sym (weight-is s j k m)
 
       target-passes : (k : ℕ) → k < size s j → target-right s (states s) p k ≡ true
@@ -167,7 +167,7 @@ module _ (s : List ℕ) (M : Table) (L : Laid s M) where
           let long = entry-count s j in
           let n = L .states-count in
           let low = d .in-range 0 (omega arith) in
-          both (lt-ltb (byte s (p + 3 * 0)) (states s) (omega arith)) refl
+          both-hold (lt-ltb (byte s (p + 3 * 0)) (states s) (omega arith)) refl
       target-passes (suc k) m =
           let here = target-here (suc k) m in
           let before = target-here k (omega arith) in
@@ -175,11 +175,11 @@ module _ (s : List ℕ) (M : Table) (L : Laid s M) where
           let n = L .states-count in
           let low = d .in-range (suc k) (omega arith) in
           let e : k + 1 ≡ suc k = omega arith in
-          let up : target-at (transition s j) k < target-at (transition s j) (suc k) = rw e at (d .ascending k (omega arith)) in
+          let up : target-at (decoded-transition s j) k < target-at (decoded-transition s j) (suc k) = rw e at (d .ascending k (omega arith)) in
           let q : p + 3 * (suc k - 1) ≡ p + 3 * k = omega arith in
           let at = ap (byte s) q in
           let later = ne-eqb (suc k) 0 (λ q. omega arith) in
-          both (lt-ltb (byte s (p + 3 * suc k)) (states s) (omega arith)) (rw later (lt-ltb (byte s (p + 3 * (suc k - 1))) (byte s (p + 3 * suc k)) (omega arith)))
+          both-hold (lt-ltb (byte s (p + 3 * suc k)) (states s) (omega arith)) (rw later (lt-ltb (byte s (p + 3 * (suc k - 1))) (byte s (p + 3 * suc k)) (omega arith)))
 
       weight-passes : (k : ℕ) → k < size s j → weight-right s p k ≡ true
       unfolding weight-right total
@@ -190,11 +190,11 @@ module _ (s : List ℕ) (M : Table) (L : Laid s M) where
           let f = weight-from s p in
           let more = sum-le k (size s j) f m in
           let next = sum-more k f refl in
-          let all : sum (size s j) f ≡ total (weights (transition s j))
-          = sum-ext (size s j) f (weight-at (weights (transition s j))) weight-here
-          ∙ ap (λ (n : ℕ). sum n (weight-at (weights (transition s j)))) (sym (length-map (transition s j .entries) (λ (x : Entry). x .weight) ∙ long)) in
+          let all : sum (size s j) f ≡ total (weights (decoded-transition s j))
+          = sum-ext (size s j) f (weight (weights (decoded-transition s j))) weight-here
+          ∙ ap (λ (n : ℕ). sum n (weight (weights (decoded-transition s j)))) (sym (length-map (decoded-transition s j .entries) (λ (x : Entry). x .weight) ∙ long)) in
           let small = d .small in
-          both (lt-ltb 0 (weight-from s p k) (omega arith)) (le-leb (sum (k + 1) f) most-total (omega arith))
+          both-hold (lt-ltb 0 (weight-from s p k) (omega arith)) (le-leb (sum (k + 1) f) most-total (omega arith))
 
       run-passes : run-refusal s (states s) (transitions-at s + 3) (entries-at s + 2) j ≡ 0
       unfolding run-refusal entry-refusal
@@ -207,7 +207,7 @@ module _ (s : List ℕ) (M : Table) (L : Laid s M) where
         let n = L .entries-count in
         let few = v .shape .few-entries in
         section-items _ _ _ _ (le-leb (entries-at s + 2) (length s) (omega arith))
-        (not-refused 7 (both (le-leb (entries s) most-entries (omega arith)) (eq-eqb (entries s) (sum (transitions s) (size s)) entries-counted)))
+        (not-refused 7 (both-hold (le-leb (entries s) most-entries (omega arith)) (eq-eqb (entries s) (sum (transitions s) (size s)) entries-counted)))
         (le-leb (entries-at s + 2 + 3 * entries s) (length s) (omega arith))
         ∙ pass-all (transitions s) (run-refusal s (states s) (transitions-at s + 3) (entries-at s + 2)) (λ j l. run-passes j (omega (arith, L .transitions-count)))
 

@@ -1,7 +1,7 @@
 -- Laws that several proofs cite: a test by what is left, and what a loop over the items from 0 on has shown.
 -- Assumes nothing.
 use mathlib.Core.Path.{_≡_, refl, sym, _∙_}
-use mathlib.Core.Bool.{Bool, true, false, _&&_, true≢false}
+use mathlib.Core.Bool.{Bool, true, false, _&&_}
 use Prim.Native.Nat.{ℕ, zero, suc, pred, _+_, _-_, _≤_, _<_}
 use native.Mathlib.Numerals.{add-one}
 use native.Mathlib.Omega.{arith}
@@ -18,8 +18,8 @@ leb-sub at n len h = go (leb n (len - at)) refl
     go false e = e ∙ sym (lt-leb (at + n) len (omega (arith, leb-false n (len - at) e)))
 
 -- the items below i pass
-abbrev pub Passed : ℕ → (ℕ → ℕ) → ℕ → Type 0
-Passed n f i = first 0 n f ≡ first i (n - i) f
+abbrev pub ItemsPass : ℕ → (ℕ → ℕ) → ℕ → Type 0
+ItemsPass n f i = first 0 n f ≡ first i (n - i) f
 
 module _ (n : ℕ) (f : ℕ → ℕ) where
   left : (i : ℕ) → i < n → first i (n - i) f ≡ f i then first (i + 1) (n - (i + 1)) f
@@ -28,24 +28,24 @@ module _ (n : ℕ) (f : ℕ → ℕ) where
       let e : n - i ≡ suc (n - (i + 1)) = omega arith in
       rw (e, add-one i)
 
-  pub passed-none : Passed n f 0
-  passed-none = let e : n - 0 ≡ n = omega arith in rw e
+  pub items-none : ItemsPass n f 0
+  items-none = let e : n - 0 ≡ n = omega arith in rw e
 
-  pub passed-more : (i : ℕ) → Passed n f i → i < n → f i ≡ 0 → Passed n f (i + 1)
+  pub items-more : (i : ℕ) → ItemsPass n f i → i < n → f i ≡ 0 → ItemsPass n f (i + 1)
   unfolding _then_
-  passed-more i h l e = h ∙ left i l ∙ rw e
+  items-more i h l e = h ∙ left i l ∙ rw e
 
-  pub passed-stop : (i k : ℕ) → Passed n f i → i < n → f i ≡ suc k → suc k ≡ first 0 n f
+  pub items-stop : (i k : ℕ) → ItemsPass n f i → i < n → f i ≡ suc k → suc k ≡ first 0 n f
   unfolding _then_
-  passed-stop i k h l e = sym (h ∙ left i l ∙ rw e)
+  items-stop i k h l e = sym (h ∙ left i l ∙ rw e)
 
-  pub passed-all : (i : ℕ) → Passed n f i → n ≤ i → 0 ≡ first 0 n f
+  pub items-all : (i : ℕ) → ItemsPass n f i → n ≤ i → 0 ≡ first 0 n f
   unfolding first
-  passed-all i h l = let e : n - i ≡ 0 = omega arith in sym (h ∙ rw e)
+  items-all i h l = let e : n - i ≡ 0 = omega arith in sym (h ∙ rw e)
 
-pub refused : (k : ℕ) {t : Bool} → t ≡ false → refuse k unless t ≡ k
+pub refused-unless : (k : ℕ) {t : Bool} → t ≡ false → refuse k unless t ≡ k
 unfolding refuse_unless_
-refused k e = rw e
+refused-unless k e = rw e
 
 pub not-refused : (k : ℕ) {t : Bool} → t ≡ true → refuse k unless t ≡ 0
 unfolding refuse_unless_
@@ -62,18 +62,10 @@ then-first zero g d = absurd (d refl)
 then-first (suc f) g d = refl
 
 -- the refusal at i is the first
-pub passed-here : (n : ℕ) (f : ℕ → ℕ) (i : ℕ) {r : ℕ} → Passed n f i → i < n → r ≡ f i → (r ≡ 0 → ⊥) → r ≡ first 0 n f
-passed-here n f i {r} h l e ne =
+pub items-here : (n : ℕ) (f : ℕ → ℕ) (i : ℕ) {r : ℕ} → ItemsPass n f i → i < n → r ≡ f i → (r ≡ 0 → ⊥) → r ≡ first 0 n f
+items-here n f i {r} h l e ne =
     let q : r ≡ suc (pred r) = omega arith in
-    q ∙ passed-stop n f i (pred r) h l (sym e ∙ q)
+    q ∙ items-stop n f i (pred r) h l (sym e ∙ q)
 
-pub and-left : (a b : Bool) → a && b ≡ true → a ≡ true
-and-left true b h = refl
-and-left false b h = absurd (true≢false (sym h))
-
-pub and-right : (a b : Bool) → a && b ≡ true → b ≡ true
-and-right true b h = h
-and-right false b h = absurd (true≢false (sym h))
-
-pub both : {a b : Bool} → a ≡ true → b ≡ true → a && b ≡ true
-both p q = rw (p, q)
+pub both-hold : {a b : Bool} → a ≡ true → b ≡ true → a && b ≡ true
+both-hold p q = rw (p, q)

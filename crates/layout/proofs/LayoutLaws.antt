@@ -8,10 +8,10 @@ use native.Mathlib.Omega.{arith}
 use Rattle.simulation.specs.Sum.{below, sum, concat}
 use Rattle.simulation.specs.Table.{Transition}
 use Rattle.form.specs.Items.{all-transitions, all-entries}
-use Rattle.layout.specs.Bytes.{states, count, transitions, size, entries, entry, transition, table, refusal}
+use Rattle.layout.specs.Bytes.{states, count, transitions, size, entries, decoded-entry, decoded-transition, table, refusal}
 use Rattle.form.proofs.Lists.{below-append, map-below}
 use Rattle.simulation.proofs.Finite.Sums.{sum-le}
-use Rattle.layout.proofs.Bounds.{accepted}
+use Rattle.layout.proofs.Bounds.{accepted-bounds}
 
 module _ {ℓ} {A : Type ℓ} (f : ℕ → A) where
   -- runs that follow one another are one run
@@ -37,16 +37,16 @@ module _ {ℓ} {A : Type ℓ} (f : ℕ → A) where
   runs-all c n = runs c 0 n (sum n c) (ap (λ (x : ℕ). sum x c) (zero-add n) ∙ sym (zero-add (sum n c)))
 
 module _ (s : List ℕ) (e : refusal s ≡ 0) where
-  pub transitions-in-order : all-transitions (table s) ≡ below 0 (transitions s) (transition s)
+  pub transitions-in-order : all-transitions (table s) ≡ below 0 (transitions s) (decoded-transition s)
   unfolding table
   transitions-in-order =
-      runs-all (transition s) (count s) (states s)
-      ∙ ap (λ (n : ℕ). below 0 n (transition s)) (sym (accepted s e .of-transitions .counted))
+      runs-all (decoded-transition s) (count s) (states s)
+      ∙ ap (λ (n : ℕ). below 0 n (decoded-transition s)) (sym (accepted-bounds s e .of-transitions .counted))
 
-  pub entries-in-order : all-entries (table s) ≡ below 0 (entries s) (entry s)
-  unfolding transition
+  pub entries-in-order : all-entries (table s) ≡ below 0 (entries s) (decoded-entry s)
+  unfolding decoded-transition
   entries-in-order =
       ap (λ (ms : List Transition). concat (map (λ (m : Transition). m .entries) ms)) transitions-in-order
-      ∙ ap concat (map-below (λ (m : Transition). m .entries) 0 (transitions s) (transition s))
-      ∙ runs-all (entry s) (size s) (transitions s)
-      ∙ ap (λ (n : ℕ). below 0 n (entry s)) (sym (accepted s e .of-entries .counted))
+      ∙ ap concat (map-below (λ (m : Transition). m .entries) 0 (transitions s) (decoded-transition s))
+      ∙ runs-all (decoded-entry s) (size s) (transitions s)
+      ∙ ap (λ (n : ℕ). below 0 n (decoded-entry s)) (sym (accepted-bounds s e .of-entries .counted))

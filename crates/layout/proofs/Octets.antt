@@ -14,7 +14,7 @@ use Rattle.simulation.specs.Limits.{most-total}
 use Rattle.form.specs.Items.{all-transitions, all-entries}
 use Rattle.form.specs.Valid.{Distribution, Valid}
 use Rattle.layout.specs.Bytes.{Octets, byte}
-use Rattle.layout.specs.Encode.{half-bytes, transition-bytes, entry-bytes, actions-section, states-section, transitions-section, entries-section, encode}
+use Rattle.layout.specs.Encode.{half-bytes, encode-transition, encode-entry, actions-section, states-section, transitions-section, entries-section, encode}
 use Rattle.form.proofs.Lists.{concat-find}
 use Rattle.layout.proofs.PlaceLaws.{no-entry}
 use Rattle.layout.proofs.Numbered.{lists, lists-many, list-is, numbered, listed-at, distribution-at}
@@ -55,7 +55,7 @@ module _ (M : Table) (v : Valid M) where
       let few = v .few-each q (omega arith) in
       omega arith)
 
-  transition-octets : (j : ℕ) → j < length (all-transitions M) → Every (transition-bytes (numbered M j))
+  transition-octets : (j : ℕ) → j < length (all-transitions M) → Every (encode-transition (numbered M j))
   transition-octets j l =
       let at = listed-at M (v .shape) j l in
       let small : numbered M j .code < 256 = subst (λ (c : ℕ). c < 256) (at .2) (v .codes .small (at .0) (at .1)) in
@@ -64,7 +64,7 @@ module _ (M : Table) (v : Valid M) where
       (small, (omega arith, tt))
 
   -- an entry of a distribution
-  entry-octets : (m : Transition) → Distribution (states-of M) m → (k : ℕ) → k < length (m .entries) → Every (entry-bytes (getD (m .entries) k no-entry))
+  entry-octets : (m : Transition) → Distribution (states-of M) m → (k : ℕ) → k < length (m .entries) → Every (encode-entry (getD (m .entries) k no-entry))
   unfolding total
   entry-octets m d k l =
       let target-is = List·getD-map (λ (e : Entry). e .target) (m .entries) k no-entry in
@@ -76,14 +76,14 @@ module _ (M : Table) (v : Valid M) where
       let states = v .shape .few-states in
       (omega arith, half-octets (getD (m .entries) k no-entry .weight) (omega arith))
 
-  entries-octets : (e : ℕ) → e < length (all-entries M) → Every (entry-bytes (getD (all-entries M) e no-entry))
+  entries-octets : (e : ℕ) → e < length (all-entries M) → Every (encode-entry (getD (all-entries M) e no-entry))
   entries-octets e l =
       let f = concat-find no-entry (lists M) e l in
       let j = f .place in
       let b : j < length (all-transitions M) = omega (arith, f .place-below, lists-many M) in
       let is : getD (all-entries M) e no-entry ≡ getD (numbered M j .entries) (f .within) no-entry = f .is ∙ ap (λ (es : List Entry). getD es (f .within) no-entry) (list-is M j) in
       let k : f .within < length (numbered M j .entries) = omega (arith, f .within-below, ap length (list-is M j)) in
-      subst (λ (x : Entry). Every (entry-bytes x)) (sym is) (entry-octets (numbered M j) (distribution-at M (v .shape) j b) (f .within) k)
+      subst (λ (x : Entry). Every (encode-entry x)) (sym is) (entry-octets (numbered M j) (distribution-at M (v .shape) j b) (f .within) k)
 
   pub encode-octets : Octets (encode M)
   unfolding encode
@@ -92,10 +92,10 @@ module _ (M : Table) (v : Valid M) where
       let few-states = v .shape .few-states in
       let few-transitions = v .shape .few-transitions in
       let few-entries = v .shape .few-entries in
-      let ts = concat (map transition-bytes (all-transitions M)) in
-      let es = concat (map entry-bytes (all-entries M)) in
+      let ts = concat (map encode-transition (all-transitions M)) in
+      let es = concat (map encode-entry (all-entries M)) in
       let first : Every (actions-section M) = (omega arith, within (M .codes) (v .codes .small)) in
       let second : Every (states-section M) = (omega arith, counts) in
-      let third : Every (transitions-section M) = both (half-bytes (length (all-transitions M))) ts (half-octets (length (all-transitions M)) (omega arith)) (records no-transition transition-bytes (all-transitions M) transition-octets) in
-      let fourth : Every (entries-section M) = both (half-bytes (length (all-entries M))) es (half-octets (length (all-entries M)) (omega arith)) (records no-entry entry-bytes (all-entries M) entries-octets) in
+      let third : Every (transitions-section M) = both (half-bytes (length (all-transitions M))) ts (half-octets (length (all-transitions M)) (omega arith)) (records no-transition encode-transition (all-transitions M) transition-octets) in
+      let fourth : Every (entries-section M) = both (half-bytes (length (all-entries M))) es (half-octets (length (all-entries M)) (omega arith)) (records no-entry encode-entry (all-entries M) entries-octets) in
       octets (encode M) (both (actions-section M ++ states-section M ++ transitions-section M) (entries-section M) (both (actions-section M ++ states-section M) (transitions-section M) (both (actions-section M) (states-section M) first second) third) fourth)

@@ -11,10 +11,10 @@ use lib.Seq.{length-take-le, getD-take}
 use borrow.Author.Tests.{ne-eqb}
 use Rattle.simulation.specs.Table.{Table}
 use Rattle.layout.specs.Bytes.{_then_, refuse_unless_, byte, states-at, transitions-at, entries-at, end, refusal, actions-refusal, states-refusal, transitions-refusal, entries-refusal, refused, accepted, decode}
-use Rattle.layout.proofs.Laws.{refused as refused-unless}
-use Rattle.layout.proofs.SectionLaws.{then-zero, then-first}
+use Rattle.layout.proofs.Laws.{refused-unless}
+use Rattle.layout.proofs.SectionLaws.{then-zero, then-stop}
 use Rattle.layout.proofs.Bounds.{passes, refusal-is, transitions-at-is, entries-at-is, end-is}
-use Rattle.layout.proofs.DecodeLaws.{decode-refused, accepted-told}
+use Rattle.layout.proofs.DecodeLaws.{decode-refused, decode-told}
 use Rattle.layout.proofs.Agree.{actions-kept, actions-broken, states-kept, states-broken, transitions-kept, transitions-broken, entries-kept, entries-broken, end-same}
 
 -- the first section that refuses decides
@@ -23,24 +23,24 @@ module _ (t : List ℕ) (k : ℕ) where
   later = refuse 2 unless eqb (end t) (length t)
 
   at-actions : actions-refusal t ≡ suc k → refusal t ≡ suc k
-  at-actions e = refusal-is t ∙ then-first later k (then-first (entries-refusal t) k (then-first (transitions-refusal t) k (then-first (states-refusal t) k e)))
+  at-actions e = refusal-is t ∙ then-stop later k (then-stop (entries-refusal t) k (then-stop (transitions-refusal t) k (then-stop (states-refusal t) k e)))
 
   at-states : actions-refusal t ≡ 0 → states-refusal t ≡ suc k → refusal t ≡ suc k
-  at-states a e = refusal-is t ∙ then-first later k (then-first (entries-refusal t) k (then-first (transitions-refusal t) k (then-zero (states-refusal t) a ∙ e)))
+  at-states a e = refusal-is t ∙ then-stop later k (then-stop (entries-refusal t) k (then-stop (transitions-refusal t) k (then-zero (states-refusal t) a ∙ e)))
 
   module _ (a : actions-refusal t ≡ 0) (b : states-refusal t ≡ 0) where
     states-pass : actions-refusal t then states-refusal t ≡ 0
     states-pass = then-zero (states-refusal t) a ∙ b
 
     at-transitions : transitions-refusal t ≡ suc k → refusal t ≡ suc k
-    at-transitions e = refusal-is t ∙ then-first later k (then-first (entries-refusal t) k (then-zero (transitions-refusal t) states-pass ∙ e))
+    at-transitions e = refusal-is t ∙ then-stop later k (then-stop (entries-refusal t) k (then-zero (transitions-refusal t) states-pass ∙ e))
 
     module _ (c : transitions-refusal t ≡ 0) where
       transitions-pass : actions-refusal t then states-refusal t then transitions-refusal t ≡ 0
       transitions-pass = then-zero (transitions-refusal t) states-pass ∙ c
 
       at-entries : entries-refusal t ≡ suc k → refusal t ≡ suc k
-      at-entries e = refusal-is t ∙ then-first later k (then-zero (entries-refusal t) transitions-pass ∙ e)
+      at-entries e = refusal-is t ∙ then-stop later k (then-zero (entries-refusal t) transitions-pass ∙ e)
 
       at-end : entries-refusal t ≡ 0 → later ≡ suc k → refusal t ≡ suc k
       at-end d e = refusal-is t ∙ then-zero later (then-zero (entries-refusal t) transitions-pass ∙ d) ∙ e
@@ -97,8 +97,8 @@ module _ (s : List ℕ) (e : refusal s ≡ 0) where
 
 -- every proper prefix of accepted bytes
 pub prefix-refused : (s : List ℕ) (M : Table) → decode s ≡ accepted M → (k : ℕ) → k < length s → decode (take k s) ≡ refused 1
-prefix-refused s M h k l = decode-refused (take k s) 0 (prefix-refusal s (accepted-told s M h .passed) k l)
+prefix-refused s M h k l = decode-refused (take k s) 0 (prefix-refusal s (decode-told s M h .passed) k l)
 
 -- accepted bytes and more
 pub longer-refused : (s : List ℕ) (M : Table) → decode s ≡ accepted M → (b : ℕ) (more : List ℕ) → decode (s ++ b ∷ more) ≡ refused 2
-longer-refused s M h b more = decode-refused (s ++ b ∷ more) 1 (longer-refusal s (accepted-told s M h .passed) b more)
+longer-refused s M h b more = decode-refused (s ++ b ∷ more) 1 (longer-refusal s (decode-told s M h .passed) b more)

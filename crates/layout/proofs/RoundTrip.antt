@@ -10,8 +10,8 @@ use lib.Seq.{getD-append-add}
 use Rattle.simulation.specs.Table.{Entry, Transition, Table, states-of, steps, no-transition}
 use Rattle.form.specs.Items.{all-transitions, all-entries}
 use Rattle.form.specs.Valid.{Valid}
-use Rattle.layout.specs.Bytes.{byte, half, actions, code, states-at, states, count, transitions-at, transitions, size, entries-at, entries, weight, accepted, decode}
-use Rattle.layout.specs.Encode.{transition-bytes, entry-bytes, actions-section, states-section, transitions-section, entries-section, encode}
+use Rattle.layout.specs.Bytes.{byte, half, actions, code, states-at, states, count, transitions-at, transitions, size, entries-at, entries, accepted, decode}
+use Rattle.layout.specs.Encode.{encode-transition, encode-entry, actions-section, states-section, transitions-section, entries-section, encode}
 use Rattle.form.proofs.Lists.{length-records, records-at}
 use Rattle.layout.proofs.Bounds.{states-is, transitions-at-is, transitions-is, entries-at-is, entries-is, end-is}
 use Rattle.layout.proofs.PlaceLaws.{no-entry}
@@ -82,10 +82,10 @@ module _ (M : Table) where
   long-states = ap suc (length-map (M .states) length)
 
   long-transitions : length C ≡ 2 + 2 * length ms
-  long-transitions = let n = length-records 2 transition-bytes (λ m. refl) ms in omega arith
+  long-transitions = let n = length-records 2 encode-transition (λ m. refl) ms in omega arith
 
   long-entries : length D ≡ 2 + 3 * length es
-  long-entries = let n = length-records 3 entry-bytes (λ e. refl) es in omega arith
+  long-entries = let n = length-records 3 encode-entry (λ e. refl) es in omega arith
 
   -- the counts, and where the sections begin
   actions-laid : actions s ≡ length (M .codes)
@@ -130,19 +130,19 @@ module _ (M : Table) where
       ap (byte s) e ∙ in-second A B C D (suc q) (omega (arith, long-states)) ∙ List·getD-map length (M .states) q []
 
   -- the byte i of the record of the transition j
-  transition-laid : (j i p : ℕ) → j < length ms → i < 2 → p ≡ transitions-at s + 2 + (2 * j + i) → byte s p ≡ byte (transition-bytes (getD ms j no-transition)) i
+  transition-laid : (j i p : ℕ) → j < length ms → i < 2 → p ≡ transitions-at s + 2 + (2 * j + i) → byte s p ≡ byte (encode-transition (getD ms j no-transition)) i
   transition-laid j i p l m q =
       let from = transitions-begin in
       let size = long-transitions in
       let e : p ≡ length A + length B + suc (suc (2 * j + i)) = omega arith in
-      ap (byte s) e ∙ in-third A B C D (suc (suc (2 * j + i))) (omega arith) ∙ records-at 2 transition-bytes (λ m. refl) no-transition 0 ms j i l m
+      ap (byte s) e ∙ in-third A B C D (suc (suc (2 * j + i))) (omega arith) ∙ records-at 2 encode-transition (λ m. refl) no-transition 0 ms j i l m
 
   -- the byte i of the record of the entry j
-  entry-laid : (j i p : ℕ) → j < length es → i < 3 → p ≡ entries-at s + 2 + (3 * j + i) → byte s p ≡ byte (entry-bytes (getD es j no-entry)) i
+  entry-laid : (j i p : ℕ) → j < length es → i < 3 → p ≡ entries-at s + 2 + (3 * j + i) → byte s p ≡ byte (encode-entry (getD es j no-entry)) i
   entry-laid j i p l m q =
       let from = entries-begin in
       let e : p ≡ length A + length B + length C + suc (suc (3 * j + i)) = omega arith in
-      ap (byte s) e ∙ in-fourth A B C D (suc (suc (3 * j + i))) ∙ records-at 3 entry-bytes (λ e. refl) no-entry 0 es j i l m
+      ap (byte s) e ∙ in-fourth A B C D (suc (suc (3 * j + i))) ∙ records-at 3 encode-entry (λ e. refl) no-entry 0 es j i l m
 
   laid : Laid s M
   laid = record {

@@ -11,9 +11,9 @@ pub then-zero : {f : ℕ} (g : ℕ) → f ≡ 0 → f then g ≡ g
 unfolding _then_
 then-zero g e = rw e
 
-pub then-first : {f : ℕ} (g k : ℕ) → f ≡ suc k → f then g ≡ suc k
+pub then-stop : {f : ℕ} (g k : ℕ) → f ≡ suc k → f then g ≡ suc k
 unfolding _then_
-then-first g k e = rw e
+then-stop g k e = rw e
 
 -- a first refusal of 0 is none, and then the second
 pub then-parts : (f g : ℕ) → f then g ≡ 0 → (f ≡ 0) × (g ≡ 0)
@@ -22,10 +22,10 @@ then-parts zero g e = (refl, e)
 then-parts (suc f) g e = absurd (omega arith)
 
 -- what was not refused holds
-pub holds : (k : ℕ) (t : Bool) → refuse (suc k) unless t ≡ 0 → t ≡ true
+pub accepted-holds : (k : ℕ) (t : Bool) → refuse (suc k) unless t ≡ 0 → t ≡ true
 unfolding refuse_unless_
-holds k true e = refl
-holds k false e = absurd (omega arith)
+accepted-holds k true e = refl
+accepted-holds k false e = absurd (omega arith)
 
 -- the first refusal of items is 0 exactly if every item passes
 first-pass : (i n : ℕ) (f : ℕ → ℕ) → ((k : ℕ) → k < n → f (i + k) ≡ 0) → first i n f ≡ 0
@@ -92,7 +92,7 @@ module _ (present : Bool) (rule : ℕ) (whole : Bool) (items : ℕ) where
       let a = then-parts (refuse 1 unless present then rule then refuse 1 unless whole) items e in
       let b = then-parts (refuse 1 unless present then rule) (refuse 1 unless whole) (a .0) in
       let d = then-parts (refuse 1 unless present) rule (b .0) in
-      record { count-present = holds 0 present (d .0); rule-kept = d .1; all-present = holds 0 whole (b .1); items-pass = a .1 }
+      record { count-present = accepted-holds 0 present (d .0); rule-kept = d .1; all-present = accepted-holds 0 whole (b .1); items-pass = a .1 }
 
 -- a section up to its items decides, unless it passes
 pub section-past : (present : Bool) (rule : ℕ) (whole : Bool) (items : ℕ) → section present rule whole 0 ≡ 0 → section present rule whole items ≡ items

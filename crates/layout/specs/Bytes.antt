@@ -91,11 +91,11 @@ module _ (s : List ℕ) where
   unfolding entries-at
   entries = half s entries-at
 
-  abbrev pub target : ℕ → ℕ
-  target e = byte s (entries-at + 2 + 3 * e)
+  abbrev pub entry-target : ℕ → ℕ
+  entry-target e = byte s (entries-at + 2 + 3 * e)
 
-  abbrev pub weight : ℕ → ℕ
-  weight e = half s (entries-at + 2 + 3 * e + 1)
+  abbrev pub entry-weight : ℕ → ℕ
+  entry-weight e = half s (entries-at + 2 + 3 * e + 1)
 
   unfoldable pub end : ℕ
   unfolding entries-at entries
@@ -168,16 +168,16 @@ module _ (s : List ℕ) where
       actions-refusal then states-refusal then transitions-refusal then entries-refusal then refuse 2 unless eqb end (length s)
 
   -- The table
-  abbrev pub entry : ℕ → Entry
-  entry e = record { target = target e; weight = weight e }
+  abbrev pub decoded-entry : ℕ → Entry
+  decoded-entry e = record { target = entry-target e; weight = entry-weight e }
 
-  unfoldable pub transition : ℕ → Transition
+  unfoldable pub decoded-transition : ℕ → Transition
   unfolding below sum
-  transition j = record { code = label j; entries = below (start j) (size j) entry }
+  decoded-transition j = record { code = label j; entries = below (start j) (size j) decoded-entry }
 
   unfoldable pub table : Table
-  unfolding below sum transition states
-  table = record { codes = below 0 actions code; states = below 0 states (λ q. below (state-start q) (count q) transition) }
+  unfolding below sum decoded-transition states
+  table = record { codes = below 0 actions code; states = below 0 states (λ q. below (state-start q) (count q) decoded-transition) }
 
 pub data Decoded : Type 0 where
   refused : ℕ → Decoded

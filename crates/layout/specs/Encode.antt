@@ -11,11 +11,11 @@ use Rattle.form.specs.Items.{all-transitions, all-entries}
 abbrev pub half-bytes : ℕ → List ℕ
 half-bytes n = n % 256 ∷ n / 256 ∷ []
 
-abbrev pub transition-bytes : Transition → List ℕ
-transition-bytes m = m .code ∷ length (m .entries) ∷ []
+abbrev pub encode-transition : Transition → List ℕ
+encode-transition m = m .code ∷ length (m .entries) ∷ []
 
-abbrev pub entry-bytes : Entry → List ℕ
-entry-bytes e = e .target ∷ half-bytes (e .weight)
+abbrev pub encode-entry : Entry → List ℕ
+encode-entry e = e .target ∷ half-bytes (e .weight)
 
 module _ (M : Table) where
   abbrev pub actions-section : List ℕ
@@ -25,10 +25,10 @@ module _ (M : Table) where
   states-section = states-of M ∷ map length (M .states)
 
   abbrev pub transitions-section : List ℕ
-  transitions-section = half-bytes (length (all-transitions M)) ++ concat (map transition-bytes (all-transitions M))
+  transitions-section = half-bytes (length (all-transitions M)) ++ concat (map encode-transition (all-transitions M))
 
   abbrev pub entries-section : List ℕ
-  entries-section = half-bytes (length (all-entries M)) ++ concat (map entry-bytes (all-entries M))
+  entries-section = half-bytes (length (all-entries M)) ++ concat (map encode-entry (all-entries M))
 
   unfoldable pub encode : List ℕ
   unfolding concat

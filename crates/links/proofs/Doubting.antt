@@ -1,7 +1,7 @@
 -- The doubts that lost pairs raise, in the list that has both: a row of doubts that gets more, and a row of lost pairs that is forgotten.
 -- Assumes nothing.
 use mathlib.Core.Path.{_≡_, refl, sym, ap, _∙_}
-use mathlib.Core.Bool.{Bool, true, false, _||_, true≢false}
+use mathlib.Core.Bool.{true, false, true≢false}
 use mathlib.Core.List.{List}
 use mathlib.Core.Logic.{_≢_, _⊎_, inl, inr}
 use Prim.Native.Nat.{ℕ, _+_, _<_}
@@ -9,7 +9,7 @@ use native.Mathlib.Omega.{arith}
 use native.Mathlib.Decide.{ℕ-discrete}
 use lib.ListN.{length}
 use Rattle.simulation.specs.Limits.{most-states}
-use Rattle.simulation.proofs.Finite.Tests.{is-true, is-false}
+use Rattle.simulation.proofs.Finite.Tests.{is-true, is-false, either-true}
 use Rattle.relation.specs.Mask.{Test, member, without-member, either}
 use Rattle.relation.specs.Words.{mask, row-of, height, put-row}
 use Rattle.relation.specs.Related.{holds}
@@ -18,8 +18,8 @@ use Rattle.relation.proofs.Mask.{member-none}
 use Rattle.relation.proofs.Sets.{length-put, row-put, row-put-other}
 use Rattle.relation.proofs.Parts.{part-height, part-row, part-put, part-put-before, part-put-after}
 use Rattle.links.specs.Places.{before-in, behind-in, doubt-in, lost-in, HasMarks}
-use Rattle.links.specs.Links.{Covered, Within, Grown, DoubtsAdded, Doubted}
-use Rattle.links.proofs.Walks.{left-self, left-other, Passed, passed-next}
+use Rattle.links.specs.Links.{Covered, RowsBelow, RowsGrown, DoubtsAdded, Doubted}
+use Rattle.links.proofs.Walks.{left-self, left-other, EachPassed, passed-next}
 use Rattle.links.proofs.Growing.{union-left, union-right, grown-none, grown-more, grown-set, set-here}
 
 -- each member of a set is in doubt in row s
@@ -29,7 +29,7 @@ InDoubt more marks s = (t : ℕ) → member more t ≡ true → holds (doubt-in 
 -- more pairs are in doubt, the same are lost
 pub record MoreDoubts (marks marks′ : List ℕ) : Type 0 where
   pub same-length : length marks′ ≡ length marks
-  pub grown : Grown (doubt-in marks) (doubt-in marks′)
+  pub grown : RowsGrown (doubt-in marks) (doubt-in marks′)
   pub same-lost : lost-in marks′ ≡ lost-in marks
 
 pub more-none : {marks : List ℕ} → MoreDoubts marks marks
@@ -72,7 +72,7 @@ module _ (marks : List ℕ) {marks′ : List ℕ} {s : ℕ} (more : ℕ) (old ne
 
   -- one row more of a walk over a set
   pub more-next : {marks₀ : List ℕ} (set : Set) (left left′ : ℕ) → member left′ ≡ without-member s (member left)
-      → MoreDoubts marks₀ marks × Passed set left (InDoubt more marks) → MoreDoubts marks₀ marks′ × Passed set left′ (InDoubt more marks′)
+      → MoreDoubts marks₀ marks × EachPassed set left (InDoubt more marks) → MoreDoubts marks₀ marks′ × EachPassed set left′ (InDoubt more marks′)
   more-next set left left′ e h =
       (more-then (h .0) grows, passed-next set (InDoubt more marks′) left left′ s e here (λ u m l t x. grows .grown .still u t (h .1 u m l t x)))
 
@@ -81,7 +81,7 @@ pub record Raised (sets marks : List ℕ) (left doubtful : ℕ) (marks′ : List
   pub raised : (a : ℕ) → member left a ≡ false
       → (s u t : ℕ) → holds (before-in sets) a s ≡ true → holds (lost-in marks) a u ≡ true → holds (behind-in sets) u t ≡ true
       → (member doubtful s ≡ true) × (holds (doubt-in marks′) s t ≡ true)
-  pub within : (n : ℕ) → Within n (before-in sets) → (s : ℕ) → member doubtful s ≡ true → s < n
+  pub within : (n : ℕ) → RowsBelow n (before-in sets) → (s : ℕ) → member doubtful s ≡ true → s < n
   pub same : (a : ℕ) → member left a ≡ true → row-of (lost-in marks′) a ≡ row-of (lost-in marks) a
   pub empty : (a t : ℕ) → member left a ≡ false → holds (lost-in marks′) a t ≡ false
 
@@ -140,11 +140,7 @@ module _ {sets marks marks₁ marks₂ marks₃ : List ℕ} {a left doubtful : �
       let r = h .raised b (sym (left-of b c) ∙ l) s u t x y z in
       (union-left doubtful (mask sources) doubtful′ s joined (r .0), rw doubts-stay (added .grown .still s t (r .1)))
 
-  either-of : (x y : Bool) → (x || y) ≡ true → (x ≡ true) ⊎ (y ≡ true)
-  either-of true y q = inl refl
-  either-of false y q = inr q
-
-  split : (n : ℕ) → Within n (before-in sets) → (s : ℕ) → (member doubtful s ≡ true) ⊎ (member (mask sources) s ≡ true) → s < n
+  split : (n : ℕ) → RowsBelow n (before-in sets) → (s : ℕ) → (member doubtful s ≡ true) ⊎ (member (mask sources) s ≡ true) → s < n
   split n w s (inl x) = h .within n w s x
   split n w s (inr x) = w a s (sym (source s) ∙ x)
 
@@ -160,7 +156,7 @@ module _ {sets marks marks₁ marks₂ marks₃ : List ℕ} {a left doubtful : �
   raised-next =
       record {
         raised = λ b l. step b l (ℕ-discrete b a);
-        within = λ n w s m. split n w s (either-of (member doubtful s) (member (mask sources) s) (sym (ap (λ (X : Test). X s) joined) ∙ m));
+        within = λ n w s m. split n w s (either-true (member doubtful s) (member (mask sources) s) (sym (ap (λ (X : Test). X s) joined) ∙ m));
         same = λ b l. kept b l (ℕ-discrete b a);
         empty = λ b t l. gone b t l (ℕ-discrete b a);
       }

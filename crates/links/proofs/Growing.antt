@@ -1,7 +1,7 @@
 -- Rows that grow, member by member, and the links between states.
 -- Assumes nothing.
 use mathlib.Core.Path.{_≡_, refl, sym, ap, _∙_, subst}
-use mathlib.Core.Bool.{Bool, true, false, _||_, true≢false}
+use mathlib.Core.Bool.{Bool, true, _||_}
 use mathlib.Core.List.{List}
 use mathlib.Core.Logic.{⊎-elim}
 use Prim.Native.Nat.{ℕ, _+_, _≤_, _<_}
@@ -10,7 +10,7 @@ use native.Mathlib.Decide.{ℕ-discrete}
 use borrow.Author.Tests.{eq-eqb, ne-eqb}
 use lib.Dec.{eqb}
 use lib.ListN.{length, getD}
-use Rattle.simulation.proofs.Finite.Tests.{last-or-below}
+use Rattle.simulation.proofs.Finite.Tests.{last-or-below, left-true, right-true}
 use Rattle.simulation.specs.Table.{targets}
 use Rattle.form.specs.Form.{transition-at}
 use Rattle.relation.specs.Mask.{Test, member, with-member, either}
@@ -18,38 +18,30 @@ use Rattle.relation.specs.Words.{mask, row-of, height, put-row}
 use Rattle.relation.specs.declared.set.Set.{Set}
 use Rattle.relation.proofs.Sets.{row-put, row-put-other}
 use Rattle.relation.specs.Related.{holds}
-use Rattle.links.specs.Links.{Within, Grown, Joins}
-
-or-old : (a b : Bool) → b ≡ true → (a || b) ≡ true
-or-old true b h = refl
-or-old false b h = h
-
-or-new : (a b : Bool) → a ≡ true → (a || b) ≡ true
-or-new true b h = refl
-or-new false b h = absurd (true≢false (sym h))
+use Rattle.links.specs.Links.{RowsBelow, RowsGrown, Joins}
 
 -- members of a set with one more, and of the union of two
 pub with-old : (x y s t : ℕ) → member y ≡ with-member s (member x) → member x t ≡ true → member y t ≡ true
-with-old x y s t e h = ap (λ (Y : Test). Y t) e ∙ or-old (eqb t s) (member x t) h
+with-old x y s t e h = ap (λ (Y : Test). Y t) e ∙ right-true (eqb t s) (member x t) h
 
 pub with-new : (x y s : ℕ) → member y ≡ with-member s (member x) → member y s ≡ true
 with-new x y s e = ap (λ (Y : Test). Y s) e ∙ ap (λ (b : Bool). b || member x s) (eq-eqb s s refl)
 
 pub union-left : (x y z t : ℕ) → member z ≡ either (member x) (member y) → member x t ≡ true → member z t ≡ true
-union-left x y z t e h = ap (λ (Z : Test). Z t) e ∙ or-new (member x t) (member y t) h
+union-left x y z t e h = ap (λ (Z : Test). Z t) e ∙ left-true (member x t) (member y t) h
 
 pub union-right : (x y z t : ℕ) → member z ≡ either (member x) (member y) → member y t ≡ true → member z t ≡ true
-union-right x y z t e h = ap (λ (Z : Test). Z t) e ∙ or-old (member x t) (member y t) h
+union-right x y z t e h = ap (λ (Z : Test). Z t) e ∙ right-true (member x t) (member y t) h
 
-pub grown-none : {rows : List ℕ} → Grown rows rows
+pub grown-none : {rows : List ℕ} → RowsGrown rows rows
 grown-none = record { still = λ s t h. h }
 
-pub grown-more : {a b c : List ℕ} → Grown a b → Grown b c → Grown a c
+pub grown-more : {a b c : List ℕ} → RowsGrown a b → RowsGrown b c → RowsGrown a c
 grown-more f g = record { still = λ s t h. g .still s t (f .still s t h) }
 
 -- one row grows
 pub grown-set : (rows : List ℕ) (a : ℕ) (x : Set) → a < height rows → ((t : ℕ) → holds rows a t ≡ true → member (mask x) t ≡ true)
-    → Grown rows (put-row rows a x)
+    → RowsGrown rows (put-row rows a x)
 grown-set rows a x room h = record { still = λ s t m. go s t m (ℕ-discrete s a) }
   where
     go : (s t : ℕ) → holds rows s t ≡ true → Dec (s ≡ a) → holds (put-row rows a x) s t ≡ true
@@ -71,7 +63,7 @@ LinksTo f s j₀ j before =
     (k i : ℕ) → j₀ ≤ k → k < j → i < length (targets (transition-at f k)) → holds before (getD (targets (transition-at f k)) i 0) s ≡ true
 
 -- one transition more
-pub links-next : (f : List ℕ) (s j₀ j : ℕ) {ts before before′ : List ℕ} → Grown before before′ → ts ≡ targets (transition-at f j)
+pub links-next : (f : List ℕ) (s j₀ j : ℕ) {ts before before′ : List ℕ} → RowsGrown before before′ → ts ≡ targets (transition-at f j)
     → ((i : ℕ) → i < length ts → holds before′ (getD ts i 0) s ≡ true) → LinksTo f s j₀ j before → LinksTo f s j₀ (j + 1) before′
 links-next f s j₀ j {ts} {before} {before′} grows e here h k i a b =
     each-next (λ k. j₀ ≤ k → i < length (targets (transition-at f k)) → holds before′ (getD (targets (transition-at f k)) i 0) s ≡ true) j
@@ -92,7 +84,7 @@ joins-set rows s t x room e =
       within = λ n a h u k m. go n a h u k m (ℕ-discrete u t) (ℕ-discrete k s);
     }
   where
-    go : (n : ℕ) → s < n → Within n rows → (u k : ℕ) → holds (put-row rows t x) u k ≡ true → Dec (u ≡ t) → Dec (k ≡ s) → k < n
+    go : (n : ℕ) → s < n → RowsBelow n rows → (u k : ℕ) → holds (put-row rows t x) u k ≡ true → Dec (u ≡ t) → Dec (k ≡ s) → k < n
     go n a h u k m c (yes q) = omega arith
     go n a h u k m (no d) (no q) = h u k (ap (λ (y : ℕ). member y k) (sym (row-put-other rows t u x d)) ∙ m)
     go n a h u k m (yes c) (no q) =

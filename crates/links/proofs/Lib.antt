@@ -3,3 +3,4 @@
 pub mod Walks
 pub mod Growing
 pub mod Doubting
+pub mod Filling

@@ -11,7 +11,9 @@ use Rattle.relation.specs.Mask.{member}
 use Rattle.form.specs.Form.{start-of, transition-at, table-of}
 use Rattle.relation.specs.Related.{holds}
 use Rattle.simulation.specs.Table.{targets, states-of}
-use Rattle.links.specs.Places.{before-in, behind-in, doubt-in, lost-in}
+use Rattle.form.specs.Tables.{first-form, second-form}
+use Rattle.fit.specs.Known.{TargetSets}
+use Rattle.links.specs.Places.{HasSets, before-in, behind-in, targets-in, doubt-in, lost-in}
 
 -- the rows have no pair
 abbrev pub Empty : List ℕ → Type 0
@@ -22,32 +24,39 @@ abbrev pub Covered : ℕ → List ℕ → Type 0
 Covered fell lost = (s t : ℕ) → holds lost s t ≡ true → member fell s ≡ true
 
 -- before has the state s at each target of its transitions
-abbrev pub Links : List ℕ → ℕ → List ℕ → Type 0
-Links f s before =
+abbrev pub StateLinks : List ℕ → ℕ → List ℕ → Type 0
+StateLinks f s before =
     (j i : ℕ) → start-of f s ≤ j → j < start-of f (s + 1) → i < length (targets (transition-at f j)) → holds before (getD (targets (transition-at f j)) i 0) s ≡ true
 
 -- each member of a row is below n
-abbrev pub Within : ℕ → List ℕ → Type 0
-Within n rows = (s t : ℕ) → holds rows s t ≡ true → t < n
+abbrev pub RowsBelow : ℕ → List ℕ → Type 0
+RowsBelow n rows = (s t : ℕ) → holds rows s t ≡ true → t < n
 
 -- before holds, for each state of a form, the states that have a transition to it, and no number that is not a state
 pub record Linked (f before : List ℕ) : Type 0 where
   pub room : most-states ≤ height before
-  pub links : (s : ℕ) → s < states-of (table-of f) → Links f s before
-  pub states : Within (states-of (table-of f)) before
+  pub links : (s : ℕ) → s < states-of (table-of f) → StateLinks f s before
+  pub states : RowsBelow (states-of (table-of f)) before
+
+-- the sets that are known before the rounds, each kind in its place
+pub record SetsKnown (tables sets : List ℕ) : Type 0 where
+  pub room : HasSets sets
+  pub first : Linked (first-form tables) (before-in sets)
+  pub second : Linked (second-form tables) (behind-in sets)
+  pub targets : TargetSets (second-form tables) (targets-in sets)
 
 -- no pair of the first rows is missing in the second
-pub record Grown (rows rows′ : List ℕ) : Type 0 where
+pub record RowsGrown (rows rows′ : List ℕ) : Type 0 where
   pub still : (s t : ℕ) → holds rows s t ≡ true → holds rows′ s t ≡ true
 
 -- rows that have grown by members s only
 pub record Joins (s : ℕ) (rows rows′ : List ℕ) : Type 0 where
-  pub grown : Grown rows rows′
-  pub within : (n : ℕ) → s < n → Within n rows → Within n rows′
+  pub grown : RowsGrown rows rows′
+  pub within : (n : ℕ) → s < n → RowsBelow n rows → RowsBelow n rows′
 
 -- each member of a set is in doubt in each row of another; the lost pairs stay
 pub record DoubtsAdded (rows more : ℕ) (marks marks′ : List ℕ) : Type 0 where
-  pub grown : Grown (doubt-in marks) (doubt-in marks′)
+  pub grown : RowsGrown (doubt-in marks) (doubt-in marks′)
   pub added : (s t : ℕ) → member rows s ≡ true → member more t ≡ true → holds (doubt-in marks′) s t ≡ true
   pub same-lost : lost-in marks′ ≡ lost-in marks
 
@@ -55,5 +64,5 @@ pub record DoubtsAdded (rows more : ℕ) (marks marks′ : List ℕ) : Type 0 wh
 pub record Doubted (sets : List ℕ) (doubtful : ℕ) (marks marks′ : List ℕ) : Type 0 where
   pub raised : (a s u t : ℕ) → holds (before-in sets) a s ≡ true → holds (lost-in marks) a u ≡ true → holds (behind-in sets) u t ≡ true
       → (member doubtful s ≡ true) × (holds (doubt-in marks′) s t ≡ true)
-  pub within : (n : ℕ) → Within n (before-in sets) → (s : ℕ) → member doubtful s ≡ true → s < n
+  pub within : (n : ℕ) → RowsBelow n (before-in sets) → (s : ℕ) → member doubtful s ≡ true → s < n
   pub empty : Empty (lost-in marks′)

@@ -1,4 +1,5 @@
 // Which states lead to which, and the doubts that lost pairs raise.
+use form::Form;
 use form::tables;
 use relation::Relation;
 use relation::Word;
@@ -17,10 +18,10 @@ ghost use Rattle.relation.specs.Mask.{member};
 ghost use Rattle.relation.specs.Words.{mask, height};
 ghost use Rattle.relation.specs.Related.{holds};
 ghost use Rattle.form.specs.Form.{Loaded, table-of};
-ghost use Rattle.form.specs.Tables.{form-at};
-ghost use Rattle.fit.specs.Held.{Places};
+ghost use Rattle.form.specs.Tables.{form-at, BothLoaded};
+ghost use Rattle.gather.specs.Places.{Places};
 ghost use Rattle.links.specs.Places.{HasSets, HasMarks, behind-in, lost-in};
-ghost use Rattle.links.specs.Links.{Empty, Linked, Covered, Links, Joins, DoubtsAdded, Doubted};
+ghost use Rattle.links.specs.Links.{Empty, Linked, SetsKnown, Covered, StateLinks, Joins, DoubtsAdded, Doubted};
 
 // Sets that are known before the rounds, in one lent slice: the states that lead to a state of the first table, and of the second, and the
 // targets of each transition of the second. Where each kind begins: the row of the first two, and the word of all.
@@ -69,7 +70,7 @@ fn link_targets(to: &[u16], s: usize, before: &mut [Word])
 // The state s comes before each target of its transitions.
 fn link_state(tables: &[u16], which: usize, s: usize, before: &mut [Word])
     requires { ⌜ Loaded (form-at (now tables) which) × (s < states-of (table-of (form-at (now tables) which))) × (most-states ≤ height (now before)) ⌝ }
-    ensures { λ r. ⌜ Joins s (now (before .entry)) (now (before .exit)) × Links (form-at (now (tables .entry)) which) s (now (before .exit)) ⌝ }
+    ensures { λ r. ⌜ Joins s (now (before .entry)) (now (before .exit)) × StateLinks (form-at (now (tables .entry)) which) s (now (before .exit)) ⌝ }
 {
     let end = tables::start_of(tables, which, s + 1);
     let mut j = tables::start_of(tables, which, s);
@@ -80,7 +81,7 @@ fn link_state(tables: &[u16], which: usize, s: usize, before: &mut [Word])
 }
 
 // For each state of a table, those that have a transition to it. `before` is empty at first.
-pub fn link(tables: &[u16], which: usize, before: &mut [Word])
+fn link(tables: &[u16], which: usize, before: &mut [Word])
     requires { ⌜ Loaded (form-at (now tables) which) × (most-states ≤ height (now before)) × Empty (now before) ⌝ }
     ensures { λ r. ⌜ Linked (form-at (now (tables .entry)) which) (now (before .exit)) ⌝ }
 {
@@ -90,6 +91,18 @@ pub fn link(tables: &[u16], which: usize, before: &mut [Word])
         link_state(tables, which, s, before);
         s += 1;
     }
+}
+
+// All sets that are known before the rounds, over zeros.
+pub fn fill_sets(tables: &[u16], sets: &mut [Word])
+    requires { ⌜ BothLoaded (now tables) × HasSets (now sets) × ((i : ℕ) → getD (now sets) i 0 ≡ 0) ⌝ }
+    ensures { λ _. ⌜ SetsKnown (now (tables .entry)) (now (sets .exit)) ⌝ }
+{
+    let before = &mut sets[Sets::BEFORE_AT..Sets::BEHIND_AT];
+    link(tables, Form::FIRST, before);
+    let behind = &mut sets[Sets::BEHIND_AT..Sets::TARGETS_AT];
+    link(tables, Form::SECOND, behind);
+    fit::target_sets(tables, &mut sets[Sets::TARGETS_AT..Sets::WORDS]);
 }
 
 // The states behind a member of the set, in the second table.

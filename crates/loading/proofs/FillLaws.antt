@@ -16,7 +16,7 @@ use Rattle.layout.specs.Bytes.{byte, half, Octets, actions, states-at, states, 
 use Rattle.table.specs.Stages.{layout}
 use Rattle.form.specs.Form.{form-size, states-from, actions-from, starts-from, entry-starts-from, codes-from, targets-from, weights-from, listed-from, at, start-of, entry-start}
 use Rattle.loading.specs.Fill.{FormFilled, run, Heads, Columns, Between}
-use Rattle.layout.proofs.Bounds.{passes, accepted, actions-bytes}
+use Rattle.layout.proofs.Bounds.{passes, accepted-bounds, actions-bytes}
 
 pub filled-none : (f : List ℕ) (from : ℕ) (g : ℕ → ℕ) → FormFilled f from 0 g f
 filled-none f from g = record { long = refl; filled = λ i l. absurd (omega arith); kept = λ i l. refl }
@@ -74,9 +74,9 @@ pub record Parts (s : List ℕ) (t : Layout) : Type 0 where
   pub transitions-there : transitions-at s + 2 + 2 * transitions s ≤ length s
   pub entries-there : entries-at s + 2 + 3 * entries s ≤ length s
 
-pub parts : (s : List ℕ) (t : Layout) → Octets s → refusal s ≡ 0 → t ≡ layout s → Parts s t
-parts s t octets e q =
-    let a = accepted s e in
+pub parts-known : (s : List ℕ) (t : Layout) → Octets s → refusal s ≡ 0 → t ≡ layout s → Parts s t
+parts-known s t octets e q =
+    let a = accepted-bounds s e in
     record {
       actions-are = ap (λ (t : Layout). t .actions) q;
       states-are = ap (λ (t : Layout). t .states) q;

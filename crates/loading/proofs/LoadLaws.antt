@@ -9,37 +9,37 @@ use lib.ListN.{length}
 use Rattle.simulation.specs.Sum.{below}
 use Rattle.simulation.specs.Table.{Entry, Transition}
 use Rattle.simulation.proofs.Finite.Lists.{below-ext}
-use Rattle.table.specs.declared.parts.Answer.{Answer}
-use Rattle.table.specs.declared.parts.Answer.the-variants.{Refused}
+use Rattle.table.specs.declared.parts.TableAnswer.{TableAnswer}
+use Rattle.table.specs.declared.parts.TableAnswer.the-variants.{Refused}
 use Rattle.form.specs.Valid.{Valid}
-use Rattle.layout.specs.Bytes.{Octets, actions, code, states, count, transitions, size, state-start, start, entries, entry, transition, table, refusal}
+use Rattle.layout.specs.Bytes.{Octets, actions, code, states, count, transitions, size, state-start, start, entries, decoded-entry, decoded-transition, table, refusal}
 use Rattle.table.specs.Stages.{answer}
 use Rattle.form.specs.Form.{form-size, states-from, actions-from, starts-from, entry-starts-from, codes-from, listed-from, at, count-of, start-of, transitions-of, entry-start, size-of, entry-at, transition-at, table-of, Loaded}
 use Rattle.loading.specs.Fill.{Heads, Columns, Between, Loads, Reads}
 use Rattle.simulation.proofs.Finite.Sums.{sum-more, sum-none, sum-le}
-use Rattle.layout.proofs.Bounds.{accepted}
+use Rattle.layout.proofs.Bounds.{accepted-bounds}
 use Rattle.layout.proofs.PlaceLaws.{run-within}
 use Rattle.layout.proofs.ValidLaws.{valid}
-use Rattle.table.proofs.AnswerLaws.{refusal-told, accepted as answer-accepted}
+use Rattle.table.proofs.AnswerLaws.{refusal-told, answer-accepted}
 use Rattle.loading.proofs.FillLaws.{between-trans, between-wider, between-beyond}
 
 module _ (s : List ℕ) (octets : Octets s) (e : refusal s ≡ 0) where
   number-bound : (q : ℕ) → q < states s → state-start s q + count s q ≤ transitions s
-  number-bound q l = omega (arith, sum-le q (states s) (count s) l, accepted s e .of-transitions .counted)
+  number-bound q l = omega (arith, sum-le q (states s) (count s) l, accepted-bounds s e .of-transitions .counted)
 
   module _ (f : List ℕ) (h : Heads s f) (c : Columns s f) where
     -- the entries of a transition: where they begin, and how many there are
     size-same : (j : ℕ) → j < transitions s → size-of f j ≡ size s j
     size-same j l = omega (arith, h .entry-starts-are j (omega arith), h .entry-starts-are (j + 1) (omega arith), sum-more j (size s) refl)
 
-    transition-same : (j : ℕ) → j < transitions s → transition-at f j ≡ transition s j
-    unfolding transition-at transition
+    transition-same : (j : ℕ) → j < transitions s → transition-at f j ≡ decoded-transition s j
+    unfolding transition-at decoded-transition
     transition-same j l =
         ap₂ (λ (a : ℕ) (es : List Entry). record { code = a; entries = es }) (c .codes-are j l)
         (ap₂ (λ (a n : ℕ). below a n (entry-at f)) (h .entry-starts-are j (omega arith)) (size-same j l)
-        ∙ below-ext (entry-at f) (entry s) (start s j) (size s j) (λ k a b. entry-same k (omega (arith, run-within s j e l))))
+        ∙ below-ext (entry-at f) (decoded-entry s) (start s j) (size s j) (λ k a b. entry-same k (omega (arith, run-within s j e l))))
       where
-        entry-same : (k : ℕ) → k < entries s → entry-at f k ≡ entry s k
+        entry-same : (k : ℕ) → k < entries s → entry-at f k ≡ decoded-entry s k
         entry-same k m = ap₂ (λ (t w : ℕ). record { target = t; weight = w }) (c .targets-are k m) (c .weights-are k m)
 
     table-same : table-of f ≡ table s
@@ -48,23 +48,23 @@ module _ (s : List ℕ) (octets : Octets s) (e : refusal s ≡ 0) where
         ap₂ (λ (cs : List ℕ) (ms : List (List Transition)). record { codes = cs; states = ms })
         (ap (λ (n : ℕ). below 0 n (λ i. at f (listed-from + i))) (h .actions-are)
         ∙ below-ext (λ i. at f (listed-from + i)) (code s) 0 (actions s) (λ i a b. c .listed-are i (omega arith)))
-        (ap (λ (n : ℕ). below 0 n of-state) (h .states-are) ∙ below-ext of-state (λ q. below (state-start s q) (count s q) (transition s)) 0 (states s) (λ q a b. state-same q (omega arith)))
+        (ap (λ (n : ℕ). below 0 n of-state) (h .states-are) ∙ below-ext of-state (λ q. below (state-start s q) (count s q) (decoded-transition s)) 0 (states s) (λ q a b. state-same q (omega arith)))
       where
         of-state : ℕ → List Transition
         of-state q = below (start-of f q) (start-of f (q + 1) - start-of f q) (transition-at f)
 
-        state-same : (q : ℕ) → q < states s → of-state q ≡ below (state-start s q) (count s q) (transition s)
+        state-same : (q : ℕ) → q < states s → of-state q ≡ below (state-start s q) (count s q) (decoded-transition s)
         state-same q l =
             let a = h .starts-are q (omega arith) in
             let more = sum-more q (count s) refl in
             let n : start-of f (q + 1) - start-of f q ≡ count s q = omega (arith, a, h .starts-are (q + 1) (omega arith)) in
             ap₂ (λ (a n : ℕ). below a n (transition-at f)) a n
-            ∙ below-ext (transition-at f) (transition s) (state-start s q) (count s q) (λ j a b. transition-same j (omega (arith, number-bound q l)))
+            ∙ below-ext (transition-at f) (decoded-transition s) (state-start s q) (count s q) (λ j a b. transition-same j (omega (arith, number-bound q l)))
 
     loaded : form-size ≤ length f → Loaded f
     unfolding transitions-of count-of
     loaded room =
-        let a = accepted s e in
+        let a = accepted-bounds s e in
         let all : transitions-of f ≡ transitions s = ap (start-of f) (h .states-are) ∙ h .starts-are (states s) (omega arith) ∙ sym (a .of-transitions .counted) in
         let last : entry-start f (transitions-of f) ≡ entries s = ap (entry-start f) all ∙ h .entry-starts-are (transitions s) (omega arith) ∙ sym (a .of-entries .counted) in
         record {
@@ -83,7 +83,7 @@ module _ (s : List ℕ) (octets : Octets s) (e : refusal s ≡ 0) where
   heads-kept : {f f′ : List ℕ} → Heads s f → Between codes-from form-size f f′ → Heads s f′
   unfolding start-of entry-start
   heads-kept h u =
-      let a = accepted s e in
+      let a = accepted-bounds s e in
       record {
         states-are = u .kept states-from (inl (omega arith)) ∙ h .states-are;
         actions-are = u .kept actions-from (inl (omega arith)) ∙ h .actions-are;
@@ -106,7 +106,7 @@ module _ (s : List ℕ) (octets : Octets s) (e : refusal s ≡ 0) where
       }
 
 -- what the answer to the bytes tells of a form
-pub read-refused : (s f : List ℕ) {r : Answer} {k : ℕ} → r ≡ answer s → r ≡ Refused k → Reads s f k f
+pub read-refused : (s f : List ℕ) {r : TableAnswer} {k : ℕ} → r ≡ answer s → r ≡ Refused k → Reads s f k f
 read-refused s f {r} {k} e q =
     record {
       number = refusal-told s e q;

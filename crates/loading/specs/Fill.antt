@@ -5,7 +5,7 @@ use mathlib.Core.Logic.{_⊎_, _≢_}
 use mathlib.Core.List.{List}
 use Prim.Native.Nat.{ℕ, _+_, _*_, _≤_, _<_}
 use lib.ListN.{length, drop}
-use Rattle.layout.specs.Bytes.{byte, actions, code, states, transitions, label, state-start, start, entries, target, weight, refusal, table}
+use Rattle.layout.specs.Bytes.{byte, actions, code, states, transitions, label, state-start, start, entries, entry-target, entry-weight, refusal, table}
 use Rattle.form.specs.Form.{form-size, states-from, actions-from, codes-from, targets-from, weights-from, listed-from, at, start-of, entry-start, Loaded, table-of}
 
 -- f′ has the numbers g 0, …, g (n - 1) from a place on, and is f elsewhere
@@ -33,8 +33,8 @@ pub record Heads (s f : List ℕ) : Type 0 where
 -- the form has the columns of the bytes s
 pub record Columns (s f : List ℕ) : Type 0 where
   pub codes-are : (j : ℕ) → j < transitions s → at f (codes-from + j) ≡ label s j
-  pub targets-are : (e : ℕ) → e < entries s → at f (targets-from + e) ≡ target s e
-  pub weights-are : (e : ℕ) → e < entries s → at f (weights-from + e) ≡ weight s e
+  pub targets-are : (e : ℕ) → e < entries s → at f (targets-from + e) ≡ entry-target s e
+  pub weights-are : (e : ℕ) → e < entries s → at f (weights-from + e) ≡ entry-weight s e
   pub listed-are : (i : ℕ) → i < actions s → at f (listed-from + i) ≡ code s i
 
 -- f and f′ are equally long, and differ at the places from a on, below b, only

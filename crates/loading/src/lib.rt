@@ -1,8 +1,8 @@
 // Loads the table of bytes into its decoded form, a column at a time.
 use form::Form;
 use items::cursor::half_at;
-use table::parts::Answer;
 use table::parts::Layout;
+use table::parts::TableAnswer;
 use table::read;
 ghost use mathlib.Core.Path.{_≡_};
 ghost use Prim.Native.Nat.{_+_, _*_, _≤_, _<_};
@@ -106,8 +106,8 @@ pub fn load(bytes: &[u8], form: &mut [u16]) -> u8
 {
     let answer = read(bytes);
     match answer {
-        Answer::Refused(number) => number,
-        Answer::Accepted(t) => {
+        TableAnswer::Refused(number) => number,
+        TableAnswer::Accepted(t) => {
             fill(form, bytes, t);
             0
         }

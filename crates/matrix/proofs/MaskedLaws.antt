@@ -4,25 +4,22 @@ use mathlib.Core.Path.{_≡_, refl, sym, ap, _∙_, subst, subst⁻¹, fun-ext}
 use mathlib.Core.Bool.{Bool, true, false, not, cond, _&&_, _||_, true≢false}
 use mathlib.Core.List.{List}
 use mathlib.Core.Logic.{_≢_, _⊎_, inl, inr, ⊎-elim}
-use Prim.Native.Nat.{ℕ, _^_, _≤_, _<_}
+use Prim.Native.Nat.{ℕ, _≤_, _<_}
 use native.Mathlib.Decide.{ℕ-discrete}
 use native.Mathlib.Omega.{arith}
 use lib.Dec.{eqb, ltb}
 use borrow.Author.Tests.{eq-eqb, ne-eqb, eqb-true, eqb-false, lt-ltb, ltb-true}
 use Rattle.simulation.specs.Limits.{most-states}
+use Rattle.simulation.proofs.Finite.Tests.{both-true, either-true, left-true, right-true}
 use Rattle.relation.specs.Mask.{Test, member, part, with-member, without-member, both, except, either}
 use Rattle.relation.specs.Words.{mask, row-of, height, put-row}
 use Rattle.relation.specs.declared.set.Set.{Set}
-use Rattle.relation.proofs.Mask.{member-none, lowest-of, below-or-not}
+use Rattle.relation.proofs.Mask.{member-none, below-or-not}
 use Rattle.relation.proofs.Sets.{row-put, row-put-other}
 use Rattle.relation.specs.Related.{holds}
 use Rattle.matrix.specs.Matrix.{cell, Adds}
-use Rattle.matrix.specs.Masks.{nonzero, put, MaskOf, Used, Noted}
+use Rattle.matrix.specs.Masks.{nonzero, with-nonzero, MaskOf, Used, Noted}
 use Rattle.matrix.proofs.MatrixLaws.{adds-row, adds-column}
-
-and-true : (a b : Bool) → (a && b) ≡ true → (a ≡ true) × (b ≡ true)
-and-true true b e = (refl, e)
-and-true false b e = absurd (true≢false (sym e))
 
 and-not : (a b : Bool) → (a && not b) ≡ true → (a ≡ true) × (b ≡ false)
 and-not true true e = absurd (true≢false (sym e))
@@ -34,17 +31,6 @@ not-and true true e = inl refl
 not-and true false e = absurd (true≢false e)
 not-and false b e = inr refl
 
-or-true : (a b : Bool) → (a || b) ≡ true → (a ≡ true) ⊎ (b ≡ true)
-or-true true b e = inl refl
-or-true false b e = inr e
-
-or-left : (a b : Bool) → a ≡ true → (a || b) ≡ true
-or-left a b e = ap (λ c. c || b) e
-
-or-right : (a b : Bool) → b ≡ true → (a || b) ≡ true
-or-right true b e = refl
-or-right false b e = e
-
 pub true-or-false : (b : Bool) → (b ≡ true) ⊎ (b ≡ false)
 true-or-false true = inl refl
 true-or-false false = inr refl
@@ -55,7 +41,7 @@ neither e f = true≢false (sym e ∙ f)
 -- a member of an intersection, a difference, a union
 module _ (X Y : Test) {Z : Test} (i : ℕ) where
   pub both-at : Z ≡ both X Y → Z i ≡ true → (X i ≡ true) × (Y i ≡ true)
-  both-at e t = and-true (X i) (Y i) (sym (ap (λ (W : Test). W i) e) ∙ t)
+  both-at e t = both-true (X i) (Y i) (sym (ap (λ (W : Test). W i) e) ∙ t)
 
   pub both-out : Z ≡ both X Y → Z i ≡ false → X i ≡ true → Y i ≡ false
   both-out e f t = ap (λ c. c && Y i) (sym t) ∙ sym (ap (λ (W : Test). W i) e) ∙ f
@@ -70,13 +56,13 @@ module _ (X Y : Test) {Z : Test} (i : ℕ) where
   except-out e f = not-and (X i) (Y i) (sym (ap (λ (W : Test). W i) e) ∙ f)
 
   pub either-at : Z ≡ either X Y → Z i ≡ true → (X i ≡ true) ⊎ (Y i ≡ true)
-  either-at e t = or-true (X i) (Y i) (sym (ap (λ (W : Test). W i) e) ∙ t)
+  either-at e t = either-true (X i) (Y i) (sym (ap (λ (W : Test). W i) e) ∙ t)
 
   pub either-left : Z ≡ either X Y → X i ≡ true → Z i ≡ true
-  either-left e t = ap (λ (W : Test). W i) e ∙ or-left (X i) (Y i) t
+  either-left e t = ap (λ (W : Test). W i) e ∙ left-true (X i) (Y i) t
 
   pub either-right : Z ≡ either X Y → Y i ≡ true → Z i ≡ true
-  either-right e t = ap (λ (W : Test). W i) e ∙ or-right (X i) (Y i) t
+  either-right e t = ap (λ (W : Test). W i) e ∙ right-true (X i) (Y i) t
 
 -- what is left of a set without t
 module _ (X : Test) (t : ℕ) {Z : Test} (i : ℕ) where
@@ -85,10 +71,6 @@ module _ (X : Test) (t : ℕ) {Z : Test} (i : ℕ) where
 
   pub drop-out : Z ≡ without-member t X → Z i ≡ false → (i ≡ t) ⊎ (X i ≡ false)
   drop-out e h = elim (not-and (X i) (eqb i t) (sym (ap (λ (W : Test). W i) e) ∙ h)) [ inl c ↦ inl (eqb-true i t c) | inr f ↦ inr f ]
-
--- a mask that is not 0 has a member
-pub some-member : (m : ℕ) → m < 2 ^ most-states → m ≢ 0 → (k : ℕ) × (member m k ≡ true)
-some-member m h n = let t = lowest-of most-states m h (omega arith) in (_, t .1 .here)
 
 pub no-members : {m : ℕ} → m ≡ 0 → (k : ℕ) → member m k ≡ false
 no-members e k = ap (λ (n : ℕ). member n k) e ∙ member-none k
@@ -114,20 +96,20 @@ with-cases a false = refl
 
 -- the two ways of putting k
 module _ (X : Test) (k v : ℕ) {Z : Test} where
-  pub put-none : v ≡ 0 → Z ≡ without-member k X → Z ≡ put k v X
+  pub put-none : v ≡ 0 → Z ≡ without-member k X → Z ≡ with-nonzero k v X
   put-none z e = e ∙ fun-ext (λ i. without-cases (X i) (eqb i k) ∙ ap (λ b. cond (eqb i k) b (X i)) (sym (zero-test v z)))
 
-  pub put-some : v ≢ 0 → Z ≡ with-member k X → Z ≡ put k v X
+  pub put-some : v ≢ 0 → Z ≡ with-member k X → Z ≡ with-nonzero k v X
   put-some n e = e ∙ fun-ext (λ i. with-cases (X i) (eqb i k) ∙ ap (λ b. cond (eqb i k) b (X i)) (sym (not-zero-test v n)))
 
-  pub put-here : (i : ℕ) → Z ≡ put k v X → i ≡ k → Z i ≡ not (eqb v 0)
+  pub put-here : (i : ℕ) → Z ≡ with-nonzero k v X → i ≡ k → Z i ≡ not (eqb v 0)
   put-here i e c = ap (λ (W : Test). W i) e ∙ ap (λ b. cond b (not (eqb v 0)) (X i)) (eq-eqb i k c)
 
-  pub put-there : (i : ℕ) → Z ≡ put k v X → i ≢ k → Z i ≡ X i
+  pub put-there : (i : ℕ) → Z ≡ with-nonzero k v X → i ≢ k → Z i ≡ X i
   put-there i e o = ap (λ (W : Test). W i) e ∙ ap (λ b. cond b (not (eqb v 0)) (X i)) (ne-eqb i k o)
 
 -- the number at one place changes
-pub mask-put : {n k v m : ℕ} (m′ : ℕ) {f g : ℕ → ℕ} → MaskOf n f m → k < n → g k ≡ v → ((i : ℕ) → i ≢ k → g i ≡ f i) → member m′ ≡ put k v (member m) → MaskOf n g m′
+pub mask-put : {n k v m : ℕ} (m′ : ℕ) {f g : ℕ → ℕ} → MaskOf n f m → k < n → g k ≡ v → ((i : ℕ) → i ≢ k → g i ≡ f i) → member m′ ≡ with-nonzero k v (member m) → MaskOf n g m′
 mask-put {n} {k} {v} {m} m′ {f} {g} s h c o e = record {
   there = λ i l d. elim (ℕ-discrete i k) [
     | yes w ↦ put-here (member m) k v i e w ∙ not-zero-test v (λ z. d (ap g w ∙ c ∙ z))
@@ -144,8 +126,8 @@ mask-put {n} {k} {v} {m} m′ {f} {g} s h c o e = record {
 pub mask-of-part : {n m : ℕ} {f : ℕ → ℕ} → member m ≡ part n (λ i. nonzero (f i)) → MaskOf n f m
 mask-of-part {n} {m} {f} e = record {
   there = λ i l d. at i ∙ ap (λ b. b && nonzero (f i)) (lt-ltb i n l) ∙ not-zero-test (f i) d;
-  below = λ i t. ltb-true i n (and-true (ltb i n) (nonzero (f i)) (sym (at i) ∙ t) .0);
-  some = λ i t z. neither (and-true (ltb i n) (nonzero (f i)) (sym (at i) ∙ t) .1) (zero-test (f i) z);
+  below = λ i t. ltb-true i n (both-true (ltb i n) (nonzero (f i)) (sym (at i) ∙ t) .0);
+  some = λ i t z. neither (both-true (ltb i n) (nonzero (f i)) (sym (at i) ∙ t) .1) (zero-test (f i) z);
 }
   where
     at : (i : ℕ) → member m i ≡ (ltb i n && nonzero (f i))
@@ -186,16 +168,16 @@ used-takes w hi hj a = used-kept w hi hj (λ k l h o. sym (adds-row a k l h o)) 
 
 -- a cell and its column's senders are written: g is what the column had, m what it has now
 pub noted : {x : List ℕ} (senders senders′ : List ℕ) (g m : Set) {i j v : ℕ} → j < height senders → cell x i j ≡ v → mask g ≡ row-of senders j
-    → member (mask m) ≡ put i v (member (mask g)) → senders′ ≡ put-row senders j m → Noted x senders senders′ i j
+    → member (mask m) ≡ with-nonzero i v (member (mask g)) → senders′ ≡ put-row senders j m → Noted x senders senders′ i j
 noted {x} senders senders′ g m {i} {j} {v} h e eg c eu = record {
-  here = ap (λ (u : List ℕ). member (row-of u j)) eu ∙ ap member (row-put senders j m h) ∙ c ∙ ap (λ (n : ℕ). put i v (member n)) eg
-      ∙ ap (λ (n : ℕ). put i n (member (row-of senders j))) (sym e);
+  here = ap (λ (u : List ℕ). member (row-of u j)) eu ∙ ap member (row-put senders j m h) ∙ c ∙ ap (λ (n : ℕ). with-nonzero i v (member n)) eg
+      ∙ ap (λ (n : ℕ). with-nonzero i n (member (row-of senders j))) (sym e);
   other = λ k o. ap (λ (u : List ℕ). row-of u k) eu ∙ row-put-other senders j k m o;
 }
 
 -- a sender is a row, and has a column
-pub user-column : {p q : ℕ} {x senders : List ℕ} → Used p q x senders → (i j : ℕ) → holds senders j i ≡ true → j < q
-user-column {q = q} u i j m = ⊎-elim (λ l. l) (λ l. absurd (neither m (no-members (u .none j l) i))) (below-or-not j q)
+pub sender-column : {p q : ℕ} {x senders : List ℕ} → Used p q x senders → (i j : ℕ) → holds senders j i ≡ true → j < q
+sender-column {q = q} u i j m = ⊎-elim (λ l. l) (λ l. absurd (neither m (no-members (u .none j l) i))) (below-or-not j q)
 
-pub user-row : {p q : ℕ} {x senders : List ℕ} → Used p q x senders → (i j : ℕ) → holds senders j i ≡ true → i < p
-user-row u i j m = u .column j (user-column u i j m) .below i m
+pub sender-row : {p q : ℕ} {x senders : List ℕ} → Used p q x senders → (i j : ℕ) → holds senders j i ≡ true → i < p
+sender-row u i j m = u .column j (sender-column u i j m) .below i m

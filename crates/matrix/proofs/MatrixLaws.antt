@@ -111,9 +111,9 @@ pub column-same : (n j : ℕ) (x y : List ℕ) → ((i : ℕ) → i < n → cell
 unfolding column-sum
 column-same n j x y h = sum-ext n (λ i. cell y i j) (λ i. cell x i j) h
 
-pub row-none : (n i : ℕ) (x : List ℕ) → ((j : ℕ) → j < n → cell x i j ≡ 0) → row-sum n x i ≡ 0
+pub row-sum-none : (n i : ℕ) (x : List ℕ) → ((j : ℕ) → j < n → cell x i j ≡ 0) → row-sum n x i ≡ 0
 unfolding row-sum
-row-none n i x h = sum-ext n (λ j. cell x i j) (λ j. 0) h ∙ sum-zero n
+row-sum-none n i x h = sum-ext n (λ j. cell x i j) (λ j. 0) h ∙ sum-zero n
 
 pub column-none : (n j : ℕ) (x : List ℕ) → ((i : ℕ) → i < n → cell x i j ≡ 0) → column-sum n x j ≡ 0
 unfolding column-sum

@@ -14,8 +14,8 @@ abbrev pub nonzero : ℕ → Bool
 nonzero v = not (eqb v 0)
 
 -- X with k in it exactly if v is not 0
-abbrev pub put : ℕ → ℕ → Test → Test
-put k v X i = cond (eqb i k) (nonzero v) (X i)
+abbrev pub with-nonzero : ℕ → ℕ → Test → Test
+with-nonzero k v X i = cond (eqb i k) (nonzero v) (X i)
 
 -- the members of m are the places below n where f is not 0
 pub record MaskOf (n : ℕ) (f : ℕ → ℕ) (m : ℕ) : Type 0 where
@@ -30,5 +30,5 @@ pub record Used (p q : ℕ) (x senders : List ℕ) : Type 0 where
 
 -- the senders of column j say whether row i has an amount in it now; those of other columns stay
 pub record Noted (x senders senders′ : List ℕ) (i j : ℕ) : Type 0 where
-  pub here : member (row-of senders′ j) ≡ put i (cell x i j) (member (row-of senders j))
+  pub here : member (row-of senders′ j) ≡ with-nonzero i (cell x i j) (member (row-of senders j))
   pub other : (k : ℕ) → k ≢ j → row-of senders′ k ≡ row-of senders k

@@ -12,7 +12,7 @@ ghost use Rattle.simulation.specs.Limits.{most-pairs, most-states};
 ghost use Rattle.relation.specs.Mask.{member, part};
 ghost use Rattle.relation.specs.Words.{word-bits, mask, height};
 ghost use Rattle.matrix.specs.Matrix.{cell, Put, AddsAt, Adds};
-ghost use Rattle.matrix.specs.Masks.{nonzero, put, MaskOf, Noted};
+ghost use Rattle.matrix.specs.Masks.{nonzero, with-nonzero, MaskOf, Noted};
 
 pub fn smaller(x: u32, y: u32) -> u32
     ensures { λ r. ⌜ r ≡ min x y ⌝ }
@@ -23,7 +23,7 @@ pub fn smaller(x: u32, y: u32) -> u32
 // The set with k if v isn't 0, and else without.
 pub fn marked(set: Set, k: usize, v: u32) -> Set
     requires { ⌜ k < most-states ⌝ }
-    ensures { λ r. ⌜ member (mask r) ≡ put k v (member (mask set)) ⌝ }
+    ensures { λ r. ⌜ member (mask r) ≡ with-nonzero k v (member (mask set)) ⌝ }
 {
     if v == 0 {
         return set::remove(set, k);

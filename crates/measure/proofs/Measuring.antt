@@ -21,11 +21,11 @@ use Rattle.simulation.proofs.Finite.Sums.{sum-bound, sum-term, sum-none, sum-mo
 use Rattle.simulation.proofs.Finite.Tests.{and-left, and-right, both, same-eqb, any-some, some-any}
 use Rattle.simulation.proofs.Trees.Length.{pair-length-step}
 use Rattle.form.specs.Tables.{first-form, second-form, first-table, second-table, first-step, BothLoaded}
-use Rattle.form.proofs.FormLaws.{limits, sound, few-pairs}
+use Rattle.form.proofs.FormLaws.{limits, sound, pairs-bound}
 use Rattle.relation.specs.Mask.{Test, member}
 use Rattle.relation.specs.Words.{row-of}
-use Rattle.relate.specs.Ranked.{Ranked}
-use Rattle.choice.specs.Choice.{Lost, Choice, Sets}
+use Rattle.relate.specs.Ranked.{RanksRight}
+use Rattle.choice.specs.Choice.{Lost, Choice, SetsChosen}
 use Rattle.choice.proofs.Choices.{below-lost}
 use Rattle.counting.specs.Count.{longest}
 use Rattle.counting.specs.Pair.{number, row, column}
@@ -130,7 +130,7 @@ module _ {tables ranks lengths sets amounts : List ℕ} {s t : ℕ} (g : PairGiv
     pub pair-choice : ChoiceGiven tables s t j
     pair-choice = record { loaded = g .given .ranked .loaded; lost = g .lost; choice = w }
 
-    module _ {ts : List ℕ} (et : ts ≡ targets (first-step tables j)) {sets′ : List ℕ} (z : Sets tables s t sets′) where
+    module _ {ts : List ℕ} (et : ts ≡ targets (first-step tables j)) {sets′ : List ℕ} (z : SetsChosen tables s t sets′) where
       -- what adding up its children's lengths rests on
       pub pair-children : length sets′ ≡ length sets → ChildrenGiven tables lengths ts sets′
       pair-children words =
@@ -218,7 +218,7 @@ module _ {tables ranks order : List ℕ} {n : ℕ} {lengths₀ sets₀ amounts�
     pair-noted choices room = omega (arith, low)
 
     pub pair-in : (p < length lengths) × (p < most-pairs)
-    pair-in = (omega (arith, low, l .given .room), omega (arith, low, few-pairs (first-form tables) (second-form tables) (l .given .ranked .loaded .first) (l .given .ranked .loaded .second)))
+    pair-in = (omega (arith, low, l .given .room), omega (arith, low, pairs-bound (first-form tables) (second-form tables) (l .given .ranked .loaded .first) (l .given .ranked .loaded .second)))
 
     here-given : PairGiven tables ranks lengths sets amounts (row tables p) (column tables p)
     here-given =
@@ -336,7 +336,7 @@ child-short tables l s t p i v b h =
     when-holds true n h = refl
     when-holds false n h = absurd h
 
-module _ {tables ranks choices lengths order : List ℕ} {n : ℕ} (g : Ranked tables ranks) (o : Ordered tables order n) (c : Noted tables order n choices)
+module _ {tables ranks choices lengths order : List ℕ} {n : ℕ} (g : RanksRight tables ranks) (o : Ordered tables order n) (c : Noted tables order n choices)
     (a : AllHold tables order lengths n) (s t : ℕ) (lost : Lost tables s t) (f : Found order n (number tables s t)) where
   abbrev size-at : ℕ → ℕ → ℕ
   size-at u v = getD lengths (number tables u v) 0

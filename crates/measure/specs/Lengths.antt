@@ -15,7 +15,7 @@ use Rattle.simulation.specs.Length.{pair-length, tree-length}
 use Rattle.form.specs.Tables.{first-table, second-table, BothLoaded}
 use Rattle.relation.specs.Mask.{member}
 use Rattle.relation.specs.Words.{row-of, height}
-use Rattle.relate.specs.Ranked.{Ranked}
+use Rattle.relate.specs.Ranked.{RanksRight}
 use Rattle.choice.specs.Choice.{Lost, Choice}
 use Rattle.counting.specs.Count.{longest}
 use Rattle.counting.specs.Pair.{number, row, column}
@@ -70,7 +70,7 @@ module _ (tables : List ℕ) where
 
   -- what measuring rests on: a length for each pair, a set for each target of a transition
   pub record MeasureGiven (ranks lengths sets amounts : List ℕ) : Type 0 where
-    pub ranked : Ranked tables ranks
+    pub ranked : RanksRight tables ranks
     pub room : pairs (first-table tables) (second-table tables) ≤ length lengths
     pub words : 2 * most-states ≤ height sets
     pub amounts-room : most-pairs ≤ length amounts

@@ -21,7 +21,7 @@ ghost use Rattle.simulation.specs.Length.{pair-length};
 ghost use Rattle.relation.specs.Mask.{member};
 ghost use Rattle.relation.specs.Words.{mask};
 ghost use Rattle.form.specs.Tables.{first-table, second-table, BothLoaded};
-ghost use Rattle.relate.specs.Ranked.{Ranked};
+ghost use Rattle.relate.specs.Ranked.{RanksRight};
 ghost use Rattle.choice.specs.Choice.{Lost, Choice};
 ghost use Rattle.counting.specs.Pair.{number};
 ghost use Rattle.counting.specs.Count.{longest};
@@ -146,7 +146,7 @@ fn measure_all(
     lengths: &mut [u32],
     amounts: &mut [u32],
 )
-    requires { ⌜ Ranked (now tables) (now ranks) × (pairs (first-table (now tables)) (second-table (now tables)) ≤ length (now lengths))
+    requires { ⌜ RanksRight (now tables) (now ranks) × (pairs (first-table (now tables)) (second-table (now tables)) ≤ length (now lengths))
         × (most-pairs ≤ length (now amounts)) × Ordered (now tables) (now order) (length (now order))
         × Noted (now tables) (now order) (length (now order)) (now choices)
         × (pairs (first-table (now tables)) (second-table (now tables)) ≤ length (now choices)) ⌝ }

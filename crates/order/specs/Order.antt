@@ -1,19 +1,17 @@
 -- The pairs that a tree meets, in the order of their ranks.
 -- Assumes nothing.
 use mathlib.Core.Path.{_≡_}
-use mathlib.Core.Logic.{_⊎_}
 use mathlib.Core.List.{List}
-use Prim.Native.Nat.{ℕ, _-_, _≤_, _<_}
-use lib.Dec.{T}
+use Prim.Native.Nat.{ℕ, _≤_, _<_}
 use lib.ListN.{length, getD}
 use Rattle.simulation.specs.Limits.{most-pairs}
+use Rattle.simulation.specs.Round.{rank}
 use Rattle.simulation.specs.Length.{tree-length}
 use Rattle.form.specs.Tables.{first-table, second-table}
-use Rattle.relation.specs.Mask.{member}
-use Rattle.relation.specs.Words.{row-of}
 use Rattle.counting.specs.Pair.{number}
-use Rattle.counting.specs.Count.{longest}
-use Rattle.passing.specs.Passing.{Later, Found, Above, Noted, Passing}
+use Rattle.counting.specs.Count.{longest, Tallied}
+use Rattle.passing.specs.declared.Walk.{Walk}
+use Rattle.passing.specs.Passing.{Trail, ToDo, Later, Found, Above, Seen, Noted, Passed}
 
 module _ (tables : List ℕ) where
   -- the first n places of the list hold pairs, each before all pairs below it
@@ -29,12 +27,14 @@ module _ (tables : List ℕ) where
     pub found : 0 < n → Found order n (number tables s t)
     pub noted : 0 < n → Noted tables order n choices
 
-  -- all pairs of rank r are passed
-  pub record RankPassed (r : ℕ) (order : List ℕ) (n : ℕ) (todo order′ : List ℕ) (n′ : ℕ) (todo′ : List ℕ) (rows′ : ℕ) : Type 0 where
-    pub passing : Passing tables (r - 1) order′ n′ todo′ rows′
-    pub stays : (s t : ℕ) → T (member (row-of todo s) t) ⊎ Found order n (number tables s t) → T (member (row-of todo′ s) t) ⊎ Found order′ n′ (number tables s t)
+  -- all pairs of the walk's rank are passed
+  pub record RankPassed (L : Trail) (w : Walk) (L′ : Trail) (v : Walk) : Type 0 where
+    pub passed : Passed tables L w L′ v
+    pub gone : (s t : ℕ) → ToDo L′ s t → rank (first-table tables) (second-table tables) s t ≡ w .rank → ⊥
 
-  -- all pairs are passed
-  pub record RanksPassed (order : List ℕ) (n : ℕ) (todo order′ : List ℕ) (n′ : ℕ) : Type 0 where
-    pub ordered : Ordered order′ n′
-    pub found : (s t : ℕ) → T (member (row-of todo s) t) ⊎ Found order n (number tables s t) → Found order′ n′ (number tables s t)
+  -- all pairs that were seen are passed and their transitions noted, unless the bytes counted are too many
+  pub record RanksPassed (L : Trail) (w : Walk) (L′ : Trail) (v : Walk) : Type 0 where
+    pub tallied : Tallied tables (L .counts) (w .bytes) (L′ .counts) (v .bytes)
+    pub ordered : v .bytes ≤ longest → Ordered (L′ .order) (v .count)
+    pub found : v .bytes ≤ longest → (s t : ℕ) → Seen tables L w s t → Found (L′ .order) (v .count) (number tables s t)
+    pub noted : v .bytes ≤ longest → Noted tables (L′ .order) (v .count) (L′ .choices)

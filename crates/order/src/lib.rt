@@ -15,27 +15,14 @@ use relation::set;
 use relation::set::Set;
 use relation::walk;
 use simulation::Table;
-ghost use mathlib.Core.Path.{_≡_};
-ghost use Prim.Native.Nat.{_≤_, _<_};
+ghost use Prim.Native.Nat.{_≤_};
 ghost use lib.ListN.{length};
-ghost use Rattle.simulation.specs.Limits.{most-states};
 ghost use Rattle.simulation.specs.Round.{pairs};
 ghost use Rattle.form.specs.Tables.{first-table, second-table, BothLoaded};
-ghost use Rattle.relation.specs.Words.{mask};
 ghost use Rattle.choice.specs.Choice.{Lost};
-ghost use Rattle.counting.specs.Count.{longest, Tally, Tallied, OneCounted};
-ghost use Rattle.passing.specs.Passing.{todo-in, OrderGiven, PassGiven, Noted, Passing};
+ghost use Rattle.counting.specs.Count.{OneCounted};
+ghost use Rattle.passing.specs.Passing.{trail, OrderGiven, Walking};
 ghost use Rattle.order.specs.Order.{Listed, RankPassed, RanksPassed};
-
-// The walk at another row.
-fn at_row(w: Walk, s: usize) -> Walk
-    requires { ⌜ s < most-states ⌝ }
-    ensures { λ v. ⌜ (v .s ≡ s) × (v .rank ≡ w .rank) × (v .bytes ≡ w .bytes) × (v .count ≡ w .count) × (v .rows ≡ w .rows) ⌝ }
-{
-    let mut v = w;
-    v.s = s as u8;
-    v
-}
 
 // The pairs of the walk's rank, where none of a higher rank is left.
 fn pass_rank(
@@ -48,14 +35,10 @@ fn pass_rank(
     amounts: &mut [u32],
     w: Walk,
 ) -> Walk
-    requires { ⌜ PassGiven (now tables) (now ranks) (now order) (now choices) (now room) (now amounts)
-        × Passing (now tables) (w .rank) (now order) (w .count) (todo-in (now room)) (mask (w .rows))
-        × Noted (now tables) (now order) (w .count) (now choices) × Tally (now tables) (now counts) (w .bytes) ⌝ }
-    ensures { λ v. ⌜ RankPassed (now (tables .entry)) (w .rank) (now (order .entry)) (w .count) (todo-in (now (room .entry)))
-        (now (order .exit)) (v .count) (todo-in (now (room .exit))) (mask (v .rows))
-        × Noted (now (tables .entry)) (now (order .exit)) (v .count) (now (choices .exit))
-        × Tallied (now (tables .entry)) (now (counts .entry)) (w .bytes) (now (counts .exit)) (v .bytes)
-        × (v .rank ≡ w .rank) ⌝ }
+    requires { ⌜ Walking (now tables) (now ranks) (trail (now order) (now choices) (now counts) (now room) (now amounts)) w ⌝ }
+    ensures { λ v. ⌜ RankPassed (now (tables .entry))
+        (trail (now (order .entry)) (now (choices .entry)) (now (counts .entry)) (now (room .entry)) (now (amounts .entry))) w
+        (trail (now (order .exit)) (now (choices .exit)) (now (counts .exit)) (now (room .exit)) (now (amounts .exit))) v ⌝ }
 {
     let mut v = w;
     let ahead = w.rows;
@@ -63,16 +46,8 @@ fn pass_rank(
         let mut left = ahead.words[k];
         while left != 0 {
             let s = walk::lowest(ahead, k, left);
-            v = pass_row(
-                tables,
-                ranks,
-                order,
-                choices,
-                counts,
-                room,
-                amounts,
-                at_row(v, s),
-            );
+            v.s = s as u8;
+            v = pass_row(tables, ranks, order, choices, counts, room, amounts, v);
             left = walk::without_lowest(ahead, k, left);
         }
     }
@@ -90,12 +65,10 @@ fn pass_ranks(
     amounts: &mut [u32],
     w: Walk,
 ) -> Walk
-    requires { ⌜ PassGiven (now tables) (now ranks) (now order) (now choices) (now room) (now amounts)
-        × Passing (now tables) (w .rank) (now order) (w .count) (todo-in (now room)) (mask (w .rows))
-        × Noted (now tables) (now order) (w .count) (now choices) × Tally (now tables) (now counts) (w .bytes) ⌝ }
-    ensures { λ v. ⌜ (v .bytes ≤ longest → RanksPassed (now (tables .entry)) (now (order .entry)) (w .count) (todo-in (now (room .entry)))
-        (now (order .exit)) (v .count) × Noted (now (tables .entry)) (now (order .exit)) (v .count) (now (choices .exit)))
-        × Tallied (now (tables .entry)) (now (counts .entry)) (w .bytes) (now (counts .exit)) (v .bytes) ⌝ }
+    requires { ⌜ Walking (now tables) (now ranks) (trail (now order) (now choices) (now counts) (now room) (now amounts)) w ⌝ }
+    ensures { λ v. ⌜ RanksPassed (now (tables .entry))
+        (trail (now (order .entry)) (now (choices .entry)) (now (counts .entry)) (now (room .entry)) (now (amounts .entry))) w
+        (trail (now (order .exit)) (now (choices .exit)) (now (counts .exit)) (now (room .exit)) (now (amounts .exit))) v ⌝ }
 {
     let mut v = w;
     while 0 < v.rank {

@@ -1,11 +1,11 @@
--- The walk over the pairs of a row.
+-- A walk that goes on, and the walk over the pairs of a row.
 -- Assumes nothing.
 use mathlib.Core.Path.{_≡_, refl, sym, ap, _∙_, subst}
 use mathlib.Core.List.{List}
 use Prim.Native.Nat.{ℕ, _+_, _<_}
 use native.Mathlib.Omega.{arith}
 use lib.Dec.{T, T-not, eqb}
-use lib.ListN.{length}
+use lib.ListN.{length, getD}
 use Rattle.simulation.specs.Limits.{most-states}
 use Rattle.simulation.specs.Round.{rank}
 use Rattle.form.specs.Tables.{first-table, second-table}
@@ -15,38 +15,40 @@ use Rattle.relation.specs.Words.{word-of, mask, row-of, after, rest}
 use Rattle.relation.specs.declared.set.Set.{Set}
 use Rattle.relation.proofs.Sets.{walk-begin, walk-into, walk-on}
 use Rattle.relation.proofs.Mask.{member-none}
+use Rattle.choice.specs.Choice.{Lost}
+use Rattle.counting.specs.Pair.{number}
 use Rattle.counting.proofs.Pairs.{member-holds, without-in, without-other}
-use Rattle.counting.specs.Count.{Tally, Tallied}
-use Rattle.counting.proofs.Counting.{Counted, counted-start, counted-next}
+use Rattle.counting.proofs.Counting.{tallied-start, tallied-next}
 use Rattle.passing.specs.declared.Walk.{Walk}
-use Rattle.passing.specs.Passing.{todo-in, PassGiven, Noted, Passing, Passed, PairPassed, RowPassed}
+use Rattle.passing.specs.Passing.{Trail, ToDo, walk-at, todo-in, PassGiven, Walking, AtPair, Passed, PairPassed, RowPassed}
 use Rattle.passing.proofs.Parts.{todo-row}
-use Rattle.passing.proofs.Passing.{PairGiven, skipped}
 
 -- ---- what is lent keeps its lengths
 
-pub record Held (order₀ choices₀ room₀ amounts₀ order choices room amounts : List ℕ) : Type 0 where
-  pub same-order : length order ≡ length order₀
-  pub same-choices : length choices ≡ length choices₀
-  pub same-room : length room ≡ length room₀
-  pub same-amounts : length amounts ≡ length amounts₀
+pub record Held (L₀ L : Trail) : Type 0 where
+  pub same-order : length (L .order) ≡ length (L₀ .order)
+  pub same-choices : length (L .choices) ≡ length (L₀ .choices)
+  pub same-counts : length (L .counts) ≡ length (L₀ .counts)
+  pub same-room : length (L .room) ≡ length (L₀ .room)
+  pub same-amounts : length (L .amounts) ≡ length (L₀ .amounts)
 
-pub held : {order choices room amounts : List ℕ} → Held order choices room amounts order choices room amounts
-held = record { same-order = refl; same-choices = refl; same-room = refl; same-amounts = refl }
+pub held : {L : Trail} → Held L L
+held = record { same-order = refl; same-choices = refl; same-counts = refl; same-room = refl; same-amounts = refl }
 
-module _ {order₀ choices₀ room₀ amounts₀ order choices room amounts : List ℕ} (h : Held order₀ choices₀ room₀ amounts₀ order choices room amounts) where
+module _ {L₀ L : Trail} (h : Held L₀ L) where
   -- one step more
-  pub held-next : {order′ choices′ room′ amounts′ : List ℕ} → length order′ ≡ length order → length choices′ ≡ length choices → length room′ ≡ length room
-      → length amounts′ ≡ length amounts → Held order₀ choices₀ room₀ amounts₀ order′ choices′ room′ amounts′
-  held-next a b c d =
-      record { same-order = a ∙ h .same-order; same-choices = b ∙ h .same-choices; same-room = c ∙ h .same-room; same-amounts = d ∙ h .same-amounts }
-
-  -- or a walk more
-  pub held-on : {order′ choices′ room′ amounts′ : List ℕ} → Held order choices room amounts order′ choices′ room′ amounts′ → Held order₀ choices₀ room₀ amounts₀ order′ choices′ room′ amounts′
-  held-on k = held-next (k .same-order) (k .same-choices) (k .same-room) (k .same-amounts)
+  pub held-next : {L′ : Trail} → Held L L′ → Held L₀ L′
+  held-next k =
+      record {
+        same-order = k .same-order ∙ h .same-order;
+        same-choices = k .same-choices ∙ h .same-choices;
+        same-counts = k .same-counts ∙ h .same-counts;
+        same-room = k .same-room ∙ h .same-room;
+        same-amounts = k .same-amounts ∙ h .same-amounts;
+      }
 
   -- so what passing rests on stays
-  pub still-given : {tables ranks : List ℕ} → PassGiven tables ranks order₀ choices₀ room₀ amounts₀ → PassGiven tables ranks order choices room amounts
+  pub still-given : {tables ranks : List ℕ} → PassGiven tables ranks L₀ → PassGiven tables ranks L
   still-given g =
       record {
         given = record {
@@ -61,170 +63,157 @@ module _ {order₀ choices₀ room₀ amounts₀ order choices room amounts : Li
 pub none-in : (left k : ℕ) → left ≡ 0 → T (member left k) → ⊥
 none-in left k z h = subst T (ap (λ (n : ℕ). member n k) z ∙ member-none k) h
 
--- ---- pairs passed one after another
+-- ---- a walk at a rank
 
-module _ {tables : List ℕ} {r : ℕ} where
-  -- no pair is passed, or some and then some more
-  pub none-passed : {order : List ℕ} {n : ℕ} {todo : List ℕ} {rows : ℕ} → Passing tables r order n todo rows → Passed tables r order n todo order n todo rows
-  none-passed p = record { passing = p; old = λ s t h _. h; stays = λ s t h. h }
+-- it went on from w₀ to w and can go on from there
+pub record Onward (tables ranks : List ℕ) (L₀ : Trail) (w₀ : Walk) (L : Trail) (w : Walk) : Type 0 where
+  pub given : PassGiven tables ranks L
+  pub passed : Passed tables L₀ w₀ L w
+  pub held : Held L₀ L
 
-  pub passed-next : {order₀ : List ℕ} {n₀ : ℕ} {todo₀ order : List ℕ} {n : ℕ} {todo : List ℕ} {rows : ℕ} {order′ : List ℕ} {n′ : ℕ} {todo′ : List ℕ} {rows′ : ℕ}
-      → Passed tables r order₀ n₀ todo₀ order n todo rows → Passed tables r order n todo order′ n′ todo′ rows′
-      → Passed tables r order₀ n₀ todo₀ order′ n′ todo′ rows′
-  passed-next p q = record { passing = q .passing; old = λ s t h e. p .old s t (q .old s t h e) e; stays = λ s t h. q .stays s t (p .stays s t h) }
+module _ {tables ranks : List ℕ} where
+  -- at first no pair is passed
+  pub onward-start : {L : Trail} {w : Walk} → Walking tables ranks L w → Onward tables ranks L w L w
+  onward-start g =
+      record {
+        given = g .given;
+        passed = record { passing = g .passing; tallied = tallied-start (g .tally); old = λ s t h _. h; stays = λ s t h. h; same-rank = refl };
+        held = held;
+      }
 
--- ---- the pairs of a row
+  module _ {L₀ : Trail} {w₀ : Walk} {L : Trail} {w : Walk} (o : Onward tables ranks L₀ w₀ L w) where
+    -- it can go on from any pair
+    pub onward-at : (s t : ℕ) → Walking tables ranks L (walk-at w s t)
+    onward-at s t = record { given = o .given; passing = o .passed .passing; tally = o .passed .tallied .tally }
 
--- those of rank r that are to be passed are left
-pub record RowWalk (tables : List ℕ) (r s : ℕ) (order₀ : List ℕ) (n₀ : ℕ) (todo₀ order : List ℕ) (n : ℕ) (todo : List ℕ) (rows left : ℕ) : Type 0 where
-  pub passed : Passed tables r order₀ n₀ todo₀ order n todo rows
-  pub still : (t : ℕ) → T (member left t) → T (member (row-of todo s) t)
-  pub ahead : (t : ℕ) → T (member (row-of todo s) t) → rank (first-table tables) (second-table tables) s t ≡ r → T (member left t)
-
-module _ {tables : List ℕ} {r s : ℕ} where
-  -- at first all are left
-  pub row-start : {order : List ℕ} {n : ℕ} {todo : List ℕ} {rows : ℕ} (pairs : Set) → mask pairs ≡ row-of todo s → Passing tables r order n todo rows
-      → RowWalk tables r s order n todo order n todo rows (after 0 pairs)
-  row-start {order} {n} {todo} {rows} pairs e p =
-      walk-begin pairs (λ (left : ℕ). RowWalk tables r s order n todo order n todo rows left)
-      (record { passed = none-passed p; still = λ t h. subst (λ (k : ℕ). T (member k t)) e h; ahead = λ t h _. subst (λ (k : ℕ). T (member k t)) (sym e) h })
-
-  -- a word is begun, and it is done
-  module _ {order₀ : List ℕ} {n₀ : ℕ} {todo₀ order : List ℕ} {n : ℕ} {todo : List ℕ} {rows : ℕ} (pairs : Set) (i : ℕ)
-      (w : RowWalk tables r s order₀ n₀ todo₀ order n todo rows (after i pairs)) where
-    pub row-into : RowWalk tables r s order n todo order n todo rows (rest i (word-of pairs i) pairs)
-    row-into =
-        walk-into pairs (λ (left : ℕ). RowWalk tables r s order n todo order n todo rows left) i
-        (record { passed = none-passed (w .passed .passing); still = w .still; ahead = w .ahead })
-
-    pub row-on : {order′ : List ℕ} {n′ : ℕ} {todo′ : List ℕ} {rows′ : ℕ} (left : ℕ) → left ≡ 0 → RowWalk tables r s order n todo order′ n′ todo′ rows′ (rest i left pairs)
-        → RowWalk tables r s order₀ n₀ todo₀ order′ n′ todo′ rows′ (after (i + 1) pairs)
-    row-on {order′} {n′} {todo′} {rows′} left z v =
-        walk-on pairs (λ (left : ℕ). RowWalk tables r s order₀ n₀ todo₀ order′ n′ todo′ rows′ left) i left z
-        (record { passed = passed-next (w .passed) (v .passed); still = v .still; ahead = v .ahead })
-
-  module _ {order₀ : List ℕ} {n₀ : ℕ} {todo₀ order : List ℕ} {n : ℕ} {todo : List ℕ} {rows left : ℕ} (w : RowWalk tables r s order₀ n₀ todo₀ order n todo rows left) where
-    -- the lowest pair left is to be passed
-    pub row-pair : (t : ℕ) → Lowest (member left) t → T (member (row-of todo s) t)
-    row-pair t low = w .still t (member-holds low)
-
-    -- it is passed and is no longer left
-    pub row-next : {t : ℕ} {order′ : List ℕ} {n′ : ℕ} {todo′ : List ℕ} {rows′ : ℕ} (left′ : ℕ) → PairPassed tables r s t order n todo order′ n′ todo′ rows′
-        → member left′ ≡ without-member t (member left) → RowWalk tables r s order₀ n₀ todo₀ order′ n′ todo′ rows′ left′
-    row-next {t} {todo′ = todo′} left′ p e =
+    -- and what it did from there, or some time later, it did from the start
+    pub onward-from : (s t : ℕ) {L′ : Trail} {v : Walk} → Passed tables L (walk-at w s t) L′ v → Held L L′ → Onward tables ranks L₀ w₀ L′ v
+    onward-from s t p h =
         record {
-          passed = passed-next (w .passed) (p .passed);
-          still = λ u h. p .others s u (w .still u (without-in t left u e h)) (λ k. not-it u (k .1) (subst (λ (X : Test). T (X u)) e h));
-          ahead = λ u h q. without-other left u e (λ k. p .gone (ap (rank (first-table tables) (second-table tables) s) (sym k) ∙ q) (subst (λ (v : ℕ). T (member (row-of todo′ s) v)) k h))
-              (w .ahead u (p .passed .old s u h q) q);
-        }
-      where
-        not-it : (u : ℕ) → u ≡ t → T (without-member t (member left) u) → ⊥
-        not-it u k q = T-not (eqb u t) (and-right (member left u) _ q) (same-eqb k)
-
-    -- and a row with no pair left is closed
-    pub row-end : {rows′ pairs : ℕ} → left ≡ 0 → pairs ≡ row-of todo s → ((u : ℕ) → (u ≡ s → pairs ≡ 0 → ⊥) → T (member rows u) → T (member rows′ u))
-        → RowPassed tables r s order₀ n₀ todo₀ order n todo rows′
-    row-end {rows′} z is closed =
-        let p = w .passed .passing in
-        record {
+          given = still-given h (o .given);
           passed = record {
-            passing = record {
-              fits = p .fits;
-              few = p .few;
-              open-row = λ u v h. closed u (λ e k. none-in (row-of todo u) v (ap (row-of todo) e ∙ sym is ∙ k) h) (p .open-row u v h);
-              lost = p .lost;
-              most = p .most;
-              at = p .at;
-              high = p .high;
-              gone = p .gone;
-              once = p .once;
-            };
-            old = w .passed .old;
-            stays = w .passed .stays;
+            passing = p .passing;
+            tallied = tallied-next (o .passed .tallied) (p .tallied);
+            old = λ s t q e. o .passed .old s t (p .old s t q (e ∙ sym (o .passed .same-rank))) e;
+            stays = λ s t q. p .stays s t (o .passed .stays s t q);
+            same-rank = p .same-rank ∙ o .passed .same-rank;
           };
-          gone = λ t h q. none-in left t z (w .ahead t h q);
+          held = held-next (o .held) h;
         }
 
--- the same for the walk v in a row, begun as v₀: what is lent keeps its lengths, what is passed is noted and counted, and the row and the rank stay
-pub record RowAt (tables : List ℕ) (r s : ℕ) (order₀ choices₀ counts₀ room₀ amounts₀ : List ℕ) (v₀ : Walk) (order choices counts room amounts : List ℕ) (v : Walk) (left : ℕ) : Type 0 where
-  pub row : RowWalk tables r s order₀ (v₀ .count) (todo-in room₀) order (v .count) (todo-in room) (mask (v .rows)) left
-  pub held : Held order₀ choices₀ room₀ amounts₀ order choices room amounts
-  pub noted : Noted tables order (v .count) choices
-  pub counted : Counted tables counts₀ (v₀ .bytes) counts (v .bytes)
-  pub same-row : v .s ≡ s
-  pub same-rank : v .rank ≡ r
+    pub onward-next : {L′ : Trail} {v : Walk} → Onward tables ranks L w L′ v → Onward tables ranks L₀ w₀ L′ v
+    onward-next n = onward-from (w .s) (w .t) (n .passed) (n .held)
 
--- the walk with all pairs of its row left
-pub at-start : {tables order choices counts room amounts : List ℕ} {v : Walk} (pairs : Set) → v .s < most-states → mask pairs ≡ row-of room (v .s)
-    → Passing tables (v .rank) order (v .count) (todo-in room) (mask (v .rows)) → Noted tables order (v .count) choices → Tally tables counts (v .bytes)
-    → RowAt tables (v .rank) (v .s) order choices counts room amounts v order choices counts room amounts v (after 0 pairs)
-at-start {room = room} {v = v} pairs low is p n t =
-    record {
-      row = row-start pairs (is ∙ sym (todo-row room (v .s) low)) p;
-      held = held;
-      noted = n;
-      counted = counted-start t;
+-- ---- the pairs of row s and rank r
+
+-- those that are to be passed are left
+pub record RowAt (tables ranks : List ℕ) (r s : ℕ) (L₀ : Trail) (w₀ : Walk) (L : Trail) (w : Walk) (left : ℕ) : Type 0 where
+  pub onward : Onward tables ranks L₀ w₀ L w
+  pub same-row : w .s ≡ s
+  pub same-rank : w .rank ≡ r
+  pub still : (t : ℕ) → T (member left t) → ToDo L s t
+  pub ahead : (t : ℕ) → ToDo L s t → rank (first-table tables) (second-table tables) s t ≡ r → T (member left t)
+
+-- at first all are left
+pub row-start : {tables ranks : List ℕ} {L : Trail} {w : Walk} (pairs : Set) → Walking tables ranks L w → w .s < most-states → mask pairs ≡ row-of (L .room) (w .s)
+    → RowAt tables ranks (w .rank) (w .s) L w L w (after 0 pairs)
+row-start {tables} {ranks} {L} {w} pairs g low is =
+    let e : mask pairs ≡ row-of (todo-in (L .room)) (w .s) = is ∙ sym (todo-row (L .room) (w .s) low) in
+    walk-begin pairs (λ (left : ℕ). RowAt tables ranks (w .rank) (w .s) L w L w left)
+    (record {
+      onward = onward-start g;
       same-row = refl;
       same-rank = refl;
-    }
+      still = λ t h. subst (λ (k : ℕ). T (member k t)) e h;
+      ahead = λ t h _. subst (λ (k : ℕ). T (member k t)) (sym e) h;
+    })
 
-module _ {tables : List ℕ} {r s : ℕ} {order₀ choices₀ counts₀ room₀ amounts₀ : List ℕ} {v₀ : Walk} {order choices counts room amounts : List ℕ} {v : Walk} where
+module _ {tables ranks : List ℕ} {r s : ℕ} {L₀ : Trail} {w₀ : Walk} {L : Trail} {w : Walk} where
   -- a word is begun, and it is done
-  module _ (pairs : Set) (i : ℕ) (w : RowAt tables r s order₀ choices₀ counts₀ room₀ amounts₀ v₀ order choices counts room amounts v (after i pairs)) where
-    pub at-into : RowAt tables r s order choices counts room amounts v order choices counts room amounts v (rest i (word-of pairs i) pairs)
-    at-into =
-        record {
-          row = row-into pairs i (w .row);
-          held = held;
-          noted = w .noted;
-          counted = counted-start (w .counted .tallied .tally);
-          same-row = w .same-row;
-          same-rank = w .same-rank;
-        }
+  module _ (pairs : Set) (i : ℕ) (o : RowAt tables ranks r s L₀ w₀ L w (after i pairs)) where
+    pub row-into : RowAt tables ranks r s L w L w (rest i (word-of pairs i) pairs)
+    row-into =
+        walk-into pairs (λ (left : ℕ). RowAt tables ranks r s L w L w left) i
+        (record { onward = onward-start (onward-at (o .onward) (w .s) (w .t)); same-row = o .same-row; same-rank = o .same-rank; still = o .still; ahead = o .ahead })
 
-    pub at-on : {order′ choices′ counts′ room′ amounts′ : List ℕ} {v′ : Walk} (left : ℕ) → left ≡ 0
-        → RowAt tables r s order choices counts room amounts v order′ choices′ counts′ room′ amounts′ v′ (rest i left pairs)
-        → RowAt tables r s order₀ choices₀ counts₀ room₀ amounts₀ v₀ order′ choices′ counts′ room′ amounts′ v′ (after (i + 1) pairs)
-    at-on left z u =
-        record {
-          row = row-on pairs i (w .row) left z (u .row);
-          held = held-on (w .held) (u .held);
-          noted = u .noted;
-          counted = counted-next (w .counted) (u .counted .same-counts) (u .counted .tallied);
-          same-row = u .same-row;
-          same-rank = u .same-rank;
-        }
+    pub row-on : {L′ : Trail} {v : Walk} (left : ℕ) → left ≡ 0 → RowAt tables ranks r s L w L′ v (rest i left pairs) → RowAt tables ranks r s L₀ w₀ L′ v (after (i + 1) pairs)
+    row-on {L′} {v} left z n =
+        walk-on pairs (λ (left : ℕ). RowAt tables ranks r s L₀ w₀ L′ v left) i left z
+        (record { onward = onward-next (o .onward) (n .onward); same-row = n .same-row; same-rank = n .same-rank; still = n .still; ahead = n .ahead })
 
-  module _ {left : ℕ} (w : RowAt tables r s order₀ choices₀ counts₀ room₀ amounts₀ v₀ order choices counts room amounts v left) {t : ℕ} where
+  module _ {left : ℕ} (o : RowAt tables ranks r s L₀ w₀ L w left) where
     -- the lowest pair left is to be passed
-    pub at-pair : {ranks : List ℕ} → PassGiven tables ranks order₀ choices₀ room₀ amounts₀ → Lowest (member left) t
-        → PairGiven tables ranks order choices room amounts r (v .count) (mask (v .rows)) s t
-    at-pair g low = record { given = still-given (w .held) g; passing = w .row .passed .passing; here = row-pair (w .row) t low }
+    module _ {t : ℕ} (low : Lowest (member left) t) where
+      here : ToDo L s t
+      here = o .still t (member-holds low)
 
-    -- it is passed over, and it is passed
-    pub at-over : {ranks : List ℕ} (left′ : ℕ) → PairGiven tables ranks order choices room amounts r (v .count) (mask (v .rows)) s t → (rank (first-table tables) (second-table tables) s t ≡ r → ⊥)
-        → member left′ ≡ without-member t (member left) → RowAt tables r s order₀ choices₀ counts₀ room₀ amounts₀ v₀ order choices counts room amounts v left′
-    at-over left′ p d e =
-        record {
-          row = row-next (w .row) left′ (skipped p d) e;
-          held = w .held;
-          noted = w .noted;
-          counted = w .counted;
-          same-row = w .same-row;
-          same-rank = w .same-rank;
-        }
+      pub low-lost : Lost tables s t
+      low-lost = o .onward .passed .passing .lost s t here
 
-    pub at-next : {order′ choices′ counts′ room′ amounts′ : List ℕ} {v′ : Walk} (left′ : ℕ)
-        → PairPassed tables r s t order (v .count) (todo-in room) order′ (v′ .count) (todo-in room′) (mask (v′ .rows)) → Noted tables order′ (v′ .count) choices′
-        → Tallied tables counts (v .bytes) counts′ (v′ .bytes) → v′ .s ≡ s → v′ .rank ≡ r → Held order choices room amounts order′ choices′ room′ amounts′ → length counts′ ≡ length counts
-        → member left′ ≡ without-member t (member left) → RowAt tables r s order₀ choices₀ counts₀ room₀ amounts₀ v₀ order′ choices′ counts′ room′ amounts′ v′ left′
-    at-next left′ p n c es er h l e =
-        record {
-          row = row-next (w .row) left′ p e;
-          held = held-on (w .held) h;
-          noted = n;
-          counted = counted-next (w .counted) l c;
-          same-row = es;
-          same-rank = er;
-        }
+      -- its rank is the number read at its place
+      pub low-rank : {k : ℕ} → k ≡ getD ranks (number tables s t) 0 → k ≡ rank (first-table tables) (second-table tables) s t
+      low-rank e = e ∙ o .onward .given .given .ranked .ranked s t (low-lost .left) (low-lost .right)
+
+      -- if that is the rank r, the walk is at it
+      pub low-pair : rank (first-table tables) (second-table tables) s t ≡ r → AtPair tables ranks L (walk-at w (w .s) t)
+      low-pair e =
+          record {
+            walking = onward-at (o .onward) (w .s) t;
+            here = subst (λ (u : ℕ). ToDo L u t) (sym (o .same-row)) here;
+            this-rank = o .same-rank ∙ sym e ∙ ap (λ (u : ℕ). rank (first-table tables) (second-table tables) u t) (sym (o .same-row));
+          }
+
+    -- it is no longer left: it has another rank, or it is passed
+    module _ (t left′ : ℕ) (e : member left′ ≡ without-member t (member left)) where
+      pub row-over : (rank (first-table tables) (second-table tables) s t ≡ r → ⊥) → RowAt tables ranks r s L₀ w₀ L w left′
+      row-over d =
+          record {
+            onward = o .onward;
+            same-row = o .same-row;
+            same-rank = o .same-rank;
+            still = λ u h. o .still u (without-in t left u e h);
+            ahead = λ u h q. without-other left u e (λ k. d (ap (rank (first-table tables) (second-table tables) s) (sym k) ∙ q)) (o .ahead u h q);
+          }
+
+      pub row-next : {L′ : Trail} {v : Walk} → PairPassed tables L (walk-at w (w .s) t) L′ v → Held L L′ → RowAt tables ranks r s L₀ w₀ L′ v left′
+      row-next {L′} p h =
+          record {
+            onward = onward-from (o .onward) (w .s) t (p .passed) h;
+            same-row = p .same-row ∙ o .same-row;
+            same-rank = p .passed .same-rank ∙ o .same-rank;
+            still = λ u q. p .others s u (o .still u (without-in t left u e q)) (λ k. not-it u (k .1) (subst (λ (X : Test). T (X u)) e q));
+            ahead = λ u q f.
+                without-other left u e (λ k. p .gone (subst (λ (v : ℕ). ToDo L′ (w .s) v) k (subst (λ (s : ℕ). ToDo L′ s u) (sym (o .same-row)) q)))
+                (o .ahead u (p .passed .old s u q (f ∙ sym (o .same-rank))) f);
+          }
+        where
+          not-it : (u : ℕ) → u ≡ t → T (without-member t (member left) u) → ⊥
+          not-it u k q = T-not (eqb u t) (and-right (member left u) _ q) (same-eqb k)
+
+-- when none is left, all are passed; a row that has no pair at all any more is closed
+pub row-end : {tables ranks : List ℕ} {L₀ : Trail} {w₀ : Walk} {L : Trail} {w : Walk} {left : ℕ} (o : RowAt tables ranks (w₀ .rank) (w₀ .s) L₀ w₀ L w left) → left ≡ 0
+    → {rows′ : Set} {pairs : ℕ} → pairs ≡ row-of (todo-in (L .room)) (w₀ .s) → ((u : ℕ) → (u ≡ w₀ .s → pairs ≡ 0 → ⊥) → T (member (mask (w .rows)) u) → T (member (mask rows′) u))
+    → RowPassed tables L₀ w₀ L (record { s = w .s; t = w .t; rank = w .rank; bytes = w .bytes; count = w .count; rows = rows′ })
+row-end {L = L} {left = left} o z is closed =
+    let p = o .onward .passed .passing in
+    record {
+      passed = record {
+        passing = record {
+          fits = p .fits;
+          few = p .few;
+          open-row = λ u v h. closed u (λ e k. none-in (row-of (todo-in (L .room)) u) v (ap (row-of (todo-in (L .room))) e ∙ sym is ∙ k) h) (p .open-row u v h);
+          lost = p .lost;
+          most = p .most;
+          at = p .at;
+          high = p .high;
+          gone = p .gone;
+          once = p .once;
+          noted = p .noted;
+        };
+        tallied = o .onward .passed .tallied;
+        old = o .onward .passed .old;
+        stays = o .onward .passed .stays;
+        same-rank = o .onward .passed .same-rank;
+      };
+      gone = λ t h q. none-in left t z (o .ahead t h q);
+    }

@@ -1,4 +1,4 @@
--- Pairs that are listed, those still to be passed, and what passing one or a row of them does.
+-- Pairs that are listed, those still to be passed, and what a walk over them does.
 -- Assumes nothing.
 use mathlib.Core.Path.{_≡_}
 use mathlib.Core.Logic.{_⊎_}
@@ -14,11 +14,12 @@ use Rattle.simulation.specs.Round.{pairs, rank}
 use Rattle.simulation.specs.Tree.{chosen, set-of}
 use Rattle.form.specs.Tables.{first-table, second-table, BothLoaded}
 use Rattle.relation.specs.Mask.{member}
-use Rattle.relation.specs.Words.{words, row-of, rows-in}
+use Rattle.relation.specs.Words.{words, mask, row-of, rows-in}
 use Rattle.counting.specs.Pair.{number, row, column}
-use Rattle.counting.specs.Count.{child}
-use Rattle.relate.specs.Ranked.{Ranked}
+use Rattle.counting.specs.Count.{child, Tally, Tallied}
+use Rattle.relate.specs.Ranked.{RanksRight}
 use Rattle.choice.specs.Choice.{Lost, Choice}
+use Rattle.passing.specs.declared.Walk.{Walk}
 
 -- rows lent to work with: the pairs still to be passed, a row to a state, and after them the sets of a transition's targets, with room for as many rows of a relation
 abbrev pub todo-in : List ℕ → List ℕ
@@ -52,15 +53,34 @@ pub record NoteGiven (tables : List ℕ) (s t j n : ℕ) (order choices : List �
 
 -- what ordering rests on: room for each pair and its transition, and for a flow
 pub record OrderGiven (tables ranks order choices amounts : List ℕ) : Type 0 where
-  pub ranked : Ranked tables ranks
+  pub ranked : RanksRight tables ranks
   pub room : pairs (first-table tables) (second-table tables) ≤ length order
   pub notes : pairs (first-table tables) (second-table tables) ≤ length choices
   pub amounts-room : most-pairs ≤ length amounts
 
--- and the rows to work with
-pub record PassGiven (tables ranks order choices room amounts : List ℕ) : Type 0 where
-  pub given : OrderGiven tables ranks order choices amounts
-  pub rows : HasRoom room
+-- the lists that a walk works with: the pairs that are passed, the transition noted for each, how often each pair occurs, the rows to work with, and room for a flow
+pub record Trail : Type 0 where
+  pub order : List ℕ
+  pub choices : List ℕ
+  pub counts : List ℕ
+  pub room : List ℕ
+  pub amounts : List ℕ
+
+abbrev pub trail : (order choices counts room amounts : List ℕ) → Trail
+trail order choices counts room amounts = record { order = order; choices = choices; counts = counts; room = room; amounts = amounts }
+
+-- the walk w at the pair (s, t)
+abbrev pub walk-at : (w : Walk) (s t : ℕ) → Walk
+walk-at w s t = record { s = s; t = t; rank = w .rank; bytes = w .bytes; count = w .count; rows = w .rows }
+
+-- what passing rests on: what ordering does, and the rows to work with
+pub record PassGiven (tables ranks : List ℕ) (L : Trail) : Type 0 where
+  pub given : OrderGiven tables ranks (L .order) (L .choices) (L .amounts)
+  pub rows : HasRoom (L .room)
+
+-- the pair (s, t) is still to be passed
+abbrev pub ToDo : (L : Trail) (s t : ℕ) → Type 0
+ToDo L s t = T (member (row-of (todo-in (L .room)) s) t)
 
 -- the number p is listed after place k, and anywhere
 abbrev pub Later : (order : List ℕ) (n k p : ℕ) → Type 0
@@ -80,31 +100,51 @@ module _ (tables : List ℕ) where
   pub record Noted (order : List ℕ) (n : ℕ) (choices : List ℕ) : Type 0 where
     pub at : (k : ℕ) → k < n → Choice tables (row tables (getD order k 0)) (column tables (getD order k 0)) (getD choices (getD order k 0) 0)
 
-  -- no pair that is still to be passed is kept or above rank r, and the pairs below one that is passed come after it or are still to be passed
-  pub record Passing (r : ℕ) (order : List ℕ) (n : ℕ) (todo : List ℕ) (rows : ℕ) : Type 0 where
-    pub fits : n ≤ length order
+  -- the pair (s, t) is listed, or still to be passed
+  abbrev pub Seen : (L : Trail) (w : Walk) (s t : ℕ) → Type 0
+  Seen L w s t = ToDo L s t ⊎ Found (L .order) (w .count) (number tables s t)
+
+  -- no pair that is still to be passed is kept or above rank r, the pairs below one that is passed come after it or are still to be passed, and its transition is noted
+  pub record Passing (r : ℕ) (L : Trail) (n rows : ℕ) : Type 0 where
+    pub fits : n ≤ length (L .order)
     pub few : n ≤ most-pairs
-    pub open-row : (s t : ℕ) → T (member (row-of todo s) t) → T (member rows s)
-    pub lost : (s t : ℕ) → T (member (row-of todo s) t) → Lost tables s t
-    pub most : (s t : ℕ) → T (member (row-of todo s) t) → rank (first-table tables) (second-table tables) s t ≤ r
-    pub at : (k : ℕ) → k < n → Above (λ u v. T (member (row-of todo u) v) ⊎ Later order n k (number tables u v)) (getD order k 0)
-    pub high : (k : ℕ) → k < n → r ≤ rank (first-table tables) (second-table tables) (row tables (getD order k 0)) (column tables (getD order k 0))
-    pub gone : (k : ℕ) → k < n → T (member (row-of todo (row tables (getD order k 0))) (column tables (getD order k 0))) → ⊥
-    pub once : (k l : ℕ) → k < l → l < n → getD order k 0 ≡ getD order l 0 → ⊥
+    pub open-row : (s t : ℕ) → ToDo L s t → T (member rows s)
+    pub lost : (s t : ℕ) → ToDo L s t → Lost tables s t
+    pub most : (s t : ℕ) → ToDo L s t → rank (first-table tables) (second-table tables) s t ≤ r
+    pub at : (k : ℕ) → k < n → Above (λ u v. ToDo L u v ⊎ Later (L .order) n k (number tables u v)) (getD (L .order) k 0)
+    pub high : (k : ℕ) → k < n → r ≤ rank (first-table tables) (second-table tables) (row tables (getD (L .order) k 0)) (column tables (getD (L .order) k 0))
+    pub gone : (k : ℕ) → k < n → ToDo L (row tables (getD (L .order) k 0)) (column tables (getD (L .order) k 0)) → ⊥
+    pub once : (k l : ℕ) → k < l → l < n → getD (L .order) k 0 ≡ getD (L .order) l 0 → ⊥
+    pub noted : Noted (L .order) n (L .choices)
 
-  -- some pairs of rank r are passed: no other pair of that rank is new, and a pair that was listed or passed is so still
-  pub record Passed (r : ℕ) (order : List ℕ) (n : ℕ) (todo order′ : List ℕ) (n′ : ℕ) (todo′ : List ℕ) (rows′ : ℕ) : Type 0 where
-    pub passing : Passing r order′ n′ todo′ rows′
-    pub old : (s t : ℕ) → T (member (row-of todo′ s) t) → rank (first-table tables) (second-table tables) s t ≡ r → T (member (row-of todo s) t)
-    pub stays : (s t : ℕ) → T (member (row-of todo s) t) ⊎ Found order n (number tables s t) → T (member (row-of todo′ s) t) ⊎ Found order′ n′ (number tables s t)
+  -- a walk can go on: its lists have room, the pairs that it has passed and those still to be passed are in order, and no pair is counted more often than there are bytes
+  pub record Walking (ranks : List ℕ) (L : Trail) (w : Walk) : Type 0 where
+    pub given : PassGiven tables ranks L
+    pub passing : Passing (w .rank) L (w .count) (mask (w .rows))
+    pub tally : Tally tables (L .counts) (w .bytes)
 
-  -- the pair (s, t) is passed, if it has rank r, and no other
-  pub record PairPassed (r s t : ℕ) (order : List ℕ) (n : ℕ) (todo order′ : List ℕ) (n′ : ℕ) (todo′ : List ℕ) (rows′ : ℕ) : Type 0 where
-    pub passed : Passed r order n todo order′ n′ todo′ rows′
-    pub gone : rank (first-table tables) (second-table tables) s t ≡ r → T (member (row-of todo′ s) t) → ⊥
-    pub others : (u v : ℕ) → T (member (row-of todo u) v) → ((u ≡ s) × (v ≡ t) → ⊥) → T (member (row-of todo′ u) v)
+  -- a walk is at a pair that is still to be passed and has the walk's rank
+  pub record AtPair (ranks : List ℕ) (L : Trail) (w : Walk) : Type 0 where
+    pub walking : Walking ranks L w
+    pub here : ToDo L (w .s) (w .t)
+    pub this-rank : w .rank ≡ rank (first-table tables) (second-table tables) (w .s) (w .t)
 
-  -- all pairs of row s and rank r are passed
-  pub record RowPassed (r s : ℕ) (order : List ℕ) (n : ℕ) (todo order′ : List ℕ) (n′ : ℕ) (todo′ : List ℕ) (rows′ : ℕ) : Type 0 where
-    pub passed : Passed r order n todo order′ n′ todo′ rows′
-    pub gone : (t : ℕ) → T (member (row-of todo′ s) t) → rank (first-table tables) (second-table tables) s t ≡ r → ⊥
+  -- the walk w went on to v, and its lists L became L′: some pairs of its rank are passed and counted, no pair of that rank is added, and every pair that was seen is seen still
+  pub record Passed (L : Trail) (w : Walk) (L′ : Trail) (v : Walk) : Type 0 where
+    pub passing : Passing (v .rank) L′ (v .count) (mask (v .rows))
+    pub tallied : Tallied tables (L .counts) (w .bytes) (L′ .counts) (v .bytes)
+    pub old : (s t : ℕ) → ToDo L′ s t → rank (first-table tables) (second-table tables) s t ≡ w .rank → ToDo L s t
+    pub stays : (s t : ℕ) → Seen L w s t → Seen L′ v s t
+    pub same-rank : v .rank ≡ w .rank
+
+  -- the walk's pair is passed, and no other
+  pub record PairPassed (L : Trail) (w : Walk) (L′ : Trail) (v : Walk) : Type 0 where
+    pub passed : Passed L w L′ v
+    pub gone : ToDo L′ (w .s) (w .t) → ⊥
+    pub others : (u v : ℕ) → ToDo L u v → ((u ≡ w .s) × (v ≡ w .t) → ⊥) → ToDo L′ u v
+    pub same-row : v .s ≡ w .s
+
+  -- all pairs of the walk's row and rank are passed
+  pub record RowPassed (L : Trail) (w : Walk) (L′ : Trail) (v : Walk) : Type 0 where
+    pub passed : Passed L w L′ v
+    pub gone : (t : ℕ) → ToDo L′ (w .s) t → rank (first-table tables) (second-table tables) (w .s) t ≡ w .rank → ⊥

@@ -17,13 +17,10 @@ ghost use Prim.Native.Nat.{ℕ, _<_};
 ghost use lib.Dec.{T};
 ghost use lib.ListN.{length, set};
 ghost use Rattle.simulation.specs.Limits.{most-states};
-ghost use Rattle.simulation.specs.Round.{rank};
-ghost use Rattle.form.specs.Tables.{first-table, second-table};
 ghost use Rattle.relation.specs.Mask.{member};
-ghost use Rattle.relation.specs.Words.{mask, row-of};
+ghost use Rattle.relation.specs.Words.{mask};
 ghost use Rattle.counting.specs.Pair.{number};
-ghost use Rattle.counting.specs.Count.{Tally, Tallied};
-ghost use Rattle.passing.specs.Passing.{todo-in, sets-in, Children, ChildrenAdded, PassGiven, NoteGiven, Noted, Passing, PairPassed, RowPassed};
+ghost use Rattle.passing.specs.Passing.{todo-in, sets-in, trail, Children, ChildrenAdded, NoteGiven, Walking, AtPair, PairPassed, RowPassed};
 
 // Rows lent to work with: the pairs that are still to be passed, a row to a state, and after them the sets of a transition's targets, with room
 // for as many rows of a relation.
@@ -92,15 +89,10 @@ fn pass_pair(
     amounts: &mut [u32],
     w: Walk,
 ) -> Walk
-    requires { ⌜ PassGiven (now tables) (now ranks) (now order) (now choices) (now room) (now amounts)
-        × Passing (now tables) (w .rank) (now order) (w .count) (todo-in (now room)) (mask (w .rows))
-        × Noted (now tables) (now order) (w .count) (now choices) × Tally (now tables) (now counts) (w .bytes)
-        × T (member (row-of (todo-in (now room)) (w .s)) (w .t)) × (w .rank ≡ rank (first-table (now tables)) (second-table (now tables)) (w .s) (w .t)) ⌝ }
-    ensures { λ v. ⌜ PairPassed (now (tables .entry)) (w .rank) (w .s) (w .t) (now (order .entry)) (w .count) (todo-in (now (room .entry)))
-        (now (order .exit)) (v .count) (todo-in (now (room .exit))) (mask (v .rows))
-        × Noted (now (tables .entry)) (now (order .exit)) (v .count) (now (choices .exit))
-        × Tallied (now (tables .entry)) (now (counts .entry)) (w .bytes) (now (counts .exit)) (v .bytes)
-        × (v .s ≡ w .s) × (v .rank ≡ w .rank) ⌝ }
+    requires { ⌜ AtPair (now tables) (now ranks) (trail (now order) (now choices) (now counts) (now room) (now amounts)) w ⌝ }
+    ensures { λ v. ⌜ PairPassed (now (tables .entry))
+        (trail (now (order .entry)) (now (choices .entry)) (now (counts .entry)) (now (room .entry)) (now (amounts .entry))) w
+        (trail (now (order .exit)) (now (choices .exit)) (now (counts .exit)) (now (room .exit)) (now (amounts .exit))) v ⌝ }
 {
     let s = w.s as usize;
     let t = w.t as usize;
@@ -109,15 +101,8 @@ fn pass_pair(
     rows::put(room, s, set::remove(rows::get(room, s), t));
     let count = w.count;
     note(tables, s, t, j, count, order, choices);
-    let bytes = count::hand_on(
-        tables,
-        s,
-        t,
-        j,
-        &room[Room::SETS_AT..Room::WORDS],
-        counts,
-        w.bytes,
-    );
+    let sets = &room[Room::SETS_AT..Room::WORDS];
+    let bytes = count::hand_on(tables, s, t, j, sets, counts, w.bytes);
     let rows = add_children(tables::targets(tables, Form::FIRST, j), room, w.rows);
     Walk {
         s: w.s,
@@ -127,16 +112,6 @@ fn pass_pair(
         count: count + 1,
         rows,
     }
-}
-
-// The walk at another pair of its row.
-fn at_column(w: Walk, t: usize) -> Walk
-    requires { ⌜ t < most-states ⌝ }
-    ensures { λ v. ⌜ (v .s ≡ w .s) × (v .t ≡ t) × (v .rank ≡ w .rank) × (v .bytes ≡ w .bytes) × (v .count ≡ w .count) × (v .rows ≡ w .rows) ⌝ }
-{
-    let mut v = w;
-    v.t = t as u8;
-    v
 }
 
 // The rows, without s if no pair of s is left.
@@ -161,14 +136,10 @@ pub fn pass_row(
     amounts: &mut [u32],
     w: Walk,
 ) -> Walk
-    requires { ⌜ PassGiven (now tables) (now ranks) (now order) (now choices) (now room) (now amounts)
-        × Passing (now tables) (w .rank) (now order) (w .count) (todo-in (now room)) (mask (w .rows))
-        × Noted (now tables) (now order) (w .count) (now choices) × Tally (now tables) (now counts) (w .bytes) × (w .s < most-states) ⌝ }
-    ensures { λ v. ⌜ RowPassed (now (tables .entry)) (w .rank) (w .s) (now (order .entry)) (w .count) (todo-in (now (room .entry)))
-        (now (order .exit)) (v .count) (todo-in (now (room .exit))) (mask (v .rows))
-        × Noted (now (tables .entry)) (now (order .exit)) (v .count) (now (choices .exit))
-        × Tallied (now (tables .entry)) (now (counts .entry)) (w .bytes) (now (counts .exit)) (v .bytes)
-        × (v .rank ≡ w .rank) ⌝ }
+    requires { ⌜ Walking (now tables) (now ranks) (trail (now order) (now choices) (now counts) (now room) (now amounts)) w × (w .s < most-states) ⌝ }
+    ensures { λ v. ⌜ RowPassed (now (tables .entry))
+        (trail (now (order .entry)) (now (choices .entry)) (now (counts .entry)) (now (room .entry)) (now (amounts .entry))) w
+        (trail (now (order .exit)) (now (choices .exit)) (now (counts .exit)) (now (room .exit)) (now (amounts .exit))) v ⌝ }
 {
     let rank = w.rank;
     let s = w.s as usize;
@@ -183,16 +154,8 @@ pub fn pass_row(
             if ranks[base + t] != rank {
                 continue;
             }
-            v = pass_pair(
-                tables,
-                ranks,
-                order,
-                choices,
-                counts,
-                room,
-                amounts,
-                at_column(v, t),
-            );
+            v.t = t as u8;
+            v = pass_pair(tables, ranks, order, choices, counts, room, amounts, v);
         }
     }
     v.rows = close_row(v.rows, s, rows::get(room, s));

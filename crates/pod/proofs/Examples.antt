@@ -15,14 +15,14 @@ use Rattle.simulation.specs.Tree.{node-bytes, tree}
 use Rattle.simulation.specs.Examples as tables
 use Rattle.layout.specs.Bytes.{decode}
 use Rattle.fit.specs.Partner.{place}
-use Rattle.flows.specs.Flow.{Right, flow-record, flow-row, flow-records, count, flow-of, flow-bytes}
+use Rattle.flows.specs.Flow.{Right, flow-record, flow-row, flow-records, amounts-count, flow-of, flow-bytes}
 use Rattle.compare.specs.Outcome.{success, with-flow, outcome, kept-outcome, left}
 use Rattle.pod.specs.Check.{checked, RightFor}
 use Rattle.pod.specs.Examples.{flow-CP, tree-fits, tree-short, itself, flow-fits, flow-short, one-state, no-bytes, cut-short, byte-more, codes-exchanged, second-cut-short, rows, Covered, All, done, _also_}
 
 -- the amounts of C, P: any right ones are 01's
 module _ (x : ℕ → Amounts) (right : Right tables.C tables.P 0 0 x) where
-  shares : Shares (λ i j. T (between (round tables.C tables.P 9) (tables.either 1) (tables.either 3) i j)) (1 ∷ 1 ∷ []) (3 ∷ 1 ∷ []) (x 0)
+  shares : Shares (λ i j. T (between (round tables.C tables.P 9) (tables.fork 1) (tables.fork 3) i j)) (1 ∷ 1 ∷ []) (3 ∷ 1 ∷ []) (x 0)
   unfolding Right place round
   shares = right 0 (omega arith)
 
@@ -47,7 +47,7 @@ module _ (x : ℕ → Amounts) (right : Right tables.C tables.P 0 0 x) where
   column-1 = shares .taken 1 (omega arith)
 
   flow-is : flow-bytes tables.C tables.P 0 0 x ≡ flow-CP
-  unfolding flow-bytes flow-of count flow-records flow-row flow-record place round
+  unfolding flow-bytes flow-of amounts-count flow-records flow-row flow-record place round
   flow-is = simp (at-00, at-01, at-10, at-11)
     where
       at-00 : x 0 0 0 ≡ 4

@@ -19,7 +19,7 @@ use Rattle.compare.specs.Outcome.{Buffers, Result, left}
 use Rattle.answer.specs.Numbers.{refusal}
 use Rattle.pod.specs.Check.{checked, RightFor, Checked}
 use Rattle.compare.specs.Steps.{Compared}
-use Rattle.compare.proofs.Comparing.{nothing}
+use Rattle.compare.proofs.Comparing.{none-sent}
 use Rattle.answer.specs.declared.answer.Answer.{Answer}
 use Rattle.pod.proofs.TableLaws.{decodes-refused}
 
@@ -29,9 +29,9 @@ module _ (first second : List ℕ) (s t : ℕ) (b : Buffers) where
   unfolding checked RightFor
   first-is-refused {k} e =
       record {
-        amounts = nothing;
-        right = subst (λ (d : Decoded). RightFor d (decode second) s t nothing) (sym e) tt;
-        result = sym (ap (λ (d : Decoded). checked d (decode second) s t b nothing) e);
+        amounts = none-sent;
+        right = subst (λ (d : Decoded). RightFor d (decode second) s t none-sent) (sym e) tt;
+        result = sym (ap (λ (d : Decoded). checked d (decode second) s t b none-sent) e);
       }
 
   module _ {M : Table} (e : decode first ≡ accepted M) where
@@ -39,9 +39,9 @@ module _ (first second : List ℕ) (s t : ℕ) (b : Buffers) where
     unfolding checked RightFor
     second-is-refused f =
         record {
-          amounts = nothing;
-          right = subst (λ (d : Decoded). RightFor d (decode second) s t nothing) (sym e) (subst (λ (d : Decoded). RightFor (accepted M) d s t nothing) (sym f) tt);
-          result = sym (ap (λ (d : Decoded). checked d (decode second) s t b nothing) e ∙ ap (λ (d : Decoded). checked (accepted M) d s t b nothing) f);
+          amounts = none-sent;
+          right = subst (λ (d : Decoded). RightFor d (decode second) s t none-sent) (sym e) (subst (λ (d : Decoded). RightFor (accepted M) d s t none-sent) (sym f) tt);
+          result = sym (ap (λ (d : Decoded). checked d (decode second) s t b none-sent) e ∙ ap (λ (d : Decoded). checked (accepted M) d s t b none-sent) f);
         }
 
     -- two accepted tables

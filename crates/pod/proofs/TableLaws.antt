@@ -7,12 +7,12 @@ use Prim.Native.Nat.{ℕ, zero, suc, _≤_}
 use native.Mathlib.Omega.{arith}
 use Rattle.simulation.specs.Limits.{most-states}
 use Rattle.table.specs.declared.parts.Layout.{Layout}
-use Rattle.table.specs.declared.parts.Answer.{Answer}
-use Rattle.table.specs.declared.parts.Answer.the-variants.{Refused, Accepted}
+use Rattle.table.specs.declared.parts.TableAnswer.{TableAnswer}
+use Rattle.table.specs.declared.parts.TableAnswer.the-variants.{Refused, Accepted}
 use Rattle.layout.specs.Bytes.{Decoded, refused, accepted, decode, refusal as refused-by}
 use Rattle.table.specs.Stages.{layout-of, answer-of, answer}
 use Rattle.table.proofs.AnswerLaws.{accepted-told}
-use Rattle.layout.proofs.Bounds.{accepted as accepted-bounds}
+use Rattle.layout.proofs.Bounds.{accepted-bounds}
 use Rattle.layout.proofs.DecodeLaws.{decode-accepted, decode-refused}
 use Rattle.answer.specs.Numbers.{refusal}
 use Rattle.pod.specs.Check.{table-answer, state-count}
@@ -34,7 +34,7 @@ module _ (s : List ℕ) where
   table-refused k e d = ap table-answer (decodes-refused k e d)
 
   -- the count of states, by what reading the table answers
-  pub counted-refused : {r : Answer} {k : ℕ} → r ≡ answer s → r ≡ Refused k → state-count (decode s) ≡ 0
+  pub counted-refused : {r : TableAnswer} {k : ℕ} → r ≡ answer s → r ≡ Refused k → state-count (decode s) ≡ 0
   unfolding state-count
   counted-refused {r} {k} e q = go (decode s) refl
     where
@@ -42,7 +42,7 @@ module _ (s : List ℕ) where
       go (refused n) p = ap state-count p
       go (accepted M) p = let h = ap answer-of p in let z : _≡_ {A = ℕ} 0 1 = cc in absurd (omega arith)
 
-  pub counted-accepted : {r : Answer} {t : Layout} → r ≡ answer s → r ≡ Accepted t → state-count (decode s) ≡ t .states
+  pub counted-accepted : {r : TableAnswer} {t : Layout} → r ≡ answer s → r ≡ Accepted t → state-count (decode s) ≡ t .states
   unfolding state-count layout-of
   counted-accepted {r} {t} e q = go (decode s) refl
     where
@@ -51,5 +51,5 @@ module _ (s : List ℕ) where
       go (accepted M) p = let h = ap answer-of p in let same : layout-of M ≡ t = cc in ap state-count p ∙ ap (λ (l : Layout). l .states) same
 
   -- and it is within the limit
-  pub counted-few : {r : Answer} {t : Layout} → r ≡ answer s → r ≡ Accepted t → t .states ≤ most-states
+  pub counted-few : {r : TableAnswer} {t : Layout} → r ≡ answer s → r ≡ Accepted t → t .states ≤ most-states
   counted-few e q = let l = accepted-told s e q in omega (arith, ap (λ (t : Layout). t .states) (l .laid), accepted-bounds s (l .passed) .of-states .few)

@@ -38,7 +38,7 @@ pub record Printed (input before : List ℕ) (written : ℕ) (after : List ℕ) 
   pub text : Filled (text-of input answer buffers) written before after
 
 -- the check refuses a tree buffer: the tree is longer
-pub record Short (input tree : List ℕ) : Type 0 where
+pub record TreeLonger (input tree : List ℕ) : Type 0 where
   pub ranks : List ℕ
   pub flow : List ℕ
   pub call : Call (first-of-input input) (second-of-input input) 0 0 (lent ranks flow tree) 22 0
@@ -46,4 +46,4 @@ pub record Short (input tree : List ℕ) : Type 0 where
 -- the text, or 0 where the tree is longer than its buffer
 pub record Answered (input tree before : List ℕ) (written : ℕ) (after : List ℕ) : Type 0 where
   pub printed : written ≢ 0 → Printed input before written after
-  pub short : written ≡ 0 → Short input tree
+  pub short : written ≡ 0 → TreeLonger input tree

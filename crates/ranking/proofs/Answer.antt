@@ -26,9 +26,9 @@ use Rattle.fit.specs.Held.{held}
 use Rattle.rounds.proofs.RoundLaws.{held-round, kept-at}
 
 -- a place of a list of p rows of q numbers is a row and a column
-pub place : (p q i : ℕ) → i < p * q → (s : ℕ) × (t : ℕ) × (s < p) × (t < q) × (i ≡ s * q + t)
-place p zero i h = absurd (omega (arith, mul-zero p))
-place p (suc q) i h = (i / suc q, i % suc q, div-lt-iff-lt-mul {k = suc q} (omega arith) .1 h, mod-lt i (omega arith), sym (div-add-mod' i (suc q)))
+pub pair-at : (p q i : ℕ) → i < p * q → (s : ℕ) × (t : ℕ) × (s < p) × (t < q) × (i ≡ s * q + t)
+pair-at p zero i h = absurd (omega (arith, mul-zero p))
+pair-at p (suc q) i h = (i / suc q, i % suc q, div-lt-iff-lt-mul {k = suc q} (omega arith) .1 h, mod-lt i (omega arith), sym (div-add-mod' i (suc q)))
 
 -- the ranks in their places, and what stands after them
 module _ (M N : Table) (ranks old : List ℕ) (room : pairs M N ≤ length old) (same : length ranks ≡ length old) where
@@ -51,7 +51,7 @@ module _ (M N : Table) (ranks old : List ℕ) (room : pairs M N ≤ length old) 
           ∙ sym (List·getD-append (rank-list M N) (drop (length (rank-list M N)) old) 0 i (omega (arith, rank-list-length M N)))
 
       go : (i : ℕ) → Dec (i < pairs M N) → getD ranks i 0 ≡ getD (over (rank-list M N) old) i 0
-      go i (yes h) = let x = place (states-of M) (states-of N) i h in at i (x .0) (x .1) (x .2) (x .3) (x .4) h
+      go i (yes h) = let x = pair-at (states-of M) (states-of N) i h in at i (x .0) (x .1) (x .2) (x .3) (x .4) h
       go i (no h) =
           let n = length (rank-list M N) in
           let e : n + (i - n) ≡ i = omega (arith, rank-list-length M N) in

@@ -1,6 +1,6 @@
 -- Laws that the proofs cite.
 -- Assumes nothing.
 pub mod Writing
-pub mod Filling
+pub mod Zeros
 pub mod Answer
 pub mod Ends

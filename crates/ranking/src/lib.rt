@@ -99,17 +99,7 @@ fn fill_ranks(
     let q = tables::states(tables, Form::SECOND);
     clear_ranks(ranks, p * q);
     narrow(rows, p, q);
-    links::link(
-        tables,
-        Form::FIRST,
-        &mut sets[Sets::BEFORE_AT..Sets::BEHIND_AT],
-    );
-    links::link(
-        tables,
-        Form::SECOND,
-        &mut sets[Sets::BEHIND_AT..Sets::TARGETS_AT],
-    );
-    fit::target_sets(tables, &mut sets[Sets::TARGETS_AT..Sets::WORDS]);
+    links::fill_sets(tables, sets);
     rounds::refine(tables, ranks, sets, rows, marks, tried, amounts)
 }
 

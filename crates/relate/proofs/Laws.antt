@@ -21,7 +21,7 @@ use Rattle.relation.specs.Words.{mask, row-of, height, put-row}
 use Rattle.relation.specs.declared.set.Set.{Set}
 use Rattle.relation.proofs.Sets.{length-put, row-put, row-put-other}
 use Rattle.relation.specs.Ranks.{lasts}
-use Rattle.relate.specs.Rows.{row, Indexed, Rows}
+use Rattle.relate.specs.Rows.{ranked-row, Indexed, Rows}
 
 -- the ranks have a place for s and each of the first targets, and of the others
 module _ (ranks : List ℕ) (width s : ℕ) (nt : List ℕ) (k : ℕ) (h : Indexed ranks width s nt) where
@@ -40,24 +40,24 @@ module _ (ranks : List ℕ) (width r : ℕ) (mt nt rel : List ℕ) where
   -- the rows of the first n targets are written
   pub record Done (n : ℕ) (rel′ : List ℕ) : Type 0 where
     pub size : length rel′ ≡ length rel
-    pub masks : (i : ℕ) → i < n → member (row-of rel′ i) ≡ part (length nt) (row ranks width r (getD mt i 0) nt)
+    pub masks : (i : ℕ) → i < n → member (row-of rel′ i) ≡ part (length nt) (ranked-row ranks width r (getD mt i 0) nt)
     pub rest : (i : ℕ) → n ≤ i → row-of rel′ i ≡ row-of rel i
 
   pub done-start : Done 0 rel
   done-start = record { size = refl; masks = λ i lt. absurd (not-suc-le-zero lt); rest = λ i _. refl }
 
   pub done-next : (n : ℕ) (x : Set) (rel′ : List ℕ) → n < height rel → Done n rel′
-      → member (mask x) ≡ part (length nt) (row ranks width r (getD mt n 0) nt) → Done (n + 1) (put-row rel′ n x)
+      → member (mask x) ≡ part (length nt) (ranked-row ranks width r (getD mt n 0) nt) → Done (n + 1) (put-row rel′ n x)
   done-next n x rel′ room d e = record {
     size = length-put rel′ n x ∙ d .size;
     masks = λ i lt. at i lt (ℕ-discrete i n);
     rest = λ i le. row-put-other rel′ n i x (λ q. omega arith) ∙ d .rest i (omega arith);
   }
     where
-      at : (i : ℕ) → i < n + 1 → Dec (i ≡ n) → member (row-of (put-row rel′ n x) i) ≡ part (length nt) (row ranks width r (getD mt i 0) nt)
+      at : (i : ℕ) → i < n + 1 → Dec (i ≡ n) → member (row-of (put-row rel′ n x) i) ≡ part (length nt) (ranked-row ranks width r (getD mt i 0) nt)
       at i lt (yes q) =
           ap (λ (k : ℕ). member (row-of (put-row rel′ n x) k)) q ∙ ap member (row-put rel′ n x (omega (arith, d .size))) ∙ e
-          ∙ ap (λ (k : ℕ). part (length nt) (row ranks width r (getD mt k 0) nt)) (sym q)
+          ∙ ap (λ (k : ℕ). part (length nt) (ranked-row ranks width r (getD mt k 0) nt)) (sym q)
       at i lt (no q) = ap member (row-put-other rel′ n i x q) ∙ d .masks i (omega arith)
 
   pub done-rows : (rel′ : List ℕ) → Done (length mt) rel′ → Rows ranks width r mt nt rel rel′
@@ -85,7 +85,7 @@ module _ (M N : Table) (ranks : List ℕ) (right : (s t : ℕ) → s < states-of
     row-test : (r : ℕ) → Rows ranks (states-of N) r mt nt rel rel′ → (i j : ℕ) → i < length mt → j < length nt
         → member (row-of rel′ i) j ≡ lasts r (rank M N (getD mt i 0) (getD nt j 0))
     row-test r w i j li lj =
-        ap (λ X. X j) (w .masks i li) ∙ ap (λ c. c && row ranks (states-of N) r (getD mt i 0) nt j) (lt-ltb j (length nt) lj)
+        ap (λ X. X j) (w .masks i li) ∙ ap (λ c. c && ranked-row ranks (states-of N) r (getD mt i 0) nt j) (lt-ltb j (length nt) lj)
         ∙ ap (lasts r) (right (getD mt i 0) (getD nt j 0) (a i li) (b j lj))
 
     pub rows-round : (r : ℕ) → Rows ranks (states-of N) (suc r) mt nt rel rel′ → (i j : ℕ) → i < length mt → j < length nt

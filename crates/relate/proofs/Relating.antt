@@ -17,10 +17,10 @@ use Rattle.form.specs.Form.{transitions-of}
 use Rattle.form.specs.Tables.{first-form, second-form, first-table, second-table, first-step, second-step}
 use Rattle.form.proofs.FormLaws.{limited-at, targets-length}
 use Rattle.matrix.specs.Problem.{Given}
-use Rattle.relate.specs.Ranked.{Ranked}
+use Rattle.relate.specs.Ranked.{RanksRight}
 use Rattle.relate.proofs.Places.{few-places, targets-count, target-state, weights-count, weights-positive}
 
-module _ {tables ranks : List ℕ} (j k : ℕ) (g : Ranked tables ranks) (from-first : j < transitions-of (first-form tables)) (from-second : k < transitions-of (second-form tables)) where
+module _ {tables ranks : List ℕ} (j k : ℕ) (g : RanksRight tables ranks) (from-first : j < transitions-of (first-form tables)) (from-second : k < transitions-of (second-form tables)) where
   abbrev M : Table
   M = first-table tables
 

@@ -8,7 +8,7 @@ use Rattle.simulation.specs.Table.{states-of}
 use Rattle.simulation.specs.Round.{pairs, rank}
 use Rattle.form.specs.Tables.{first-table, second-table, BothLoaded}
 
-pub record Ranked (tables ranks : List ℕ) : Type 0 where
+pub record RanksRight (tables ranks : List ℕ) : Type 0 where
   pub loaded : BothLoaded tables
   pub enough : pairs (first-table tables) (second-table tables) ≤ length ranks
   pub ranked : (s t : ℕ) → s < states-of (first-table tables) → t < states-of (second-table tables)

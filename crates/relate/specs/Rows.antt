@@ -9,8 +9,8 @@ use Rattle.relation.specs.Words.{row-of}
 use Rattle.relation.specs.Ranks.{lasts}
 
 -- the state s is related to the target at position j
-abbrev pub row : List ℕ → (width r s : ℕ) → List ℕ → Test
-row ranks width r s nt j = lasts r (getD ranks (s * width + getD nt j 0) 0)
+abbrev pub ranked-row : List ℕ → (width r s : ℕ) → List ℕ → Test
+ranked-row ranks width r s nt j = lasts r (getD ranks (s * width + getD nt j 0) 0)
 
 -- the ranks have a place for s and each target
 abbrev pub Indexed : List ℕ → (width s : ℕ) → List ℕ → Type 0
@@ -19,5 +19,5 @@ Indexed ranks width s nt = (j : ℕ) → j < length nt → s * width + getD nt j
 -- row i is that of the target at position i of mt; nothing else changes
 pub record Rows (ranks : List ℕ) (width r : ℕ) (mt nt rel rel′ : List ℕ) : Type 0 where
   pub size : length rel′ ≡ length rel
-  pub masks : (i : ℕ) → i < length mt → member (row-of rel′ i) ≡ part (length nt) (row ranks width r (getD mt i 0) nt)
+  pub masks : (i : ℕ) → i < length mt → member (row-of rel′ i) ≡ part (length nt) (ranked-row ranks width r (getD mt i 0) nt)
   pub rest : (i : ℕ) → length mt ≤ i → row-of rel′ i ≡ row-of rel i

@@ -11,12 +11,12 @@ ghost use lib.ListN.{length, getD};
 ghost use Rattle.simulation.specs.Limits.{most-states};
 ghost use Rattle.relation.specs.Mask.{member, part};
 ghost use Rattle.relation.specs.Words.{word-bits, mask, height};
-ghost use Rattle.relate.specs.Rows.{row, Indexed, Rows};
+ghost use Rattle.relate.specs.Rows.{ranked-row, Indexed, Rows};
 
 // The targets of nt, at most as many as a word has bits, that the state s is related to, by position.
 fn row_word(ranks: &[u16], width: usize, r: u16, s: usize, nt: &[u16]) -> Word
     requires { ⌜ (length (now nt) ≤ word-bits) × Indexed (now ranks) width s (now nt) ⌝ }
-    ensures { λ b. ⌜ member b ≡ part (length (now (nt .entry))) (row (now (ranks .entry)) width r s (now (nt .entry))) ⌝ }
+    ensures { λ b. ⌜ member b ≡ part (length (now (nt .entry))) (ranked-row (now (ranks .entry)) width r s (now (nt .entry))) ⌝ }
 {
     let mut set: Word = 0;
     for j in 0..nt.len() {
@@ -30,7 +30,7 @@ fn row_word(ranks: &[u16], width: usize, r: u16, s: usize, nt: &[u16]) -> Word
 // The targets of nt that the state s is related to, by position.
 pub fn row(ranks: &[u16], width: usize, r: u16, s: usize, nt: &[u16]) -> Set
     requires { ⌜ (length (now nt) ≤ most-states) × Indexed (now ranks) width s (now nt) ⌝ }
-    ensures { λ b. ⌜ member (mask b) ≡ part (length (now (nt .entry))) (row (now (ranks .entry)) width r s (now (nt .entry))) ⌝ }
+    ensures { λ b. ⌜ member (mask b) ≡ part (length (now (nt .entry))) (ranked-row (now (ranks .entry)) width r s (now (nt .entry))) ⌝ }
 {
     let n = nt.len();
     let mut row = set::empty();

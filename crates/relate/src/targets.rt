@@ -10,11 +10,11 @@ ghost use Rattle.simulation.specs.Table.{targets, states-of};
 ghost use Rattle.form.specs.Form.{transitions-of};
 ghost use Rattle.form.specs.Tables.{first-form, second-form, second-table, first-step, second-step};
 ghost use Rattle.relate.specs.Rows.{Rows};
-ghost use Rattle.relate.specs.Ranked.{Ranked};
+ghost use Rattle.relate.specs.Ranked.{RanksRight};
 
 // Row i of rel becomes that of the target at position i of the transition j, over the targets of the transition k, in the round before round r.
 pub fn rows(tables: &[u16], ranks: &[u16], r: u16, j: usize, k: usize, rel: &mut [Word])
-    requires { ⌜ Ranked (now tables) (now ranks) × (j < transitions-of (first-form (now tables))) × (k < transitions-of (second-form (now tables)))
+    requires { ⌜ RanksRight (now tables) (now ranks) × (j < transitions-of (first-form (now tables))) × (k < transitions-of (second-form (now tables)))
         × (length (targets (first-step (now tables) j)) ≤ height (now rel)) ⌝ }
     ensures { λ _. ⌜ Rows (now (ranks .entry)) (states-of (second-table (now (tables .entry)))) r
         (targets (first-step (now (tables .entry)) j)) (targets (second-step (now (tables .entry)) k)) (now (rel .entry)) (now (rel .exit)) ⌝ }

@@ -18,7 +18,8 @@ use lib.Count.{ones, ones-step, trailingZeros}
 use Rattle.simulation.specs.Sum.{sum, when}
 use Rattle.simulation.proofs.Finite.Tests.{is-true, and-left, and-right}
 use Rattle.simulation.proofs.Finite.Sums.{sum-first, sum-ext, sum-zero, sum-change}
-use Rattle.relation.specs.Mask.{Test, member, only, up-to, without-member, either, both, except, part, from, size, Lowest, bit, with-bit}
+use Rattle.relation.specs.Mask.{Test, member, only, up-to, without-member, either, both, except, part, from-place, size, Lowest, bit, with-bit}
+use Rattle.relation.specs.Words.{word-bits}
 
 two-pos : zero < 2
 two-pos = zero-lt-suc 1
@@ -166,6 +167,10 @@ lowest-of (suc k) x h pos = go (λ p. lowest-of k (x / 2) (half-lt k h) p) (x % 
     go ih (suc zero) e lt = rw (tz-odd k x e) (zero-lt-suc k, lowest-odd x e)
     go ih (suc (suc d)) e lt = absurd (not-suc-le-zero (le-of-suc-le-suc (le-of-suc-le-suc lt)))
 
+-- a mask that is not 0 has a member
+pub some-member : (n x : ℕ) → x < 2 ^ n → x ≢ 0 → (t : ℕ) × (member x t ≡ true)
+some-member n x h d = let l = lowest-of n x h (omega arith) in (_, l .1 .here)
+
 -- a set has one lowest member
 pub lowest-unique : (X : Test) (t u : ℕ) → Lowest X t → Lowest X u → t ≡ u
 lowest-unique X t u a b = le-antisymm (first X t u a b) (first X u t b a)
@@ -223,13 +228,13 @@ member-ones k t = ⊎-elim
 pub none-is : member 0 ≡ (λ t. false)
 none-is = fun-ext member-none
 
-pub power-is : (t : ℕ) → t < 64 → 1 * 2 ^ t % 2 ^ 64 ≡ 2 ^ t
-power-is t lt = shl-exact 1 t 64 (lit< tt) (omega arith) ∙ one-mul (2 ^ t)
+pub power-is : (t : ℕ) → t < word-bits → 1 * 2 ^ t % 2 ^ word-bits ≡ 2 ^ t
+power-is t lt = shl-exact 1 t word-bits (lit< tt) (omega arith) ∙ one-mul (2 ^ t)
 
-pub only-is : (t : ℕ) → t < 64 → member (1 * 2 ^ t % 2 ^ 64) ≡ only t
+pub only-is : (t : ℕ) → t < word-bits → member (1 * 2 ^ t % 2 ^ word-bits) ≡ only t
 only-is t lt = fun-ext (λ k. ap (λ (n : ℕ). member n k) (power-is t lt) ∙ member-only t k)
 
-pub up-to-is : (n : ℕ) → n < 64 → member (1 * 2 ^ n % 2 ^ 64 - 1) ≡ up-to n
+pub up-to-is : (n : ℕ) → n < word-bits → member (1 * 2 ^ n % 2 ^ word-bits - 1) ≡ up-to n
 up-to-is n lt = fun-ext (λ k. ap (λ (m : ℕ). member (m - 1) k) (power-is n lt) ∙ member-ones n k)
 
 pub either-is : (a b : ℕ) → member (bitOr a b) ≡ either (member a) (member b)
@@ -238,16 +243,16 @@ either-is a b = fun-ext (member-or a b)
 pub both-is : (a b : ℕ) → member (bitAnd a b) ≡ both (member a) (member b)
 both-is a b = fun-ext (member-and a b)
 
-pub except-is : (x y : ℕ) → x < 2 ^ 64 → y < 2 ^ 64 → member (bitAnd x ((2 ^ 64 - 1) - y)) ≡ except (member x) (member y)
-except-is x y hx hy = fun-ext (λ k. member-and x ((2 ^ 64 - 1) - y) k ∙ at k)
+pub except-is : (x y : ℕ) → x < 2 ^ word-bits → y < 2 ^ word-bits → member (bitAnd x ((2 ^ word-bits - 1) - y)) ≡ except (member x) (member y)
+except-is x y hx hy = fun-ext (λ k. member-and x ((2 ^ word-bits - 1) - y) k ∙ at k)
   where
-    at : (k : ℕ) → (member x k && member ((2 ^ 64 - 1) - y) k) ≡ (member x k && not (member y k))
+    at : (k : ℕ) → (member x k && member ((2 ^ word-bits - 1) - y) k) ≡ (member x k && not (member y k))
     at k = ⊎-elim
-        (λ lt. ap (λ b. member x k && b) (member-not 64 y k hy lt))
-        (λ le. let z = member-high 64 x k hx le in ap (λ b. b && member ((2 ^ 64 - 1) - y) k) z ∙ ap (λ b. b && not (member y k)) (sym z))
-        (below-or-not k 64)
+        (λ lt. ap (λ b. member x k && b) (member-not word-bits y k hy lt))
+        (λ le. let z = member-high word-bits x k hx le in ap (λ b. b && member ((2 ^ word-bits - 1) - y) k) z ∙ ap (λ b. b && not (member y k)) (sym z))
+        (below-or-not k word-bits)
 
-pub without-is : (x y t : ℕ) → x < 2 ^ 64 → y < 2 ^ 64 → member y ≡ only t → member (bitAnd x ((2 ^ 64 - 1) - y)) ≡ without-member t (member x)
+pub without-is : (x y t : ℕ) → x < 2 ^ word-bits → y < 2 ^ word-bits → member y ≡ only t → member (bitAnd x ((2 ^ word-bits - 1) - y)) ≡ without-member t (member x)
 without-is x y t hx hy e = except-is x y hx hy ∙ ap (λ X. except (member x) X) e
 
 -- a digit as a number, as the code takes it
@@ -264,12 +269,12 @@ one-is true = refl
 one-is false = refl
 
 -- a number joins where its digit says so
-pub with-bit-is : (x t b : ℕ) → t < 64 → b < 2 → member (bitOr (b * 2 ^ t % 2 ^ 64) x) ≡ with-bit t b (member x)
+pub with-bit-is : (x t b : ℕ) → t < word-bits → b < 2 → member (bitOr (b * 2 ^ t % 2 ^ word-bits) x) ≡ with-bit t b (member x)
 with-bit-is x t zero lt h =
-    either-is (0 * 2 ^ t % 2 ^ 64) x
-    ∙ fun-ext (λ k. ap (λ (n : ℕ). member (n % 2 ^ 64) k || member x k) (zero-mul (2 ^ t)) ∙ ap (λ c. c || member x k) (member-none k ∙ sym (and-false (eqb k t))))
+    either-is (0 * 2 ^ t % 2 ^ word-bits) x
+    ∙ fun-ext (λ k. ap (λ (n : ℕ). member (n % 2 ^ word-bits) k || member x k) (zero-mul (2 ^ t)) ∙ ap (λ c. c || member x k) (member-none k ∙ sym (and-false (eqb k t))))
 with-bit-is x t (suc zero) lt h =
-    either-is (1 * 2 ^ t % 2 ^ 64) x
+    either-is (1 * 2 ^ t % 2 ^ word-bits) x
     ∙ fun-ext (λ k. ap (λ c. c || member x k) (ap (λ X. X k) (only-is t lt) ∙ sym (and-true (eqb k t))))
 with-bit-is x t (suc (suc b)) lt h = absurd (not-suc-le-zero (le-of-suc-le-suc (le-of-suc-le-suc h)))
 
@@ -345,10 +350,10 @@ part-bit X n x y b e h f =
     f ∙ ap (λ Y. with-bit n b Y) e ∙ fun-ext (λ k. sym (part-next X n k ∙ ap (λ c. (eqb k n && c) || part n X k) (sym (ap (λ (m : ℕ). eqb m 1) h ∙ one-is (X n)))))
 
 -- a walk over the members, lowest first: what is left has the members from n on
-pub walk-start : (X : Test) → X ≡ from 0 X
+pub walk-start : (X : Test) → X ≡ from-place 0 X
 walk-start X = fun-ext (λ k. ap (λ b. b && X k) (sym (le-leb 0 k zero-le)))
 
-module _ (X : Test) (n t x : ℕ) (left : member x ≡ from n X) (l : Lowest (member x) t) where
+module _ (X : Test) (n t x : ℕ) (left : member x ≡ from-place n X) (l : Lowest (member x) t) where
   walk-here : (leb n t && X t) ≡ true
   walk-here = sym (ap (λ Y. Y t) left) ∙ l .here
 
@@ -362,7 +367,7 @@ module _ (X : Test) (n t x : ℕ) (left : member x ≡ from n X) (l : Lowest (me
   pub walk-between : (k : ℕ) → n ≤ k → k < t → X k ≡ false
   walk-between k le lt = ap (λ b. b && X k) (sym (le-leb n k le)) ∙ sym (ap (λ Y. Y k) left) ∙ l .before k lt
 
-  pub walk-next : (y : ℕ) → member y ≡ without-member t (member x) → member y ≡ from (t + 1) X
+  pub walk-next : (y : ℕ) → member y ≡ without-member t (member x) → member y ≡ from-place (t + 1) X
   walk-next y e = e ∙ fun-ext (λ k. at k (order k t))
     where
       at : (k : ℕ) → (k < t) ⊎ ((k ≡ t) ⊎ (t < k)) → (member x k && not (eqb k t)) ≡ (leb (t + 1) k && X k)
@@ -372,7 +377,7 @@ module _ (X : Test) (n t x : ℕ) (left : member x ≡ from n X) (l : Lowest (me
           rw (ne-eqb k t (λ e. omega arith), le-leb (t + 1) k (omega arith))
           (and-true (member x k) ∙ ap (λ Y. Y k) left ∙ ap (λ b. b && X k) (le-leb n k (omega (arith, walk-from))))
 
-pub walk-end : (X : Test) (n : ℕ) → member 0 ≡ from n X → (k : ℕ) → n ≤ k → X k ≡ false
+pub walk-end : (X : Test) (n : ℕ) → member 0 ≡ from-place n X → (k : ℕ) → n ≤ k → X k ≡ false
 walk-end X n e k le = ap (λ b. b && X k) (sym (le-leb n k le)) ∙ sym (ap (λ Y. Y k) e) ∙ member-none k
 
 -- sizes

@@ -8,7 +8,7 @@ use lib.ListN.{getD, set, take, drop, length-take, length-drop, List·getD-eq-de
 use lib.Seq.{getD-take, getD-drop, take-set-le, take-set-lt, drop-set-lt, drop-set-add}
 use Rattle.relation.specs.Words.{words, word-of, row-of, height, rows-in, put-words, put-row}
 use Rattle.relation.specs.declared.set.Set.{Set}
-use Rattle.relation.proofs.Words.{steps, number-ext, number-none}
+use Rattle.relation.proofs.Words.{equation, number-ext, number-none}
 
 -- words written into a list of which only the first k, or all after the first k, are wanted
 module _ (k : ℕ) (l : List ℕ) (at : ℕ) (f : ℕ → ℕ) where
@@ -26,7 +26,7 @@ module _ (k : ℕ) (l : List ℕ) (at : ℕ) (f : ℕ → ℕ) where
   unfolding put-words
   drop-words zero = refl
   drop-words (suc n) =
-      ap (λ (i : ℕ). drop k (set (put-words n l (k + at) f) i (f n))) (steps (k + at + n) (k + (at + n)) (omega arith))
+      ap (λ (i : ℕ). drop k (set (put-words n l (k + at) f) i (f n))) (equation (k + at + n) (k + (at + n)) (omega arith))
       ∙ drop-set-add k (put-words n l (k + at) f) (at + n) (f n) ∙ ap (λ m. set m (at + n) (f n)) (drop-words n)
 
   drop-words-before : (n : ℕ) → at + n ≤ k → drop k (put-words n l at f) ≡ drop k l
@@ -43,7 +43,7 @@ module _ (a n : ℕ) (l : List ℕ) where
   part-row s lt =
       number-ext words (λ i. getD (rows-in a n l) (s * words + i) 0) (λ i. getD l ((a + s) * words + i) 0)
       (λ i li. getD-take (n * words) (drop (a * words) l) (s * words + i) 0 (omega arith) ∙ getD-drop (a * words) l (s * words + i) 0
-      ∙ ap (λ (k : ℕ). getD l k 0) (steps (a * words + (s * words + i)) ((a + s) * words + i) (omega arith)))
+      ∙ ap (λ (k : ℕ). getD l k 0) (equation (a * words + (s * words + i)) ((a + s) * words + i) (omega arith)))
 
   -- no row past the part
   pub part-past : (s : ℕ) → n ≤ s → row-of (rows-in a n l) s ≡ 0
@@ -55,7 +55,7 @@ module _ (a n : ℕ) (l : List ℕ) where
   pub part-put : (s : ℕ) (x : Set) → s < n → rows-in a n (put-row l (a + s) x) ≡ put-row (rows-in a n l) s x
   unfolding put-row
   part-put s x lt =
-      ap (λ (k : ℕ). rows-in a n (put-words words l k (word-of x))) (steps ((a + s) * words) (a * words + s * words) (omega arith))
+      ap (λ (k : ℕ). rows-in a n (put-words words l k (word-of x))) (equation ((a + s) * words) (a * words + s * words) (omega arith))
       ∙ ap (take (n * words)) (drop-words (a * words) l (s * words) (word-of x) words)
       ∙ take-words (n * words) (drop (a * words) l) (s * words) (word-of x) words (omega arith)
 
@@ -67,6 +67,6 @@ module _ (a n : ℕ) (l : List ℕ) where
   pub part-put-after : (s : ℕ) (x : Set) → a + n ≤ s → rows-in a n (put-row l s x) ≡ rows-in a n l
   unfolding put-row
   part-put-after s x le =
-      ap (λ (k : ℕ). rows-in a n (put-words words l k (word-of x))) (steps (s * words) (a * words + (s - a) * words) (omega arith))
+      ap (λ (k : ℕ). rows-in a n (put-words words l k (word-of x))) (equation (s * words) (a * words + (s - a) * words) (omega arith))
       ∙ ap (take (n * words)) (drop-words (a * words) l ((s - a) * words) (word-of x) words)
       ∙ take-words-after (n * words) (drop (a * words) l) ((s - a) * words) (word-of x) words (omega arith)

@@ -15,8 +15,9 @@ use borrow.Author.Tests.{lt-ltb, le-ltb, eq-eqb, ne-eqb}
 use Rattle.simulation.specs.Limits.{most-states}
 use Rattle.simulation.specs.Sum.{sum}
 use Rattle.simulation.proofs.Finite.Sums.{sum-bound, members-most}
+use Rattle.simulation.proofs.Finite.Lists.{zeros-at}
 use Rattle.relation.specs.Mask.{Test, member, up-to, without-member, size}
-use Rattle.relation.specs.Words.{words, row-of}
+use Rattle.relation.specs.Words.{word-bits, words, row-of}
 use Rattle.relation.specs.Related.{related, none, all-below, without, pairs-of}
 use Rattle.relation.specs.declared.Relation.{Relation}
 use Rattle.relation.proofs.Mask.{member-none, member-ones, below-or-not}
@@ -25,6 +26,11 @@ use Rattle.relation.proofs.Sets.{place-of}
 
 abbrev of-rows : List ℕ → Relation
 of-rows l = record { rows = l }
+
+-- a row of zeros has no member
+pub zero-row : (l : List ℕ) → ((i : ℕ) → getD l i 0 ≡ 0) → (s : ℕ) → row-of l s ≡ 0
+unfolding row-of
+zero-row l zero-at s = number-none words (λ i. getD l (s * words + i) 0) (λ i lt. zero-at (s * words + i))
 
 -- a relation of words that are all the same
 module _ (x : ℕ) where
@@ -35,21 +41,20 @@ module _ (x : ℕ) where
   word-out k le = List·getD-eq-default (replicate (most-states * words) x) 0 {n = k} (subst (λ (m : ℕ). m ≤ k) (sym (length-replicate (most-states * words) x)) le)
 
 pub row-none : (s : ℕ) → row-of (replicate (most-states * words) 0) s ≡ 0
-unfolding row-of
-row-none s = number-none words (λ i. getD (replicate (most-states * words) 0) (s * words + i) 0) (λ i _. ⊎-elim (λ lt. word-in 0 (s * words + i) lt) (λ le. word-out 0 (s * words + i) le) (below-or-not (s * words + i) (most-states * words)))
+row-none = zero-row (replicate (most-states * words) 0) (zeros-at (most-states * words))
 
 pub empty-is : related (of-rows (replicate (most-states * words) 0)) ≡ none
 unfolding related
 empty-is = fun-ext (λ s. fun-ext (λ t. ap (λ (x : ℕ). member x t) (row-none s) ∙ member-none t))
 
 abbrev ones : ℕ
-ones = 2 ^ 64 - 1
+ones = 2 ^ word-bits - 1
 
 full-row : (s : ℕ) → s < most-states → member (row-of (replicate (most-states * words) ones) s) ≡ up-to most-states
 unfolding row-of
 full-row s lt =
     words-are words (λ i. getD (replicate (most-states * words) ones) (s * words + i) 0) (up-to most-states)
-    (λ i u li lu. ap (λ (x : ℕ). member x u) (word-in ones (s * words + i) (omega arith)) ∙ member-ones 64 u ∙ lt-ltb u 64 lu ∙ sym (lt-ltb (i * 64 + u) most-states (omega arith)))
+    (λ i u li lu. ap (λ (x : ℕ). member x u) (word-in ones (s * words + i) (omega arith)) ∙ member-ones word-bits u ∙ lt-ltb u word-bits lu ∙ sym (lt-ltb (i * word-bits + u) most-states (omega arith)))
     (λ t le. le-ltb t most-states le)
 
 no-row : (s : ℕ) → most-states ≤ s → row-of (replicate (most-states * words) ones) s ≡ 0
@@ -64,28 +69,28 @@ full-is = fun-ext (λ s. fun-ext (λ t. ⊎-elim
     (below-or-not s most-states)))
 
 -- a word that lacks t in the place of its word in row s
-module _ (l : List ℕ) (s t x : ℕ) (lt : t < most-states) (room : s * words + t / 64 < length l) (e : member x ≡ without-member (t % 64) (member (getD l (s * words + t / 64) 0))) where
-  removed-row : member (row-of (set l (s * words + t / 64) x) s) ≡ without-member t (member (row-of l s))
+module _ (l : List ℕ) (s t x : ℕ) (lt : t < most-states) (room : s * words + t / word-bits < length l) (e : member x ≡ without-member (t % word-bits) (member (getD l (s * words + t / word-bits) 0))) where
+  removed-row : member (row-of (set l (s * words + t / word-bits) x) s) ≡ without-member t (member (row-of l s))
   unfolding row-of
   removed-row =
-      word-put (λ d b. b && not d) and-true words (λ i. getD l (s * words + i) 0) (λ i. getD (set l (s * words + t / 64) x) (s * words + i) 0) (t / 64) (t % 64) (omega arith) (omega arith)
-      (λ v. ap (λ (y : ℕ). member y v) (getD-set-same l (s * words + t / 64) x 0 room) ∙ ap (λ X. X v) e)
-      (λ j _ ne. getD-set-other l (s * words + t / 64) (s * words + j) x 0 (λ q. ne (omega arith)))
+      word-put (λ d b. b && not d) and-true words (λ i. getD l (s * words + i) 0) (λ i. getD (set l (s * words + t / word-bits) x) (s * words + i) 0) (t / word-bits) (t % word-bits) (omega arith) (omega arith)
+      (λ v. ap (λ (y : ℕ). member y v) (getD-set-same l (s * words + t / word-bits) x 0 room) ∙ ap (λ X. X v) e)
+      (λ j _ ne. getD-set-other l (s * words + t / word-bits) (s * words + j) x 0 (λ q. ne (omega arith)))
       ∙ ap (λ (m : ℕ). without-member m (member (row-of l s))) (place-of t)
 
-  other-row : (a : ℕ) → a ≢ s → row-of (set l (s * words + t / 64) x) a ≡ row-of l a
+  other-row : (a : ℕ) → a ≢ s → row-of (set l (s * words + t / word-bits) x) a ≡ row-of l a
   unfolding row-of
   other-row a ne =
-      number-ext words (λ i. getD (set l (s * words + t / 64) x) (a * words + i) 0) (λ i. getD l (a * words + i) 0)
-      (λ i li. getD-set-other l (s * words + t / 64) (a * words + i) x 0 (λ q. ne (omega arith)))
+      number-ext words (λ i. getD (set l (s * words + t / word-bits) x) (a * words + i) 0) (λ i. getD l (a * words + i) 0)
+      (λ i li. getD-set-other l (s * words + t / word-bits) (a * words + i) x 0 (λ q. ne (omega arith)))
 
-  pub removed : related (of-rows (set l (s * words + t / 64) x)) ≡ without s t (related (of-rows l))
+  pub removed : related (of-rows (set l (s * words + t / word-bits) x)) ≡ without s t (related (of-rows l))
   unfolding related
   removed = fun-ext (λ a. fun-ext (λ b. at a b (ℕ-discrete a s)))
     where
-      at : (a b : ℕ) → Dec (a ≡ s) → member (row-of (set l (s * words + t / 64) x) a) b ≡ (member (row-of l a) b && not (eqb a s && eqb b t))
+      at : (a b : ℕ) → Dec (a ≡ s) → member (row-of (set l (s * words + t / word-bits) x) a) b ≡ (member (row-of l a) b && not (eqb a s && eqb b t))
       at a b (yes p) =
-          ap (λ (k : ℕ). member (row-of (set l (s * words + t / 64) x) k) b) p ∙ ap (λ X. X b) removed-row
+          ap (λ (k : ℕ). member (row-of (set l (s * words + t / word-bits) x) k) b) p ∙ ap (λ X. X b) removed-row
           ∙ ap (λ (k : ℕ). member (row-of l k) b && not (eqb b t)) (sym p) ∙ ap (λ q. member (row-of l a) b && not (q && eqb b t)) (sym (eq-eqb a s p))
       at a b (no n) =
           ap (λ (y : ℕ). member y b) (other-row a n) ∙ sym (and-true (member (row-of l a) b))

@@ -1,7 +1,7 @@
 -- Sets of states, rows and walks: the laws of numbers made of words, at the words of a set.
 -- Assumes nothing.
 use mathlib.Core.Path.{_≡_, refl, sym, ap, ap₂, _∙_, subst, fun-ext}
-use mathlib.Core.Bool.{Bool, true, false, cond, not, _&&_, _||_, true≢false}
+use mathlib.Core.Bool.{Bool, true, false, cond, not, _&&_, true≢false}
 use mathlib.Core.List.{List, [], _∷_}
 use mathlib.Core.Logic.{_⊎_, inl, inr, ⊎-elim, _≢_}
 use native.Mathlib.Decide.{ℕ-discrete}
@@ -16,10 +16,11 @@ use lib.Seq.{getD-set-same, getD-set-other, getD-take, getD-drop}
 use Rattle.simulation.specs.Sum.{sum}
 use Rattle.relation.specs.Mask.{Test, member, up-to, without-member, both, except, part, size, Lowest}
 use Rattle.simulation.specs.Limits.{most-states}
-use Rattle.relation.specs.Words.{words, word-of, mask, row-of, height, put-row, rest, after}
+use Rattle.simulation.proofs.Finite.Tests.{neither-true}
+use Rattle.relation.specs.Words.{word-bits, words, word-of, mask, row-of, height, put-row, rest, after}
 use Rattle.relation.specs.declared.set.Set.{Set}
 use Rattle.relation.proofs.Mask.{member-none, member-or, below-or-not, no-member}
-use Rattle.relation.proofs.Words.{steps, bit-at, number-lt, words-are, number-ext, number-none, word-wise, word-put, number-lowest, number-drop, number-less, words-size, length-words, words-there, words-other}
+use Rattle.relation.proofs.Words.{equation, bit-at, number-lt, words-are, number-ext, number-none, word-wise, word-put, number-lowest, number-drop, number-less, words-size, length-words, words-there, words-other}
 
 abbrev pub of-words : List ℕ → Set
 of-words l = record { words = l }
@@ -38,12 +39,12 @@ unfolding mask
 mask-lt s = number-lt words (word-of s)
 
 -- the bit of t, as the code finds it
-pub place-of : (t : ℕ) → t / 64 * 64 + t % 64 ≡ t
+pub place-of : (t : ℕ) → t / word-bits * word-bits + t % word-bits ≡ t
 place-of t = omega arith
 
-pub mask-bit : (s : Set) (t : ℕ) → t < most-states → member (word-of s (t / 64)) (t % 64) ≡ member (mask s) t
+pub mask-bit : (s : Set) (t : ℕ) → t < most-states → member (word-of s (t / word-bits)) (t % word-bits) ≡ member (mask s) t
 unfolding mask
-mask-bit s t lt = sym (bit-at words (word-of s) (t / 64) (t % 64) (omega arith) (omega arith)) ∙ ap (member (mask s)) (place-of t)
+mask-bit s t lt = sym (bit-at words (word-of s) (t / word-bits) (t % word-bits) (omega arith) (omega arith)) ∙ ap (member (mask s)) (place-of t)
 
 pub mask-none : mask (of-words (0 ∷ 0 ∷ [])) ≡ 0
 unfolding mask
@@ -54,22 +55,18 @@ zero-words : (s : Set) → word-of s 0 ≡ 0 → word-of s 1 ≡ 0 → mask s �
 unfolding mask
 zero-words s a b = number-none words (word-of s) (two (λ i. word-of s i ≡ 0) a b)
 
-word-zero : (s : Set) (i : ℕ) → i < words → word-of s i < 2 ^ 64 → mask s ≡ 0 → word-of s i ≡ 0
+word-zero : (s : Set) (i : ℕ) → i < words → word-of s i < 2 ^ word-bits → mask s ≡ 0 → word-of s i ≡ 0
 unfolding mask
 word-zero s i li h e =
-    no-member 64 (word-of s i) h (λ u lu. sym (bit-at words (word-of s) i u li lu) ∙ ap (λ (n : ℕ). member n (i * 64 + u)) e ∙ member-none (i * 64 + u))
+    no-member word-bits (word-of s i) h (λ u lu. sym (bit-at words (word-of s) i u li lu) ∙ ap (λ (n : ℕ). member n (i * word-bits + u)) e ∙ member-none (i * word-bits + u))
 
-neither : (a b : Bool) → (a || b) ≡ false → (a ≡ false) × (b ≡ false)
-neither true b e = absurd (true≢false e)
-neither false b e = (refl, e)
-
-or-zero : (a b : ℕ) → a < 2 ^ 64 → b < 2 ^ 64 → bitOr a b ≡ 0 → (a ≡ 0) × (b ≡ 0)
+or-zero : (a b : ℕ) → a < 2 ^ word-bits → b < 2 ^ word-bits → bitOr a b ≡ 0 → (a ≡ 0) × (b ≡ 0)
 or-zero a b ha hb e =
-    let at : (u : ℕ) → (member a u ≡ false) × (member b u ≡ false) = λ u. neither (member a u) (member b u) (sym (member-or a b u) ∙ ap (λ (n : ℕ). member n u) e ∙ member-none u) in
-    (no-member 64 a ha (λ u _. at u .0), no-member 64 b hb (λ u _. at u .1))
+    let at : (u : ℕ) → (member a u ≡ false) × (member b u ≡ false) = λ u. neither-true (member a u) (member b u) (sym (member-or a b u) ∙ ap (λ (n : ℕ). member n u) e ∙ member-none u) in
+    (no-member word-bits a ha (λ u _. at u .0), no-member word-bits b hb (λ u _. at u .1))
 
-pub empty-is : (s : Set) → word-of s 0 < 2 ^ 64 → word-of s 1 < 2 ^ 64 → eqb (bitOr (word-of s 0) (word-of s 1)) 0 ≡ eqb (mask s) 0
-empty-is s ha hb = at (ℕ-discrete (mask s) 0)
+pub words-empty : (s : Set) → word-of s 0 < 2 ^ word-bits → word-of s 1 < 2 ^ word-bits → eqb (bitOr (word-of s 0) (word-of s 1)) 0 ≡ eqb (mask s) 0
+words-empty s ha hb = at (ℕ-discrete (mask s) 0)
   where
     at : Dec (mask s ≡ 0) → eqb (bitOr (word-of s 0) (word-of s 1)) 0 ≡ eqb (mask s) 0
     at (yes e) = ap (λ (n : ℕ). eqb n 0) (ap₂ bitOr (word-zero s 0 (omega arith) ha e) (word-zero s 1 (omega arith) hb e)) ∙ sym (eq-eqb (mask s) 0 e)
@@ -87,13 +84,13 @@ high-word s pos e = at (ℕ-discrete (word-of s 1) 0)
 
 -- one bit changed in its word
 module _ (g : Bool → Bool → Bool) (keep : (b : Bool) → g false b ≡ b) where
-  pub changed : (l : List ℕ) (t x : ℕ) → t < most-states → t / 64 < length l → member x ≡ (λ u. g (eqb u (t % 64)) (member (getD l (t / 64) 0) u))
-      → member (mask (of-words (set l (t / 64) x))) ≡ (λ k. g (eqb k t) (member (mask (of-words l)) k))
+  pub changed : (l : List ℕ) (t x : ℕ) → t < most-states → t / word-bits < length l → member x ≡ (λ u. g (eqb u (t % word-bits)) (member (getD l (t / word-bits) 0) u))
+      → member (mask (of-words (set l (t / word-bits) x))) ≡ (λ k. g (eqb k t) (member (mask (of-words l)) k))
   unfolding mask
   changed l t x lt room e =
-      word-put g keep words (word-of (of-words l)) (word-of (of-words (set l (t / 64) x))) (t / 64) (t % 64) (omega arith) (omega arith)
-      (λ v. ap (λ (n : ℕ). member n v) (getD-set-same l (t / 64) x 0 room) ∙ ap (λ X. X v) e)
-      (λ j _ ne. getD-set-other l (t / 64) j x 0 ne)
+      word-put g keep words (word-of (of-words l)) (word-of (of-words (set l (t / word-bits) x))) (t / word-bits) (t % word-bits) (omega arith) (omega arith)
+      (λ v. ap (λ (n : ℕ). member n v) (getD-set-same l (t / word-bits) x 0 room) ∙ ap (λ X. X v) e)
+      (λ j _ ne. getD-set-other l (t / word-bits) j x 0 ne)
       ∙ ap {B = Test} (λ (m : ℕ). λ (k : ℕ). g (eqb k m) (member (mask (of-words l)) k)) (place-of t)
 
 -- word by word
@@ -106,25 +103,25 @@ module _ (g : Bool → Bool → Bool) (none : g false false ≡ false) where
       (λ i u li lu. ap (λ X. X u) (two (λ j. member (word-of (of-words (x ∷ y ∷ [])) j) ≡ (λ v. g (member (word-of a j) v) (member (word-of b j) v))) e f i li))
 
 -- every number below n
-pub low-below : (n x : ℕ) → n < 64 → member x ≡ up-to n → member (mask (of-words (x ∷ 0 ∷ []))) ≡ up-to n
+pub low-below : (n x : ℕ) → n < word-bits → member x ≡ up-to n → member (mask (of-words (x ∷ 0 ∷ []))) ≡ up-to n
 unfolding mask
 low-below n x lt e =
     words-are words (word-of (of-words (x ∷ 0 ∷ []))) (up-to n)
-    (λ i u li lu. two (λ j. member (word-of (of-words (x ∷ 0 ∷ [])) j) u ≡ up-to n (j * 64 + u))
-    (ap (λ X. X u) e ∙ ap (λ (k : ℕ). ltb k n) (steps u (0 * 64 + u) (omega arith)))
-    (member-none u ∙ sym (le-ltb (1 * 64 + u) n (omega arith))) i li)
+    (λ i u li lu. two (λ j. member (word-of (of-words (x ∷ 0 ∷ [])) j) u ≡ up-to n (j * word-bits + u))
+    (ap (λ X. X u) e ∙ ap (λ (k : ℕ). ltb k n) (equation u (0 * word-bits + u) (omega arith)))
+    (member-none u ∙ sym (le-ltb (1 * word-bits + u) n (omega arith))) i li)
     (λ t le. le-ltb t n (omega arith))
 
-pub high-below : (n x y : ℕ) → 64 ≤ n → n ≤ most-states → member x ≡ up-to 64 → member y ≡ up-to (n - 64) → member (mask (of-words (x ∷ y ∷ []))) ≡ up-to n
+pub high-below : (n x y : ℕ) → word-bits ≤ n → n ≤ most-states → member x ≡ up-to word-bits → member y ≡ up-to (n - word-bits) → member (mask (of-words (x ∷ y ∷ []))) ≡ up-to n
 unfolding mask
 high-below n x y ge le e f =
     words-are words (word-of (of-words (x ∷ y ∷ []))) (up-to n)
-    (λ i u li lu. two (λ j. member (word-of (of-words (x ∷ y ∷ [])) j) u ≡ up-to n (j * 64 + u))
-    (ap (λ X. X u) e ∙ lt-ltb u 64 lu ∙ sym (lt-ltb (0 * 64 + u) n (omega arith)))
+    (λ i u li lu. two (λ j. member (word-of (of-words (x ∷ y ∷ [])) j) u ≡ up-to n (j * word-bits + u))
+    (ap (λ X. X u) e ∙ lt-ltb u word-bits lu ∙ sym (lt-ltb (0 * word-bits + u) n (omega arith)))
     (ap (λ X. X u) f ∙ ⊎-elim
-    (λ lt. lt-ltb u (n - 64) lt ∙ sym (lt-ltb (1 * 64 + u) n (omega arith)))
-    (λ ge′. le-ltb u (n - 64) ge′ ∙ sym (le-ltb (1 * 64 + u) n (omega arith)))
-    (below-or-not u (n - 64))) i li)
+    (λ lt. lt-ltb u (n - word-bits) lt ∙ sym (lt-ltb (1 * word-bits + u) n (omega arith)))
+    (λ ge′. le-ltb u (n - word-bits) ge′ ∙ sym (le-ltb (1 * word-bits + u) n (omega arith)))
+    (below-or-not u (n - word-bits))) i li)
     (λ t out. le-ltb t n (omega arith))
 
 -- the members of both words
@@ -132,16 +129,16 @@ sum-two : (f : ℕ → ℕ) → sum 2 f ≡ f 0 + f 1
 unfolding sum
 sum-two f = omega arith
 
-pub count-is : (s : Set) → size 64 (member (word-of s 0)) + size 64 (member (word-of s 1)) ≡ size most-states (member (mask s))
+pub count-is : (s : Set) → size word-bits (member (word-of s 0)) + size word-bits (member (word-of s 1)) ≡ size most-states (member (mask s))
 unfolding mask
-count-is s = sym (words-size words words (word-of s) (omega arith) ∙ sum-two (λ i. size 64 (member (word-of s i))))
+count-is s = sym (words-size words words (word-of s) (omega arith) ∙ sum-two (λ i. size word-bits (member (word-of s i))))
 
 -- the lowest member, and the set without it, where word i is the first that has a member
-module _ (s : Set) (i u : ℕ) (li : i < words) (lu : u < 64) (none : (j : ℕ) → j < i → word-of s j ≡ 0) (l : Lowest (member (word-of s i)) u) where
+module _ (s : Set) (i u : ℕ) (li : i < words) (lu : u < word-bits) (none : (j : ℕ) → j < i → word-of s j ≡ 0) (l : Lowest (member (word-of s i)) u) where
   no-lower : (j v : ℕ) → j < i → member (word-of s j) v ≡ false
   no-lower j v lt = ap (λ (n : ℕ). member n v) (none j lt) ∙ member-none v
 
-  pub lowest-is : Lowest (member (mask s)) (i * 64 + u)
+  pub lowest-is : Lowest (member (mask s)) (i * word-bits + u)
   unfolding mask
   lowest-is = number-lowest words (word-of s) i u li lu no-lower l
 
@@ -155,8 +152,8 @@ module _ (s : Set) (i u : ℕ) (li : i < words) (lu : u < 64) (none : (j : ℕ) 
 pub second : (s : Set) (x j : ℕ) → j < words → j ≢ 0 → word-of (of-words (x ∷ word-of s 1 ∷ [])) j ≡ word-of s j
 second s x = two (λ j. j ≢ 0 → word-of (of-words (x ∷ word-of s 1 ∷ [])) j ≡ word-of s j) (λ ne. absurd (ne refl)) (λ ne. refl)
 
-pub first : (s : Set) (x : ℕ) → word-of s 0 ≡ 0 → (j : ℕ) → j < words → j ≢ 1 → word-of (of-words (0 ∷ x ∷ [])) j ≡ word-of s j
-first s x z = two (λ j. j ≢ 1 → word-of (of-words (0 ∷ x ∷ [])) j ≡ word-of s j) (λ ne. sym z) (λ ne. absurd (ne refl))
+pub second-alone : (s : Set) (x : ℕ) → word-of s 0 ≡ 0 → (j : ℕ) → j < words → j ≢ 1 → word-of (of-words (0 ∷ x ∷ [])) j ≡ word-of s j
+second-alone s x z = two (λ j. j ≢ 1 → word-of (of-words (0 ∷ x ∷ [])) j ≡ word-of s j) (λ ne. sym z) (λ ne. absurd (ne refl))
 
 -- a walk: what is left in word w is `left`, nothing before it, and the set after it
 module _ (s : Set) where
@@ -175,14 +172,14 @@ module _ (s : Set) where
   unfolding left-in
   left-other w x y j ne = rw (ne-eqb j w ne)
 
-  module _ (w left u : ℕ) (lw : w < words) (lu : u < 64) (l : Lowest (member left) u) where
+  module _ (w left u : ℕ) (lw : w < words) (lu : u < word-bits) (l : Lowest (member left) u) where
     no-left : (j v : ℕ) → j < w → member (left-in w left j) v ≡ false
     no-left j v lt = ap (λ (n : ℕ). member n v) (left-before w left j lt) ∙ member-none v
 
     in-word : Lowest (member (left-in w left w)) u
     in-word = subst (λ (n : ℕ). Lowest (member n) u) (sym (left-here w left)) l
 
-    pub walk-lowest : Lowest (member (rest w left s)) (w * 64 + u)
+    pub walk-lowest : Lowest (member (rest w left s)) (w * word-bits + u)
     unfolding rest left-in
     walk-lowest = number-lowest words (left-in w left) w u lw lu no-left in-word
 
@@ -239,17 +236,17 @@ pub row-lt : (rows : List ℕ) (s : ℕ) → row-of rows s < 2 ^ most-states
 unfolding row-of
 row-lt rows s = number-lt words (λ i. getD rows (s * words + i) 0)
 
-pub row-bit : (rows : List ℕ) (s t : ℕ) → t < most-states → member (getD rows (s * words + t / 64) 0) (t % 64) ≡ member (row-of rows s) t
+pub row-bit : (rows : List ℕ) (s t : ℕ) → t < most-states → member (getD rows (s * words + t / word-bits) 0) (t % word-bits) ≡ member (row-of rows s) t
 unfolding row-of
 row-bit rows s t lt =
-    sym (bit-at words (λ i. getD rows (s * words + i) 0) (t / 64) (t % 64) (omega arith) (omega arith)) ∙ ap (member (row-of rows s)) (place-of t)
+    sym (bit-at words (λ i. getD rows (s * words + i) 0) (t / word-bits) (t % word-bits) (omega arith) (omega arith)) ∙ ap (member (row-of rows s)) (place-of t)
 
 pub row-get : (rows : List ℕ) (s : ℕ) → mask (of-words (getD rows (s * words) 0 ∷ getD rows (s * words + 1) 0 ∷ [])) ≡ row-of rows s
 unfolding mask row-of
 row-get rows s =
     number-ext words (word-of (of-words (getD rows (s * words) 0 ∷ getD rows (s * words + 1) 0 ∷ []))) (λ i. getD rows (s * words + i) 0)
     (two (λ i. getD (getD rows (s * words) 0 ∷ getD rows (s * words + 1) 0 ∷ []) i 0 ≡ getD rows (s * words + i) 0)
-    (ap (λ (k : ℕ). getD rows k 0) (steps (s * words) (s * words + 0) (omega arith))) refl)
+    (ap (λ (k : ℕ). getD rows k 0) (equation (s * words) (s * words + 0) (omega arith))) refl)
 
 pub length-put : (rows : List ℕ) (s : ℕ) (x : Set) → length (put-row rows s x) ≡ length rows
 unfolding put-row
@@ -287,63 +284,63 @@ part-take F k ts h =
 -- the first w words of a list have the bits of a test
 pub record FilledBy (X : Test) (w : ℕ) (l : List ℕ) : Type 0 where
   pub size : length l ≡ words
-  pub each : (v : ℕ) → v < w → member (getD l v 0) ≡ part 64 (λ u. X (v * 64 + u))
+  pub each : (v : ℕ) → v < w → member (getD l v 0) ≡ part word-bits (λ u. X (v * word-bits + u))
 
 module _ (X : Test) where
   pub by-start : {l : List ℕ} → length l ≡ words → FilledBy X 0 l
   by-start size = record { size = size; each = λ v lt. absurd (not-suc-le-zero lt) }
 
-  pub by-next : (w x : ℕ) {l : List ℕ} → w < words → FilledBy X w l → member x ≡ part 64 (λ u. X (w * 64 + u)) → FilledBy X (w + 1) (set l w x)
+  pub by-next : (w x : ℕ) {l : List ℕ} → w < words → FilledBy X w l → member x ≡ part word-bits (λ u. X (w * word-bits + u)) → FilledBy X (w + 1) (set l w x)
   by-next w x {l} lw h e = record { size = length-set l w x ∙ h .size; each = λ v lt. at v lt (ℕ-discrete v w) }
     where
-      at : (v : ℕ) → v < w + 1 → Dec (v ≡ w) → member (getD (set l w x) v 0) ≡ part 64 (λ u. X (v * 64 + u))
+      at : (v : ℕ) → v < w + 1 → Dec (v ≡ w) → member (getD (set l w x) v 0) ≡ part word-bits (λ u. X (v * word-bits + u))
       at v lt (yes q) =
           ap (λ (k : ℕ). member (getD (set l w x) k 0)) q ∙ ap member (getD-set-same l w x 0 (omega (arith, h .size))) ∙ e
-          ∙ ap (λ (k : ℕ). part 64 (λ u. X (k * 64 + u))) (sym q)
+          ∙ ap (λ (k : ℕ). part word-bits (λ u. X (k * word-bits + u))) (sym q)
       at v lt (no ne) = ap member (getD-set-other l w v x 0 ne) ∙ h .each v (omega (arith, ne))
 
   pub by-all : {w : ℕ} (s : Set) → w ≡ words → ((t : ℕ) → most-states ≤ t → X t ≡ false) → FilledBy X w (s .words) → member (mask s) ≡ X
   unfolding mask
   by-all {w} s e out h =
       words-are words (word-of s) X
-      (λ i u li lu. ap (λ Y. Y u) (h .each i (omega arith)) ∙ ap (λ b. b && X (i * 64 + u)) (lt-ltb u 64 lu))
+      (λ i u li lu. ap (λ Y. Y u) (h .each i (omega arith)) ∙ ap (λ b. b && X (i * word-bits + u)) (lt-ltb u word-bits lu))
       (λ t le. out t (omega arith))
 
 -- the same for the places of a list that pass a test
-abbrev pub Filled : (F : Test) (ts : List ℕ) (w : ℕ) (l : List ℕ) → Type 0
-Filled F ts w l = FilledBy (passing F ts) w l
+abbrev pub PlacesFilled : (F : Test) (ts : List ℕ) (w : ℕ) (l : List ℕ) → Type 0
+PlacesFilled F ts w l = FilledBy (passing F ts) w l
 
 module _ (F : Test) (ts : List ℕ) where
-  pub filled-start : {l : List ℕ} → length l ≡ words → Filled F ts 0 l
-  filled-start = by-start (passing F ts)
+  pub places-start : {l : List ℕ} → length l ≡ words → PlacesFilled F ts 0 l
+  places-start = by-start (passing F ts)
 
-  pub filled-next : (w x : ℕ) {l : List ℕ} → w < words → Filled F ts w l → member x ≡ part 64 (λ u. passing F ts (w * 64 + u)) → Filled F ts (w + 1) (set l w x)
-  filled-next = by-next (passing F ts)
+  pub places-next : (w x : ℕ) {l : List ℕ} → w < words → PlacesFilled F ts w l → member x ≡ part word-bits (λ u. passing F ts (w * word-bits + u)) → PlacesFilled F ts (w + 1) (set l w x)
+  places-next = by-next (passing F ts)
 
-  pub filled-all : {w : ℕ} (s : Set) → w ≡ words → length ts ≤ most-states → Filled F ts w (s .words) → member (mask s) ≡ passing F ts
-  filled-all s e few h = by-all (passing F ts) s e (λ t out. ap (λ b. b && F (getD ts t 0)) (le-ltb t (length ts) (omega arith))) h
+  pub places-all : {w : ℕ} (s : Set) → w ≡ words → length ts ≤ most-states → PlacesFilled F ts w (s .words) → member (mask s) ≡ passing F ts
+  places-all s e few h = by-all (passing F ts) s e (λ t out. ap (λ b. b && F (getD ts t 0)) (le-ltb t (length ts) (omega arith))) h
 
 -- word w has the places from a to before b of those below n
-module _ (F : Test) (n w : ℕ) {a b : ℕ} (ea : a ≡ min (w * 64) n) (eb : b ≡ min ((w + 1) * 64) n) where
-  inside : (k : ℕ) → k < b - a → (ltb k (b - a) && F (a + k)) ≡ part 64 (λ u. part n F (w * 64 + u)) k
+module _ (F : Test) (n w : ℕ) {a b : ℕ} (ea : a ≡ min (w * word-bits) n) (eb : b ≡ min ((w + 1) * word-bits) n) where
+  inside : (k : ℕ) → k < b - a → (ltb k (b - a) && F (a + k)) ≡ part word-bits (λ u. part n F (w * word-bits + u)) k
   inside k lt =
-      ap₂ _&&_ (lt-ltb k (b - a) lt ∙ sym (lt-ltb k 64 (omega arith)))
-      (ap F (steps (a + k) (w * 64 + k) (omega arith)) ∙ sym (ap (λ c. c && F (w * 64 + k)) (lt-ltb (w * 64 + k) n (omega arith))))
+      ap₂ _&&_ (lt-ltb k (b - a) lt ∙ sym (lt-ltb k word-bits (omega arith)))
+      (ap F (equation (a + k) (w * word-bits + k) (omega arith)) ∙ sym (ap (λ c. c && F (w * word-bits + k)) (lt-ltb (w * word-bits + k) n (omega arith))))
 
-  outside : (k : ℕ) → b - a ≤ k → (ltb k (b - a) && F (a + k)) ≡ part 64 (λ u. part n F (w * 64 + u)) k
+  outside : (k : ℕ) → b - a ≤ k → (ltb k (b - a) && F (a + k)) ≡ part word-bits (λ u. part n F (w * word-bits + u)) k
   outside k le =
       ap (λ c. c && F (a + k)) (le-ltb k (b - a) le)
       ∙ sym (⊎-elim
-      (λ lt. ap₂ (λ c d. c && (d && F (w * 64 + k))) (lt-ltb k 64 lt) (le-ltb (w * 64 + k) n (omega arith)))
-      (λ out. ap (λ c. c && part n F (w * 64 + k)) (le-ltb k 64 out))
-      (below-or-not k 64))
+      (λ lt. ap₂ (λ c d. c && (d && F (w * word-bits + k))) (lt-ltb k word-bits lt) (le-ltb (w * word-bits + k) n (omega arith)))
+      (λ out. ap (λ c. c && part n F (w * word-bits + k)) (le-ltb k word-bits out))
+      (below-or-not k word-bits))
 
-  pub word-part : part (b - a) (λ k. F (a + k)) ≡ part 64 (λ u. part n F (w * 64 + u))
+  pub word-part : part (b - a) (λ k. F (a + k)) ≡ part word-bits (λ u. part n F (w * word-bits + u))
   word-part = fun-ext (λ k. ⊎-elim (inside k) (outside k) (below-or-not k (b - a)))
 
 -- the same for the places of a list
-pub slice-passing : (F : Test) (ts : List ℕ) (w : ℕ) {a b : ℕ} → a ≡ min (w * 64) (length ts) → b ≡ min ((w + 1) * 64) (length ts)
-    → passing F (take (b - a) (drop a ts)) ≡ part 64 (λ u. passing F ts (w * 64 + u))
+pub slice-passing : (F : Test) (ts : List ℕ) (w : ℕ) {a b : ℕ} → a ≡ min (w * word-bits) (length ts) → b ≡ min ((w + 1) * word-bits) (length ts)
+    → passing F (take (b - a) (drop a ts)) ≡ part word-bits (λ u. passing F ts (w * word-bits + u))
 slice-passing F ts w {a} {b} ea eb =
     let m : length (take (b - a) (drop a ts)) ≡ b - a = simp (length-take, length-drop) (omega arith) in
     fun-ext (λ k.

@@ -1,4 +1,4 @@
--- Sets and rows of words, computed: members in either word, a row that is read and one that is written, and what a walk has left.
+-- Sets and rows of words, computed: members in either word, a row that is read and one that is written, some of the rows, and what a walk has left.
 -- Assumes nothing.
 use mathlib.Core.Path.{_≡_, refl}
 use mathlib.Core.Bool.{true, false}
@@ -6,7 +6,7 @@ use mathlib.Core.List.{List, [], _∷_, map}
 use Prim.Native.Nat.{ℕ, _+_, _^_}
 use Rattle.relation.specs.declared.set.Set.{Set}
 use Rattle.relation.specs.Mask.{member}
-use Rattle.relation.specs.Words.{words, mask, row-of, height, put-words, put-row, rest, after}
+use Rattle.relation.specs.Words.{words, mask, row-of, height, rows-in, put-words, put-row, rest, after}
 
 -- the states 0, 2 and 64
 abbrev some : Set
@@ -15,6 +15,9 @@ some = record { words = 5 ∷ 1 ∷ [] }
 -- state 0 is related to state 0, state 1 to state 127
 abbrev rows : List ℕ
 rows = 1 ∷ 0 ∷ 0 ∷ 2 ^ 63 ∷ []
+
+abbrev three : List ℕ
+three = 1 ∷ 2 ∷ 3 ∷ 4 ∷ 5 ∷ 6 ∷ []
 
 pub set-example : (words ≡ 2) × (mask some ≡ 2 ^ 64 + 5) × (map (member (mask some)) (0 ∷ 1 ∷ 2 ∷ 63 ∷ 64 ∷ 65 ∷ []) ≡ true ∷ false ∷ true ∷ false ∷ true ∷ false ∷ [])
 unfolding mask member
@@ -28,6 +31,10 @@ rows-example = (refl, refl, refl, refl)
 pub put-example : (put-words 3 (9 ∷ 9 ∷ 9 ∷ 9 ∷ 9 ∷ []) 1 (λ i. i) ≡ 9 ∷ 0 ∷ 1 ∷ 2 ∷ 9 ∷ []) × (put-words 0 rows 1 (λ i. i) ≡ rows)
 unfolding put-words
 put-example = (refl, refl)
+
+-- of three rows the one in the middle, the last two, and none
+pub part-example : (rows-in 1 1 three ≡ 3 ∷ 4 ∷ []) × (rows-in 1 2 three ≡ 3 ∷ 4 ∷ 5 ∷ 6 ∷ []) × (rows-in 1 0 three ≡ [])
+part-example = (refl, refl, refl)
 
 -- before the second word, within the first after state 0, and at the end
 pub walk-example : (after 1 some ≡ 2 ^ 64) × (rest 0 4 some ≡ 2 ^ 64 + 4) × (after words some ≡ 0)

@@ -47,8 +47,8 @@ bit X t = when (X t) 1
 abbrev pub part : ℕ → Test → Test
 part n X k = ltb k n && X k
 
-abbrev pub from : ℕ → Test → Test
-from n X k = leb n k && X k
+abbrev pub from-place : ℕ → Test → Test
+from-place n X k = leb n k && X k
 
 -- how many numbers below n pass
 abbrev pub size : ℕ → Test → ℕ

@@ -17,22 +17,22 @@ abbrev pub words : ℕ
 words = most-states / word-bits
 
 -- n words, lowest first: digit t of the number is bit t % 64 of word t / 64
-unfoldable pub number : ℕ → (ℕ → ℕ) → ℕ
-number zero word = 0
-number (suc n) word = number n (λ i. word (suc i)) * 2 ^ 64 + word 0 % 2 ^ 64
+unfoldable pub as-number : ℕ → (ℕ → ℕ) → ℕ
+as-number zero word = 0
+as-number (suc n) word = as-number n (λ i. word (suc i)) * 2 ^ word-bits + word 0 % 2 ^ word-bits
 
 abbrev pub word-of : Set → ℕ → ℕ
 word-of s i = getD (s .words) i 0
 
 -- a set of states: the digits that are one are its members
 unfoldable pub mask : Set → ℕ
-unfolding number
-mask s = number words (word-of s)
+unfolding as-number
+mask s = as-number words (word-of s)
 
 -- row s of a relation whose rows lie one after the other
 unfoldable pub row-of : List ℕ → ℕ → ℕ
-unfolding number
-row-of rows s = number words (λ i. getD rows (s * words + i) 0)
+unfolding as-number
+row-of rows s = as-number words (λ i. getD rows (s * words + i) 0)
 
 -- how many rows
 abbrev pub height : List ℕ → ℕ
@@ -54,10 +54,10 @@ put-row rows s x = put-words words rows (s * words) (word-of x)
 
 -- what a walk over the members has left: `left` in word w, and the words after it
 unfoldable pub rest : ℕ → ℕ → Set → ℕ
-unfolding number
-rest w left s = number words (λ i. cond (ltb i w) 0 (cond (eqb i w) left (word-of s i)))
+unfolding as-number
+rest w left s = as-number words (λ i. cond (ltb i w) 0 (cond (eqb i w) left (word-of s i)))
 
 -- what it has left before word w
 unfoldable pub after : ℕ → Set → ℕ
-unfolding number
-after w s = number words (λ i. cond (ltb i w) 0 (word-of s i))
+unfolding as-number
+after w s = as-number words (λ i. cond (ltb i w) 0 (word-of s i))

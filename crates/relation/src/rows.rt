@@ -44,8 +44,8 @@ pub fn bit(rows: &[Word], s: usize, t: usize) -> Word
     requires { ⌜ (s < height (now rows)) × (t < most-states) ⌝ }
     ensures { λ r. ⌜ r ≡ bit (member (row-of (now (rows .entry)) s)) t ⌝ }
 {
-    let at = s * Set::WORDS + t / 64;
-    word::bit(rows[at], t % 64)
+    let at = s * Set::WORDS + t / Set::BITS;
+    word::bit(rows[at], t % Set::BITS)
 }
 
 // How many pairs the first n rows have.

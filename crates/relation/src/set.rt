@@ -7,7 +7,7 @@ ghost use Prim.Native.Nat.{ℕ, _*_, _<_, _≤_, min};
 ghost use lib.Dec.{eqb};
 ghost use Rattle.simulation.specs.Limits.{most-states};
 ghost use Rattle.relation.specs.Mask.{member, «up-to», only, «with-member», «without-member», «with-bit», either, both, except, bit, size, Lowest, bit};
-ghost use Rattle.relation.specs.Words.{words, mask};
+ghost use Rattle.relation.specs.Words.{word-bits, words, mask};
 
 pub struct Set {
     pub words: [Word; Set::WORDS],
@@ -32,9 +32,9 @@ pub fn empty() -> Set
 // Where the places of word w begin among n places: at the end where it has none.
 pub fn start(w: usize, n: usize) -> usize
     requires { ⌜ w ≤ words ⌝ }
-    ensures { λ r. ⌜ r ≡ min (w * 64) n ⌝ }
+    ensures { λ r. ⌜ r ≡ min (w * word-bits) n ⌝ }
 {
-    let at = w * 64;
+    let at = w * Set::BITS;
     if at < n { at } else { n }
 }
 
@@ -49,8 +49,8 @@ pub fn bit(set: Set, t: usize) -> Word
     requires { ⌜ t < most-states ⌝ }
     ensures { λ r. ⌜ r ≡ bit (member (mask set)) t ⌝ }
 {
-    let w = t / 64;
-    word::bit(set.words[w], t % 64)
+    let w = t / Set::BITS;
+    word::bit(set.words[w], t % Set::BITS)
 }
 
 pub fn single(t: usize) -> Set
@@ -65,13 +65,13 @@ pub fn below(n: usize) -> Set
     requires { ⌜ n ≤ most-states ⌝ }
     ensures { λ r. ⌜ member (mask r) ≡ up-to n ⌝ }
 {
-    if n < 64 {
+    if n < Set::BITS {
         return Set {
             words: [word::below(n), 0],
         };
     }
     Set {
-        words: [word::below(64), word::below(n - 64)],
+        words: [word::below(Set::BITS), word::below(n - Set::BITS)],
     }
 }
 
@@ -79,9 +79,9 @@ pub fn insert(mut set: Set, t: usize) -> Set
     requires { ⌜ t < most-states ⌝ }
     ensures { λ r. ⌜ member (mask r) ≡ with-member t (member (mask set)) ⌝ }
 {
-    let w = t / 64;
+    let w = t / Set::BITS;
     let old = set.words[w];
-    let new = word::insert(old, t % 64);
+    let new = word::insert(old, t % Set::BITS);
     set.words[w] = new;
     set
 }
@@ -90,9 +90,9 @@ pub fn remove(mut set: Set, t: usize) -> Set
     requires { ⌜ t < most-states ⌝ }
     ensures { λ r. ⌜ member (mask r) ≡ without-member t (member (mask set)) ⌝ }
 {
-    let w = t / 64;
+    let w = t / Set::BITS;
     let old = set.words[w];
-    let new = word::remove(old, t % 64);
+    let new = word::remove(old, t % Set::BITS);
     set.words[w] = new;
     set
 }
@@ -102,9 +102,9 @@ pub fn with_bit(mut set: Set, t: usize, b: Word) -> Set
     requires { ⌜ (t < most-states) × (b < 2) ⌝ }
     ensures { λ r. ⌜ member (mask r) ≡ with-bit t b (member (mask set)) ⌝ }
 {
-    let w = t / 64;
+    let w = t / Set::BITS;
     let old = set.words[w];
-    let new = word::with_bit(old, t % 64, b);
+    let new = word::with_bit(old, t % Set::BITS, b);
     set.words[w] = new;
     set
 }
@@ -149,7 +149,7 @@ pub fn lowest(set: Set) -> usize
     if low != 0 {
         return word::lowest(low);
     }
-    64 + word::lowest(set.words[1])
+    Set::BITS + word::lowest(set.words[1])
 }
 
 // A set that has a member, without its lowest.

@@ -14,7 +14,7 @@ pub fn lowest(set: Set, w: usize, left: Word) -> usize
     requires { ⌜ (w < words) × (0 < left) ⌝ }
     ensures { λ r. ⌜ (r < most-states) × Lowest (member (rest w left set)) r ⌝ }
 {
-    w * 64 + word::lowest(left)
+    w * Set::BITS + word::lowest(left)
 }
 
 // What is left without its lowest member. Only the contract reads set and w.

@@ -1,21 +1,23 @@
 // Sets of numbers below 64 as a word: t is a member if bit t is one.
+use crate::set::Set;
 ghost use mathlib.Core.Path.{_≡_};
 ghost use Prim.Native.Nat.{ℕ, _<_, _≤_};
 ghost use Rattle.relation.specs.Mask.{member, «up-to», only, «with-member», «without-member», «with-bit», either, both, except, size, Lowest, bit};
+ghost use Rattle.relation.specs.Words.{word-bits};
 
 // A word: what sets are made of.
 pub type Word = u64;
 
 // 1 for a member, else 0.
 pub fn bit(set: Word, t: usize) -> Word
-    requires { ⌜ t < 64 ⌝ }
+    requires { ⌜ t < word-bits ⌝ }
     ensures { λ r. ⌜ r ≡ bit (member set) t ⌝ }
 {
     (set >> t) % 2
 }
 
 pub fn single(t: usize) -> Word
-    requires { ⌜ t < 64 ⌝ }
+    requires { ⌜ t < word-bits ⌝ }
     ensures { λ r. ⌜ member r ≡ only t ⌝ }
 {
     1 << t
@@ -23,24 +25,24 @@ pub fn single(t: usize) -> Word
 
 // Every number below n.
 pub fn below(n: usize) -> Word
-    requires { ⌜ n ≤ 64 ⌝ }
+    requires { ⌜ n ≤ word-bits ⌝ }
     ensures { λ r. ⌜ member r ≡ up-to n ⌝ }
 {
-    if n < 64 {
+    if n < Set::BITS {
         return (1 << n) - 1;
     }
     0xffff_ffff_ffff_ffff
 }
 
 pub fn insert(set: Word, t: usize) -> Word
-    requires { ⌜ t < 64 ⌝ }
+    requires { ⌜ t < word-bits ⌝ }
     ensures { λ r. ⌜ member r ≡ with-member t (member set) ⌝ }
 {
     single(t) | set
 }
 
 pub fn remove(set: Word, t: usize) -> Word
-    requires { ⌜ t < 64 ⌝ }
+    requires { ⌜ t < word-bits ⌝ }
     ensures { λ r. ⌜ member r ≡ without-member t (member set) ⌝ }
 {
     set & !single(t)
@@ -48,7 +50,7 @@ pub fn remove(set: Word, t: usize) -> Word
 
 // t too if b is 1, without a branch.
 pub fn with_bit(set: Word, t: usize, b: Word) -> Word
-    requires { ⌜ (t < 64) × (b < 2) ⌝ }
+    requires { ⌜ (t < word-bits) × (b < 2) ⌝ }
     ensures { λ r. ⌜ member r ≡ with-bit t b (member set) ⌝ }
 {
     (b << t) | set
@@ -74,7 +76,7 @@ pub fn difference(a: Word, b: Word) -> Word
 
 // How many members.
 pub fn count(set: Word) -> u32
-    ensures { λ r. ⌜ r ≡ size 64 (member set) ⌝ }
+    ensures { λ r. ⌜ r ≡ size word-bits (member set) ⌝ }
 {
     u64::count_ones(set)
 }
@@ -82,7 +84,7 @@ pub fn count(set: Word) -> u32
 // The lowest member of a set that has one.
 pub fn lowest(set: Word) -> usize
     requires { ⌜ 0 < set ⌝ }
-    ensures { λ r. ⌜ (r < 64) × Lowest (member set) r ⌝ }
+    ensures { λ r. ⌜ (r < word-bits) × Lowest (member set) r ⌝ }
 {
     u64::trailing_zeros(set) as usize
 }

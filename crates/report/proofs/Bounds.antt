@@ -11,7 +11,7 @@ use lib.ListN.{length, take, getD, length-append}
 use Rattle.simulation.specs.Limits.{most-states, few-pairs, most-tree-bytes}
 use Rattle.simulation.specs.Round.{maximum, zeros}
 use Rattle.report.specs.Text.{word-rounds, word-kept, word-verdict, word-yes, word-no, word-row, word-tables, word-refused, word-tree, space, newline, pair-line, ranks-text, row-line, rows-text, yes?, summary-line, rounds-line, bytes-text, tree-line, tree-text, refused-text, report-text, answer-text, text-bound, longest-text, short-text, short-tree}
-use Rattle.digits.specs.Writes.{pieces, Room}
+use Rattle.digits.specs.Writes.{pieces, RoomFor}
 use Rattle.digits.specs.Digits.{decimal, hex, labelled}
 use Rattle.report.proofs.Counting.{zeros-most}
 use Rattle.digits.proofs.Digits.{decimal-short}
@@ -30,7 +30,7 @@ unfolding pair-line
 pair-short word a b k la lb =
     omega (arith, length-append (labelled word a ++ labelled space b) newline, length-append (labelled word a) (labelled space b), labelled-short word a k la, labelled-short space b k lb)
 
-pub refused-room : (table number : ℕ) (buf : List ℕ) → table < 2 ^ 32 → number < 2 ^ 32 → 30 ≤ length buf → Room (refused-text table number) 0 buf
+pub refused-room : (table number : ℕ) (buf : List ℕ) → table < 2 ^ 32 → number < 2 ^ 32 → 30 ≤ length buf → RoomFor (refused-text table number) 0 buf
 refused-room table number buf lt ln room = record { enough = omega (arith, pair-short word-refused table number 9 (omega arith) (omega arith)) }
 
 maximum-short : (ranks : List ℕ) (n : ℕ) → 0 < n → ((i : ℕ) → getD ranks i 0 < n) → maximum ranks < n
@@ -93,7 +93,7 @@ report-short p q ranks long tree lp lq e small =
     )
 
 pub report-room : (p q : ℕ) (ranks : List ℕ) (long : Bool) (tree buf : List ℕ) → p ≤ most-states → q ≤ most-states → p * q ≡ length ranks → ((i : ℕ) → getD ranks i 0 < 2 ^ 16)
-    → text-bound p q (length tree) ≤ length buf → Room (report-text p q ranks long tree) 0 buf
+    → text-bound p q (length tree) ≤ length buf → RoomFor (report-text p q ranks long tree) 0 buf
 report-room p q ranks long tree buf lp lq e small room = record { enough = omega (arith, report-short p q ranks long tree lp lq e small) }
 
 -- the bounds for the two sizes of buffers

@@ -8,7 +8,7 @@ ghost use Rattle.simulation.specs.Limits.{most-states};
 ghost use Rattle.report.specs.Text.{space, word-yes, word-no, refused-text, pair-line, ranks-text, row-line, rows-text, summary-line};
 ghost use Rattle.report.specs.Text.{rounds-line, bytes-text, tree-line, tree-text, report-text, answer-text, text-bound};
 ghost use Rattle.digits.specs.Digits.{hex, labelled};
-ghost use Rattle.digits.specs.Writes.{Room, Writes};
+ghost use Rattle.digits.specs.Writes.{RoomFor, Writes};
 ghost use Rattle.buffer.specs.Buffer.{Filled};
 use crate::count::is_kept;
 use crate::count::kept_of;
@@ -84,7 +84,7 @@ fn put_report(
     buf: &mut [u8],
     at: usize,
 ) -> usize
-    requires { ⌜ (p * q ≤ length (now ranks)) × Room (report-text p q (now ranks) long (now tree)) at (now buf) ⌝ }
+    requires { ⌜ (p * q ≤ length (now ranks)) × RoomFor (report-text p q (now ranks) long (now tree)) at (now buf) ⌝ }
     ensures { λ r. ⌜ Writes (report-text p q (now (ranks .entry)) long (now (tree .entry))) at (now (buf .entry)) r (now (buf .exit)) ⌝ }
 {
     let a = put_pair(b"tables ", p, q, buf, at);
@@ -95,7 +95,7 @@ fn put_report(
 
 // A line of a word and two numbers.
 fn put_pair(word: &[u8], a: usize, b: usize, buf: &mut [u8], at: usize) -> usize
-    requires { ⌜ Room (pair-line (now word) a b) at (now buf) ⌝ }
+    requires { ⌜ RoomFor (pair-line (now word) a b) at (now buf) ⌝ }
     ensures { λ r. ⌜ Writes (pair-line (now (word .entry)) a b) at (now (buf .entry)) r (now (buf .exit)) ⌝ }
 {
     let first = put_labelled(word, a, buf, at);
@@ -104,7 +104,7 @@ fn put_pair(word: &[u8], a: usize, b: usize, buf: &mut [u8], at: usize) -> usize
 }
 
 fn put_rows(ranks: &[u16], q: usize, p: usize, buf: &mut [u8], at: usize) -> usize
-    requires { ⌜ (p * q ≤ length (now ranks)) × Room (rows-text (now ranks) q p) at (now buf) ⌝ }
+    requires { ⌜ (p * q ≤ length (now ranks)) × RoomFor (rows-text (now ranks) q p) at (now buf) ⌝ }
     ensures { λ r. ⌜ Writes (rows-text (now (ranks .entry)) q p) at (now (buf .entry)) r (now (buf .exit)) ⌝ }
 {
     let mut next = at;
@@ -118,7 +118,7 @@ fn put_rows(ranks: &[u16], q: usize, p: usize, buf: &mut [u8], at: usize) -> usi
 
 // The row of the state s of the first table.
 fn put_row(ranks: &[u16], q: usize, s: usize, buf: &mut [u8], at: usize) -> usize
-    requires { ⌜ (s * q + q ≤ length (now ranks)) × Room (row-line (now ranks) q s) at (now buf) ⌝ }
+    requires { ⌜ (s * q + q ≤ length (now ranks)) × RoomFor (row-line (now ranks) q s) at (now buf) ⌝ }
     ensures { λ r. ⌜ Writes (row-line (now (ranks .entry)) q s) at (now (buf .entry)) r (now (buf .exit)) ⌝ }
 {
     let label = put_labelled(b"row ", s, buf, at);
@@ -128,7 +128,7 @@ fn put_row(ranks: &[u16], q: usize, s: usize, buf: &mut [u8], at: usize) -> usiz
 
 // The q ranks from a place on.
 fn put_ranks(ranks: &[u16], from: usize, q: usize, buf: &mut [u8], at: usize) -> usize
-    requires { ⌜ (from + q ≤ length (now ranks)) × Room (ranks-text (now ranks) from q) at (now buf) ⌝ }
+    requires { ⌜ (from + q ≤ length (now ranks)) × RoomFor (ranks-text (now ranks) from q) at (now buf) ⌝ }
     ensures { λ r. ⌜ Writes (ranks-text (now (ranks .entry)) from q) at (now (buf .entry)) r (now (buf .exit)) ⌝ }
 {
     let mut next = at;
@@ -141,14 +141,14 @@ fn put_ranks(ranks: &[u16], from: usize, q: usize, buf: &mut [u8], at: usize) ->
 }
 
 fn put_rank(rank: u16, buf: &mut [u8], at: usize) -> usize
-    requires { ⌜ Room (labelled space rank) at (now buf) ⌝ }
+    requires { ⌜ RoomFor (labelled space rank) at (now buf) ⌝ }
     ensures { λ r. ⌜ Writes (labelled space rank) at (now (buf .entry)) r (now (buf .exit)) ⌝ }
 {
     put_labelled(b" ", rank as usize, buf, at)
 }
 
 fn put_rounds(ranks: &[u16], buf: &mut [u8], at: usize) -> usize
-    requires { ⌜ Room (rounds-line (now ranks)) at (now buf) ⌝ }
+    requires { ⌜ RoomFor (rounds-line (now ranks)) at (now buf) ⌝ }
     ensures { λ r. ⌜ Writes (rounds-line (now (ranks .entry))) at (now (buf .entry)) r (now (buf .exit)) ⌝ }
 {
     let rounds = rounds_of(ranks) as usize;
@@ -156,7 +156,7 @@ fn put_rounds(ranks: &[u16], buf: &mut [u8], at: usize) -> usize
 }
 
 fn put_summary(rounds: usize, kept: usize, yes: bool, buf: &mut [u8], at: usize) -> usize
-    requires { ⌜ Room (summary-line rounds kept yes) at (now buf) ⌝ }
+    requires { ⌜ RoomFor (summary-line rounds kept yes) at (now buf) ⌝ }
     ensures { λ r. ⌜ Writes (summary-line rounds kept yes) at (now (buf .entry)) r (now (buf .exit)) ⌝ }
 {
     let a = put_labelled(b"rounds ", rounds, buf, at);
@@ -166,7 +166,7 @@ fn put_summary(rounds: usize, kept: usize, yes: bool, buf: &mut [u8], at: usize)
 }
 
 fn put_verdict(yes: bool, buf: &mut [u8], at: usize) -> usize
-    requires { ⌜ Room (cond yes word-yes word-no) at (now buf) ⌝ }
+    requires { ⌜ RoomFor (cond yes word-yes word-no) at (now buf) ⌝ }
     ensures { λ r. ⌜ Writes (cond yes word-yes word-no) at (now (buf .entry)) r (now (buf .exit)) ⌝ }
 {
     if yes {
@@ -177,7 +177,7 @@ fn put_verdict(yes: bool, buf: &mut [u8], at: usize) -> usize
 
 // On no, the tree, or that it is too long.
 fn put_outcome(yes: bool, long: bool, tree: &[u8], buf: &mut [u8], at: usize) -> usize
-    requires { ⌜ Room (tree-text yes long (now tree)) at (now buf) ⌝ }
+    requires { ⌜ RoomFor (tree-text yes long (now tree)) at (now buf) ⌝ }
     ensures { λ r. ⌜ Writes (tree-text yes long (now (tree .entry))) at (now (buf .entry)) r (now (buf .exit)) ⌝ }
 {
     if yes {
@@ -190,7 +190,7 @@ fn put_outcome(yes: bool, long: bool, tree: &[u8], buf: &mut [u8], at: usize) ->
 }
 
 fn put_tree(tree: &[u8], buf: &mut [u8], at: usize) -> usize
-    requires { ⌜ Room (tree-line (now tree)) at (now buf) ⌝ }
+    requires { ⌜ RoomFor (tree-line (now tree)) at (now buf) ⌝ }
     ensures { λ r. ⌜ Writes (tree-line (now (tree .entry))) at (now (buf .entry)) r (now (buf .exit)) ⌝ }
 {
     let a = put_word(b"tree", buf, at);
@@ -199,7 +199,7 @@ fn put_tree(tree: &[u8], buf: &mut [u8], at: usize) -> usize
 }
 
 fn put_bytes(tree: &[u8], buf: &mut [u8], at: usize) -> usize
-    requires { ⌜ Room (bytes-text (now tree)) at (now buf) ⌝ }
+    requires { ⌜ RoomFor (bytes-text (now tree)) at (now buf) ⌝ }
     ensures { λ r. ⌜ Writes (bytes-text (now (tree .entry))) at (now (buf .entry)) r (now (buf .exit)) ⌝ }
 {
     let mut next = at;
@@ -212,7 +212,7 @@ fn put_bytes(tree: &[u8], buf: &mut [u8], at: usize) -> usize
 }
 
 fn put_spaced(b: u8, buf: &mut [u8], at: usize) -> usize
-    requires { ⌜ Room (space ++ hex b) at (now buf) ⌝ }
+    requires { ⌜ RoomFor (space ++ hex b) at (now buf) ⌝ }
     ensures { λ r. ⌜ Writes (space ++ hex b) at (now (buf .entry)) r (now (buf .exit)) ⌝ }
 {
     let next = put_byte(b' ', buf, at);

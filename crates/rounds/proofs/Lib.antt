@@ -3,8 +3,5 @@
 pub mod RoundLaws
 pub mod Fitting
 pub mod Marking
-pub mod Dropping
-pub mod Keeping
-pub mod First
 pub mod Settling
 pub mod Turning

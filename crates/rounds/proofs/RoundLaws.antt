@@ -8,19 +8,21 @@ use Prim.Native.Nat.{ℕ, zero, suc, _+_, _*_, _-_, _≤_, _<_, zero-le}
 use native.Mathlib.Nat.{zero-add, suc-add, le-antisymm}
 use native.Mathlib.Omega.{arith}
 use native.Mathlib.Decide.{decLe, decLt}
-use borrow.Author.Tests.{le-leb, lt-leb, lt-ltb, le-ltb}
+use borrow.Author.Tests.{le-leb, lt-leb}
 use lib.Dec.{T, T-not, not-T, eqb, ltb, eqb→eq}
 use lib.ListN.{getD}
 use Rattle.simulation.specs.Table.{Table, states-of}
 use Rattle.simulation.specs.Round.{Relation, related, relation, survives, next, round, pairs, rank, rank-list, maximum}
-use Rattle.simulation.proofs.Finite.Tests.{either, both, and-left, and-right, is-true, is-false, same-test}
+use Rattle.simulation.proofs.Finite.Tests.{either, both, and-left, and-right, is-false, same-test}
 use Rattle.simulation.proofs.Simulation.Relation.{relation-at, relation-ext}
-use Rattle.simulation.proofs.Simulation.Rounds.{In, in-zero, in-left, in-right, falls as round-falls, stays}
+use Rattle.simulation.proofs.Simulation.Rounds.{In, in-left, in-right, round-falls, stays}
 use Rattle.simulation.proofs.Simulation.Ranks.{rank-law}
 use Rattle.simulation.proofs.Simulation.RankList.{rounds-above, rounds-least}
 use Rattle.relation.specs.Related.{holds}
 use Rattle.fit.specs.Held.{held, matched}
-use Rattle.rounds.specs.Rounds.{falls, shown, After, Falling}
+use Rattle.dropping.specs.Falling.{falls, Falling}
+use Rattle.dropping.proofs.First.{all-pairs}
+use Rattle.rounds.specs.Rounds.{shown, After}
 
 -- what of a pair's test is left when the lost pairs are taken away
 kept-of : (a b : Bool) → (T b → T a) → (a && not (a && not b)) ≡ b
@@ -83,19 +85,12 @@ module _ (M N : Table) where
   stays-by zero k e = rw zero-add (e, refl)
   stays-by (suc d) k e = let r = stays-by d k e in rw suc-add (stays M N (d + k) (r .0), r .0 ∙ r .1)
 
-  -- before the first round all pairs are there
-  pub all-pairs : (s t : ℕ) → s < states-of M → related (round M N 0) s t ≡ ltb t (states-of N)
-  all-pairs s t a = go (decLt t (states-of N))
-    where
-      go : Dec (t < states-of N) → related (round M N 0) s t ≡ ltb t (states-of N)
-      go (yes b) = is-true (related (round M N 0) s t) (in-zero M N a b) ∙ sym (lt-ltb t (states-of N) b)
-      go (no b) = is-false (related (round M N 0) s t) (λ h. b (in-right M N 0 s t h)) ∙ sym (le-ltb t (states-of N) (omega arith))
-
+  -- before the first round all pairs are there, and no rank is shown
   pub begins : (rows ranks : List ℕ) → ((s t : ℕ) → s < states-of M → holds rows s t ≡ ltb t (states-of N))
       → ((s t : ℕ) → s < states-of M → t < states-of N → getD ranks (s * states-of N + t) 0 ≡ 0) → After M N 0 rows ranks
   begins rows ranks f g =
       record {
-        rows-are = λ s t a. f s t a ∙ sym (all-pairs s t a);
+        rows-are = λ s t a. f s t a ∙ sym (all-pairs M N s t a);
         ranks-are = λ s t a b. g s t a b ∙ sym (shown-none (rank M N s t));
         reached = zero-le;
       }

@@ -13,7 +13,7 @@ use Rattle.simulation.specs.Table.{Transition, Table, weights, target-at, state
 use Rattle.simulation.specs.Round.{Relation, related, round, pairs}
 use Rattle.simulation.proofs.Finite.Tests.{and-left, is-true, is-false, same-test}
 use Rattle.simulation.proofs.Simulation.Relation.{relation-at, relation-left, relation-right}
-use Rattle.simulation.proofs.Simulation.Rounds.{in-right, falls as round-falls}
+use Rattle.simulation.proofs.Simulation.Rounds.{in-right, round-falls}
 use Rattle.relation.specs.Mask.{Test, member}
 use Rattle.relation.proofs.Mask.{member-none}
 use Rattle.form.specs.Form.{Loaded, start-of, transition-at, table-of}
@@ -25,14 +25,15 @@ use Rattle.relation.specs.Words.{row-of}
 use Rattle.links.specs.Places.{before-in, behind-in, doubt-in, lost-in}
 use Rattle.links.specs.Links.{Linked, Doubted}
 use Rattle.fit.specs.Known.{Tried}
-use Rattle.rounds.specs.Rounds.{Columns, Placed, After, DoubtsKnown, Settled, Fallen}
+use Rattle.dropping.specs.Falling.{StatesOnly, DoubtsKnown, Fallen}
+use Rattle.rounds.specs.Rounds.{Placed, After, Settled}
 use Rattle.rounds.specs.Turns.{Standing, Work, work, Prepared, Turning, Refined}
 use Rattle.rounds.proofs.Fitting.{Alike, matched-agree}
 use Rattle.rounds.proofs.Settling.{row-place}
 use Rattle.rounds.proofs.RoundLaws.{held-round, in-test, kept-unless, lost-rank, more, moves, ranks-whole, rounds-are, rows-kept}
 
 -- rows of a round have states of the second table only
-pub round-columns : {M N : Table} {k : ℕ} {rows ranks : List ℕ} → After M N k rows ranks → (s : ℕ) → s < states-of M → Columns N (row-of rows s)
+pub round-columns : {M N : Table} {k : ℕ} {rows ranks : List ℕ} → After M N k rows ranks → (s : ℕ) → s < states-of M → StatesOnly N (row-of rows s)
 round-columns {M} {N} {k} after s a t h = in-right M N k s t (subst T (after .rows-are s t a) h)
 
 -- the standing before the first round
@@ -98,10 +99,7 @@ prepared-still p e r m x known =
     record {
       loaded = p .loaded;
       ranks-room = omega (arith, p .ranks-room);
-      sets-room = p .sets-room;
-      first-links = p .first-links;
-      second-links = p .second-links;
-      target-sets = p .target-sets;
+      sets-known = p .sets-known;
       rows-room = omega (arith, p .rows-room);
       marks-room = omega (arith, p .marks-room);
       amounts-room = omega (arith, p .amounts-room);
@@ -123,7 +121,7 @@ pub sure : {tables : List ℕ} {W : Work} {k fell doubtful : ℕ} {rows′ ranks
 sure {tables} {W} {k} {fell} {doubtful} {rows′} {ranks′} {marks′} h later doubted =
     record {
       columns = round-columns later;
-      states = doubted .within (states-of (first-table tables)) (p .first-links .states);
+      states = doubted .within (states-of (first-table tables)) (p .sets-known .first .states);
       sure = λ s a t out m.
           let here = held-round (first-table tables) (second-table tables) (suc k) rows′ (next .rows-are) in
           subst (λ (R : Relation). T (matched (first-table tables) (second-table tables) R s t)) (sym here)
@@ -153,7 +151,7 @@ sure {tables} {W} {k} {fell} {doubtful} {rows′} {ranks′} {marks′} h later 
         same-test (related before x y) (related now x y)
         (λ q. kept-unless (table-of f) (table-of g) k (W .rows) (W .ranks) (h .standing .after) (lost-in (W .marks)) (h .standing .next .exact) x y q
         (λ m.
-        let r = doubted .raised x s y t (link-at f (before-in (W .sets)) (p .loaded .first) (p .first-links) s c i a u w) (is-true (holds (lost-in (W .marks)) x y) m)
-        (link-at g (behind-in (W .sets)) (p .loaded .second) (p .second-links) t d j (state-of g t d v) v z) in
+        let r = doubted .raised x s y t (link-at f (before-in (W .sets)) (p .loaded .first) (p .sets-known .first) s c i a u w) (is-true (holds (lost-in (W .marks)) x y) m)
+        (link-at g (behind-in (W .sets)) (p .loaded .second) (p .sets-known .second) t d j (state-of g t d v) v z) in
         true≢false (sym (ap₂ _&&_ (r .0) (r .1)) ∙ out)))
         (round-falls (table-of f) (table-of g) k x y)

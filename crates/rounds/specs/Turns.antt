@@ -11,12 +11,13 @@ use Rattle.simulation.specs.Table.{Table, states-of}
 use Rattle.simulation.specs.Round.{rank, rank-list, maximum, pairs}
 use Rattle.relation.specs.Words.{height}
 use Rattle.relation.specs.Related.{holds}
-use Rattle.form.specs.Tables.{first-form, second-form, first-table, second-table, BothLoaded}
-use Rattle.fit.specs.Held.{held, relation-of}
-use Rattle.fit.specs.Known.{TargetSets, Tried}
-use Rattle.links.specs.Places.{HasSets, HasMarks, before-in, behind-in, targets-in, doubt-in, lost-in}
-use Rattle.links.specs.Links.{Empty, Linked}
-use Rattle.rounds.specs.Rounds.{After, DoubtsKnown, Fallen}
+use Rattle.form.specs.Tables.{first-table, second-table, BothLoaded}
+use Rattle.fit.specs.Held.{held}
+use Rattle.fit.specs.Known.{Tried}
+use Rattle.links.specs.Places.{HasMarks, lost-in}
+use Rattle.links.specs.Links.{Empty, SetsKnown}
+use Rattle.dropping.specs.Falling.{Fallen}
+use Rattle.rounds.specs.Rounds.{After}
 
 -- between round k and the next, with the pairs that fall next
 pub record Standing (M N : Table) (k : ℕ) (rows ranks lost : List ℕ) (fell : ℕ) : Type 0 where
@@ -35,27 +36,11 @@ pub record Work : Type 0 where
 abbrev pub work : (ranks sets rows marks tried amounts : List ℕ) → Work
 work ranks sets rows marks tried amounts = record { ranks = ranks; sets = sets; rows = rows; marks = marks; tried = tried; amounts = amounts }
 
--- what a round finds the pairs that fall with: those in doubt are known, and none is lost yet
-pub record Dropping (tables sets rows marks : List ℕ) (doubtful : ℕ) : Type 0 where
-  pub target-sets : TargetSets (second-form tables) sets
-  pub rows-room : most-states ≤ height rows
-  pub marks-room : HasMarks marks
-  pub ready : DoubtsKnown (first-table tables) (second-table tables) rows doubtful (doubt-in marks)
-  pub none-lost : Empty (lost-in marks)
-
--- what it finds: the pairs that fall, and what was tried for it
-pub record Dropped (tables rows marks tried : List ℕ) (fell : ℕ) : Type 0 where
-  pub fallen : Fallen (first-table tables) (second-table tables) (relation-of tables rows) (lost-in marks) fell
-  pub known : Tried tables rows tried
-
 -- two tables, a rank for each pair, the sets that are known, and room
 pub record Prepared (tables : List ℕ) (W : Work) : Type 0 where
   pub loaded : BothLoaded tables
   pub ranks-room : pairs (first-table tables) (second-table tables) ≤ length (W .ranks)
-  pub sets-room : HasSets (W .sets)
-  pub first-links : Linked (first-form tables) (before-in (W .sets))
-  pub second-links : Linked (second-form tables) (behind-in (W .sets))
-  pub target-sets : TargetSets (second-form tables) (targets-in (W .sets))
+  pub sets-known : SetsKnown tables (W .sets)
   pub rows-room : most-states ≤ height (W .rows)
   pub marks-room : HasMarks (W .marks)
   pub amounts-room : most-pairs ≤ length (W .amounts)

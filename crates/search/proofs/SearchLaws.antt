@@ -18,10 +18,10 @@ use Rattle.simulation.proofs.Finite.Sums.{sum-mono, sum-strict, when-not, one-l
 use Rattle.relation.specs.Mask.{Test, member, without-member, both, except, either, Lowest}
 use Rattle.relation.specs.Words.{row-of, height}
 use Rattle.relation.specs.Related.{holds}
-use Rattle.relation.proofs.Mask.{member-none, member-below, below-or-not}
+use Rattle.relation.proofs.Mask.{member-none, member-below, below-or-not, some-member}
 use Rattle.search.specs.Links.{HasLinks, from, via}
-use Rattle.search.specs.Search.{Room, RowsLinked, Grows, Followed, Closed, Levelled, Hit, HitOf, Forest, Walk, SearchOf}
-use Rattle.matrix.proofs.MaskedLaws.{true-or-false, neither, both-at, both-out, except-at, except-out, either-at, either-left, either-right, drop-at, drop-out, some-member, no-members}
+use Rattle.search.specs.Search.{SearchRoom, RowsLinked, Grows, ColumnsFollowed, Closed, Levelled, Hit, HitOf, Forest, RowWalk, SearchOf}
+use Rattle.matrix.proofs.MaskedLaws.{true-or-false, neither, both-at, both-out, except-at, except-out, either-at, either-left, either-right, drop-at, drop-out, no-members}
 
 -- the rows of `new` but those left are linked
 pub record Linking (new left r j : ℕ) (from via from′ via′ : ℕ → ℕ) : Type 0 where
@@ -158,7 +158,7 @@ following-next {senders} {C} {left} {left′} {r} {S} {S′} {S″} {j} new b s 
           (drop-out (member left) j c d m);
     }
 
-pub following-end : {senders : List ℕ} {C left r S S′ : ℕ} {from via from′ via′ : ℕ → ℕ} → left ≡ 0 → Following senders C left r S S′ from via from′ via′ → Followed senders (member C) r (member S) (member S′) from via from′ via′
+pub following-end : {senders : List ℕ} {C left r S S′ : ℕ} {from via from′ via′ : ℕ → ℕ} → left ≡ 0 → Following senders C left r S S′ from via from′ via′ → ColumnsFollowed senders (member C) r (member S) (member S′) from via from′ via′
 following-end z s = record { grows = s .grows; all = λ i j h u. s .all i j h (no-members z j) u }
 
 -- the rows of F but those left were gone from
@@ -173,7 +173,7 @@ pub levelling-none : {rel senders : List ℕ} {F seen S : ℕ} {from via : ℕ �
 levelling-none {S = S} c = record { part = λ k h. h; grows = grows-refl (member S); still = λ j h. h; closed = c; all = λ k j h l. absurd (neither h l) }
 
 pub levelling-next : {rel senders : List ℕ} {F left left′ seen seen′ seen″ S S′ S″ r : ℕ} (C : ℕ) {from via f v f′ v′ : ℕ → ℕ} → Levelling rel senders F left seen seen′ S S′ from via f v → Lowest (member left) r
-    → member left′ ≡ without-member r (member left) → member C ≡ except (member (row-of rel r)) (member seen′) → Followed senders (member C) r (member S′) (member S″) f v f′ v′
+    → member left′ ≡ without-member r (member left) → member C ≡ except (member (row-of rel r)) (member seen′) → ColumnsFollowed senders (member C) r (member S′) (member S″) f v f′ v′
     → member seen″ ≡ either (member seen′) (member C) → Levelling rel senders F left′ seen seen″ S S″ from via f′ v′
 levelling-next {rel} {senders} {F} {left} {left′} {seen} {seen′} {seen″} {S} {S′} {S″} {r} C s l d ec g es = record {
   part = λ k h. s .part k (drop-at (member left) r k d h .0);
@@ -220,7 +220,7 @@ hitting-next {rel} {free} {F} {left} {left′} {r} m s l d e z = record {
 pub hitting-found : {rel : List ℕ} {free F left r : ℕ} (m : ℕ) → r < most-states → m < 2 ^ most-states → Hitting rel free F left → Lowest (member left) r
     → member m ≡ both (member (row-of rel r)) (member free) → m ≢ 0 → HitOf rel free (member F) r
 hitting-found {rel} {free} {r = r} m h b s l e n = record {
-  found = λ _. let k = some-member m b n in let w = both-at (member (row-of rel r)) (member free) (k .0) e (k .1) in (s .part r (l .here), record { column = k .0; related = w .0; is-free = w .1 });
+  found = λ _. let k = some-member most-states m b n in let w = both-at (member (row-of rel r)) (member free) (k .0) e (k .1) in (s .part r (l .here), record { column = k .0; related = w .0; is-free = w .1 });
   none = λ g. absurd (omega arith);
 }
 
@@ -237,8 +237,8 @@ pub record Frontier (rel senders : List ℕ) (short free : ℕ) (from via : ℕ 
   pub closed : Closed senders (member seen) (member S)
   pub gone : (i j : ℕ) → member S i ≡ true → member F i ≡ false → holds rel i j ≡ true → member seen j ≡ true
   pub shut : (i j : ℕ) → member S i ≡ true → member F i ≡ false → holds rel i j ≡ true → member free j ≡ false
-  pub near : (k i : ℕ) → Walk rel senders short k i → k ≤ depth → member S i ≡ true
-  pub nearer : (k i : ℕ) → Walk rel senders short k i → k < depth → member F i ≡ false
+  pub near : (k i : ℕ) → RowWalk rel senders short k i → k ≤ depth → member S i ≡ true
+  pub nearer : (k i : ℕ) → RowWalk rel senders short k i → k < depth → member F i ≡ false
 
 pub frontier-none : {rel senders : List ℕ} {short free : ℕ} {from via : ℕ → ℕ} → Frontier rel senders short free from via short short 0 0
 frontier-none {rel} {senders} {short} = record {
@@ -254,9 +254,9 @@ frontier-none {rel} {senders} {short} = record {
   nearer = λ k i w l. absurd (omega arith);
 }
   where
-    none-near : {k i : ℕ} → Walk rel senders short k i → k ≤ 0 → member short i ≡ true
-    none-near (Walk.here m) l = m
-    none-near (Walk.step i′ j w r u) l = absurd (omega arith)
+    none-near : {k i : ℕ} → RowWalk rel senders short k i → k ≤ 0 → member short i ≡ true
+    none-near (RowWalk.here m) l = m
+    none-near (RowWalk.step i′ j w r u) l = absurd (omega arith)
 
 module _ {rel senders : List ℕ} {short free : ℕ} {from via from′ via′ : ℕ → ℕ} {S F seen depth r : ℕ} (S′ F′ seen′ : ℕ) (s : Frontier rel senders short free from via S F seen depth)
     (h : HitOf rel free (member F) r) (o : most-states ≤ r) (l : Levelled rel senders (member F) (member seen) (member seen′) (member S) (member S′) from via from′ via′)
@@ -298,14 +298,14 @@ module _ {rel senders : List ℕ} {short free : ℕ} {from via from′ via′ : 
   was-in i m n = ⊎-elim (λ c. c) (λ c. absurd (neither m c)) (except-out (member S′) (member S) i e n)
 
   -- a walk of one step more ends in a row of S′: its last step leaves a row of S
-  next-near : {k i : ℕ} → Walk rel senders short k i → k ≤ depth + 1 → member S′ i ≡ true
-  next-near (Walk.here m) g = l .grows .kept _ (s .starts _ m)
-  next-near (Walk.step {i = i} i′ j w u v) g =
+  next-near : {k i : ℕ} → RowWalk rel senders short k i → k ≤ depth + 1 → member S′ i ≡ true
+  next-near (RowWalk.here m) g = l .grows .kept _ (s .starts _ m)
+  next-near (RowWalk.step {i = i} i′ j w u v) g =
       let m = s .near _ i w (omega arith) in
       l .closed .senders-in i′ j (⊎-elim (λ f. l .all i j f u) (λ f. l .still j (s .gone i j m f u)) (true-or-false (member F i))) v
 
   -- and a walk of fewer ends in one of S, which is not new
-  next-nearer : (k i : ℕ) → Walk rel senders short k i → k < depth + 1 → member F′ i ≡ false
+  next-nearer : (k i : ℕ) → RowWalk rel senders short k i → k < depth + 1 → member F′ i ≡ false
   next-nearer k i w g = ⊎-elim (λ f. absurd (neither (s .near k i w (omega arith)) (except-at (member S′) (member S) i e f .1))) (λ f. f) (true-or-false (member F′ i))
 
   pub frontier-next : Frontier rel senders short free from′ via′ S′ F′ seen′ (depth + 1)
@@ -324,7 +324,7 @@ module _ {rel senders : List ℕ} {short free : ℕ} {from via from′ via′ : 
 
 -- a shorter walk ends in a row of S outside F, and none of those has a free column
 frontier-shortest : {rel senders : List ℕ} {short free : ℕ} {from via : ℕ → ℕ} {S F seen depth : ℕ} → Frontier rel senders short free from via S F seen depth
-    → (k i : ℕ) → Walk rel senders short k i → Hit rel free i → depth ≤ k
+    → (k i : ℕ) → RowWalk rel senders short k i → Hit rel free i → depth ≤ k
 frontier-shortest {depth = depth} s k i w h =
     ⊎-elim (λ l. absurd (neither (h .is-free) (s .shut i (h .column) (s .near k i w (omega arith)) (s .nearer k i w l) (h .related)))) (λ l. l) (below-or-not k depth)
 
@@ -354,7 +354,7 @@ pub forest-all : {rel senders : List ℕ} {from via : ℕ → ℕ} {short : ℕ}
 forest-all P t h u zero i m e = h i (t .root i m e)
 forest-all {via = via} P t h u (suc k) i m e = u i (via i) (t .sender i k m e)
 
-pub frontier-rows : {rel senders links : List ℕ} {short free : ℕ} {from via : ℕ → ℕ} {S F seen depth : ℕ} → Room rel senders links short → Frontier rel senders short free from via S F seen depth
+pub frontier-rows : {rel senders links : List ℕ} {short free : ℕ} {from via : ℕ → ℕ} {S F seen depth : ℕ} → SearchRoom rel senders links short → Frontier rel senders short free from via S F seen depth
     → (i : ℕ) → member F i ≡ true → i < height rel
 frontier-rows {rel} w s i m = forest-all (λ (k : ℕ). k < height rel) (s .forest) (w .starts) (w .rows) (s .rank i) i (s .inside i m) refl
 
@@ -385,7 +385,7 @@ one-fewer S S′ k i l m m′ = sum-strict most-states (λ i. when (not (member 
 pub unreached-falls : (S S′ F′ : ℕ) → F′ < 2 ^ most-states → ((i : ℕ) → member S i ≡ true → member S′ i ≡ true) → member F′ ≡ except (member S′) (member S) → unreached S′ + min 1 F′ ≤ unreached S
 unreached-falls S S′ F′ b k e = elim (ℕ-discrete F′ 0) [
   | yes z ↦ omega (arith, fewer S S′ k)
-  | no n ↦ let m = some-member F′ b n in
+  | no n ↦ let m = some-member most-states F′ b n in
       let w = except-at (member S′) (member S) (m .0) e (m .1) in
       omega (arith, one-fewer S S′ k (m .0) (member-below most-states F′ (m .0) b (m .1)) (w .1) (w .0))
 ]

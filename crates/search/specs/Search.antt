@@ -14,7 +14,7 @@ use Rattle.matrix.specs.Masks.{MaskOf}
 use Rattle.search.specs.Links.{HasLinks}
 
 -- the lists are long enough, and the rows that can be reached have masks
-pub record Room (rel senders links : List ℕ) (short : ℕ) : Type 0 where
+pub record SearchRoom (rel senders links : List ℕ) (short : ℕ) : Type 0 where
   pub columns : most-states ≤ height senders
   pub links-room : HasLinks links
   pub starts : (i : ℕ) → member short i ≡ true → i < height rel
@@ -36,7 +36,7 @@ pub record Grows (E : ℕ → ℕ → Type 0) (senders : List ℕ) (S S′ : Tes
   pub sender : (i : ℕ) → S i ≡ false → S′ i ≡ true → holds senders (via′ i) i ≡ true
 
 -- from row r by the columns of a set
-pub record Followed (senders : List ℕ) (C : Test) (r : ℕ) (S S′ : Test) (from via from′ via′ : ℕ → ℕ) : Type 0 where
+pub record ColumnsFollowed (senders : List ℕ) (C : Test) (r : ℕ) (S S′ : Test) (from via from′ via′ : ℕ → ℕ) : Type 0 where
   pub grows : Grows (λ k j. (k ≡ r) × (C j ≡ true)) senders S S′ from via from′ via′
   pub all : (i j : ℕ) → C j ≡ true → holds senders j i ≡ true → S′ i ≡ true
 
@@ -71,9 +71,9 @@ pub record Forest (rel senders : List ℕ) (short : ℕ) (from via : ℕ → ℕ
   pub sender : (i k : ℕ) → S i ≡ true → rank i ≡ suc k → holds senders (via i) i ≡ true
 
 -- row i is k steps from a short row: a step goes from a row to a column that it is related to, and on to a sender of the column
-pub data Walk (rel senders : List ℕ) (short : ℕ) : (k i : ℕ) → Type 0 where
-  here : {i : ℕ} → member short i ≡ true → Walk rel senders short zero i
-  step : {k i : ℕ} (i′ j : ℕ) → Walk rel senders short k i → holds rel i j ≡ true → holds senders j i′ ≡ true → Walk rel senders short (suc k) i′
+pub data RowWalk (rel senders : List ℕ) (short : ℕ) : (k i : ℕ) → Type 0 where
+  here : {i : ℕ} → member short i ≡ true → RowWalk rel senders short zero i
+  step : {k i : ℕ} (i′ j : ℕ) → RowWalk rel senders short k i → holds rel i j ≡ true → holds senders j i′ ≡ true → RowWalk rel senders short (suc k) i′
 
 -- a path of `depth` steps from a short row to row r, which has a free column; no walk to such a row is shorter
 pub record Reaches (rel senders : List ℕ) (short free : ℕ) (from via : ℕ → ℕ) (S : Test) (r depth : ℕ) : Type 0 where
@@ -82,7 +82,7 @@ pub record Reaches (rel senders : List ℕ) (short free : ℕ) (from via : ℕ �
   pub inside : S r ≡ true
   pub deep : rank r ≡ depth
   pub hit : Hit rel free r
-  pub shortest : (k i : ℕ) → Walk rel senders short k i → Hit rel free i → depth ≤ k
+  pub shortest : (k i : ℕ) → RowWalk rel senders short k i → Hit rel free i → depth ≤ k
 
 -- no path: S has the short rows, is closed, and no row of it has a free column
 pub record Stuck (rel senders : List ℕ) (short free : ℕ) (from via : ℕ → ℕ) (S : Test) : Type 0 where

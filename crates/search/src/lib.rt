@@ -12,7 +12,7 @@ ghost use Rattle.simulation.specs.Limits.{most-states};
 ghost use Rattle.relation.specs.Mask.{member};
 ghost use Rattle.relation.specs.Words.{mask, height};
 ghost use Rattle.search.specs.Links.{HasLinks, from, via};
-ghost use Rattle.search.specs.Search.{Room, RowsLinked, Followed, Closed, Levelled, HitOf, SearchOf};
+ghost use Rattle.search.specs.Search.{SearchRoom, RowsLinked, ColumnsFollowed, Closed, Levelled, HitOf, SearchOf};
 
 // Where the row and the column by which each row was reached lie in a lent slice.
 pub struct Links {}
@@ -82,7 +82,7 @@ fn link_rows(links: &mut [u8], rows: Set, r: usize, j: usize)
 // Row r goes by its columns to their senders. Returns the rows reached then.
 fn follow(senders: &[Word], links: &mut [u8], columns: Set, r: usize, reached: Set) -> Set
     requires { ⌜ (most-states ≤ height (now senders)) × HasLinks (now links) × (r < most-states) ⌝ }
-    ensures { λ s. ⌜ Followed (now (senders .entry)) (member (mask columns)) r (member (mask reached)) (member (mask s))
+    ensures { λ s. ⌜ ColumnsFollowed (now (senders .entry)) (member (mask columns)) r (member (mask reached)) (member (mask s))
         (from (now (links .entry))) (via (now (links .entry))) (from (now (links .exit))) (via (now (links .exit))) ⌝ }
 {
     let mut all = reached;
@@ -127,7 +127,7 @@ fn level(rel: &[Word], senders: &[Word], links: &mut [u8], rows: Set, covered: V
 
 // Levels from the short rows on, up to the first with a free column.
 pub fn search(rel: &[Word], senders: &[Word], links: &mut [u8], ends: Ends) -> Path
-    requires { ⌜ Room (now rel) (now senders) (now links) (mask (ends .short)) ⌝ }
+    requires { ⌜ SearchRoom (now rel) (now senders) (now links) (mask (ends .short)) ⌝ }
     ensures { λ s. ⌜ SearchOf (now (rel .entry)) (now (senders .entry)) (mask (ends .short)) (mask (ends .free))
         (from (now (links .exit))) (via (now (links .exit))) (member (mask (s .reached))) (s .row) (s .depth) ⌝ }
 {

@@ -11,7 +11,7 @@ use Rattle.simulation.specs.Round.{related, between, round, rank}
 use Rattle.simulation.specs.Demands.{Sound}
 use Rattle.simulation.proofs.Finite.Tests.{either}
 use Rattle.simulation.proofs.Fit.Compose.{fits?-compose}
-use Rattle.simulation.proofs.Simulation.Rounds.{In, in-zero, in-left, in-right, falls, in-matched, in-next}
+use Rattle.simulation.proofs.Simulation.Rounds.{In, in-zero, in-left, in-right, round-falls, in-matched, in-next}
 use Rattle.simulation.proofs.Simulation.Ranks.{rank-law}
 use Rattle.simulation.proofs.Simulation.Steps.{totals, fits-step-code, fits-step-fits, fits-step-by}
 
@@ -20,7 +20,7 @@ module _ (A B C : Table) (sound : Sound B) where
   pub in-chain : (k a b c : ℕ) → In A B k a b → In B C k b c → In A C k a c
   in-chain zero a b c x y = in-zero A C (in-left A B zero a b x) (in-right B C zero b c y)
   in-chain (suc k) a b c x y =
-      in-next A C k a c (in-chain k a b c (falls A B k a b x) (falls B C k b c y)) (λ i bound.
+      in-next A C k a c (in-chain k a b c (round-falls A B k a b x) (round-falls B C k b c y)) (λ i bound.
       let r = in-matched A B k a b x i bound in
       let q = in-matched B C k b c y (r .0) (r .1) in
       let m = transition A a i in

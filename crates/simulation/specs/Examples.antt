@@ -16,15 +16,15 @@ abbrev pub on : ℕ → List Entry → Transition
 on a es = record { code = a; entries = es }
 
 -- to state 1 with weight w, to state 2 with weight 1
-abbrev pub either : ℕ → Transition
-either w = on 10 (entry 1 w ∷ entry 2 1 ∷ [])
+abbrev pub fork : ℕ → Transition
+fork w = on 10 (entry 1 w ∷ entry 2 1 ∷ [])
 
 -- back to the state s
 abbrev pub stay : ℕ → ℕ → Transition
 stay a s = on a (entry s 1 ∷ [])
 
 abbrev pub with-first : ℕ → Table
-with-first w = record { codes = 10 ∷ 20 ∷ []; states = (either w ∷ []) ∷ (stay 20 1 ∷ []) ∷ [] ∷ [] }
+with-first w = record { codes = 10 ∷ 20 ∷ []; states = (fork w ∷ []) ∷ (stay 20 1 ∷ []) ∷ [] ∷ [] }
 
 abbrev pub P : Table
 P = with-first 3
@@ -48,7 +48,7 @@ pp = refl
 
 -- two targets that can each be sent out alone, and not together
 abbrev pub twins : Table
-twins = record { codes = 10 ∷ 20 ∷ []; states = (either 1 ∷ []) ∷ (stay 20 1 ∷ []) ∷ (stay 20 2 ∷ []) ∷ [] }
+twins = record { codes = 10 ∷ 20 ∷ []; states = (fork 1 ∷ []) ∷ (stay 20 1 ∷ []) ∷ (stay 20 2 ∷ []) ∷ [] }
 
 together : rank twins C 0 0 ≡ 2
 unfolding rank
@@ -66,10 +66,10 @@ pc-length = refl
 
 -- a contract with two like-coded steps, both to be beaten; the second has sets {2} and {1, 2} of the largest excess
 abbrev pub pod : Table
-pod = record { codes = 10 ∷ 20 ∷ 30 ∷ []; states = (either 1 ∷ []) ∷ (stay 20 1 ∷ []) ∷ (stay 30 2 ∷ []) ∷ [] }
+pod = record { codes = 10 ∷ 20 ∷ 30 ∷ []; states = (fork 1 ∷ []) ∷ (stay 20 1 ∷ []) ∷ (stay 30 2 ∷ []) ∷ [] }
 
 abbrev pub contract : Table
-contract = record { codes = 10 ∷ 20 ∷ 30 ∷ []; states = (stay 10 1 ∷ either 1 ∷ []) ∷ (stay 20 1 ∷ []) ∷ [] ∷ [] }
+contract = record { codes = 10 ∷ 20 ∷ 30 ∷ []; states = (stay 10 1 ∷ fork 1 ∷ []) ∷ (stay 20 1 ∷ []) ∷ [] ∷ [] }
 
 both-beaten : node-bytes (tree pod contract 0 0) ≡ 1 ∷ 10 ∷ 2 ∷ 1 ∷ 1 ∷ 0 ∷ 0 ∷ 2 ∷ 1 ∷ 0 ∷ 2 ∷ 30 ∷ 1 ∷ 2 ∷ 1 ∷ 0 ∷ 0 ∷ 30 ∷ 1 ∷ 2 ∷ 1 ∷ 0 ∷ 0 ∷ []
 unfolding node-bytes tree

@@ -26,16 +26,16 @@ pub stage-at : (f : ℕ) (t : Layout) (a : ℕ) {u : Layout} {c : Cursor} → f 
 stage-at f t a e h q = rw (e, ← h, ← q)
 
 -- the answer was a layout u and a cursor c
-pub record Reached (f : ℕ) (t : Layout) (a : ℕ) (u : Layout) (c : Cursor) : Type 0 where
+pub record StageTold (f : ℕ) (t : Layout) (a : ℕ) (u : Layout) (c : Cursor) : Type 0 where
   pub passed : f ≡ 0
   pub table : u ≡ t
   pub place : c .at ≡ a
 
-pub reached : (f : ℕ) (t : Layout) (a : ℕ) {r : Stage} {u : Layout} {c : Cursor} → r ≡ stage f t a → r ≡ At u c → Reached f t a u c
-reached zero t a {r} {u} {c} e q =
+pub stage-told : (f : ℕ) (t : Layout) (a : ℕ) {r : Stage} {u : Layout} {c : Cursor} → r ≡ stage f t a → r ≡ At u c → StageTold f t a u c
+stage-told zero t a {r} {u} {c} e q =
     let h : c ≡ record { at = a } = cc in
     record { passed = refl; table = cc; place = ap (λ (x : Cursor). x .at) h }
-reached (suc f) t a e q = let z : _≡_ {A = ℕ} 0 1 = cc in absurd (omega arith)
+stage-told (suc f) t a e q = let z : _≡_ {A = ℕ} 0 1 = cc in absurd (omega arith)
 
 -- a refusal stays, whatever the later sections have
 pub stays : (f : ℕ) (t : Layout) (a : ℕ) {r : Stage} {k : ℕ} (g : ℕ) (u : Layout) (b : ℕ) → r ≡ stage f t a → r ≡ Refused k → r ≡ stage (f then g) u b
@@ -56,13 +56,13 @@ pub items-at : (f n a e : ℕ) {m b : ℕ} {c : Cursor} → f ≡ 0 → m ≡ n 
 items-at f n a e h p q r = rw (h, ← p, ← q, ← r)
 
 -- the answer was m items from the place b on, and a cursor c
-pub record Counted (f n a e m b : ℕ) (c : Cursor) : Type 0 where
+pub record ItemsTold (f n a e m b : ℕ) (c : Cursor) : Type 0 where
   pub passed : f ≡ 0
   pub count : m ≡ n
   pub from : b ≡ a
   pub place : c .at ≡ e
 
-pub items-told : (f n a e : ℕ) {r : Items} {m b : ℕ} {c : Cursor} → r ≡ items-if f n a e → r ≡ ItemsAt m b c → Counted f n a e m b c
+pub items-told : (f n a e : ℕ) {r : Items} {m b : ℕ} {c : Cursor} → r ≡ items-if f n a e → r ≡ ItemsAt m b c → ItemsTold f n a e m b c
 items-told zero n a e {r} {m} {b} {c} p q =
     let h : c ≡ record { at = e } = cc in
     record { passed = refl; count = cc; from = cc; place = ap (λ (x : Cursor). x .at) h }

@@ -10,8 +10,8 @@ use Rattle.layout.specs.Bytes.{Decoded, refused, accepted, decode, _then_, acti
 use Rattle.table.specs.declared.parts.Layout.{Layout}
 use Rattle.table.specs.declared.parts.Stage.{Stage}
 use Rattle.table.specs.declared.parts.Stage.the-variants.{Refused, At}
-use Rattle.table.specs.declared.parts.Answer.{Answer}
-use Rattle.table.specs.declared.parts.Answer.the-variants.{Refused as Refusal, Accepted}
+use Rattle.table.specs.declared.parts.TableAnswer.{TableAnswer}
+use Rattle.table.specs.declared.parts.TableAnswer.the-variants.{Refused as Refusal, Accepted}
 
 abbrev pub unread : Layout
 unread = record { actions = 0; states = 0; transitions = 0; entries = 0; «counts_at» = 0; «transitions_at» = 0; «entries_at» = 0 }
@@ -76,9 +76,9 @@ layout-of M =
     }
 
 -- the refusal's number, or where the parts of the table lie
-abbrev pub answer-of : Decoded → Answer
+abbrev pub answer-of : Decoded → TableAnswer
 answer-of (refused k) = Refusal k
 answer-of (accepted t) = Accepted (layout-of t)
 
-abbrev pub answer : List ℕ → Answer
+abbrev pub answer : List ℕ → TableAnswer
 answer s = answer-of (decode s)

@@ -3,6 +3,6 @@ pub mod parts;
 mod reader;
 mod sections;
 
-pub use parts::Answer;
+pub use parts::TableAnswer;
 pub use reader::check;
 pub use reader::read;

@@ -40,7 +40,7 @@ pub enum Stage {
     At(Layout, Cursor),
 }
 
-pub enum Answer {
+pub enum TableAnswer {
     Refused(u8),
     Accepted(Layout),
 }

@@ -1,12 +1,12 @@
 // Reads a table, its sections in their order.
-use crate::parts::Answer;
+use crate::parts::TableAnswer;
 use crate::sections;
 ghost use mathlib.Core.Path.{_≡_};
 ghost use Rattle.layout.specs.Bytes.{refusal};
 ghost use Rattle.table.specs.Stages.{answer};
 
 // The table in the bytes, or the number of its refusal.
-pub fn read(s: &[u8]) -> Answer
+pub fn read(s: &[u8]) -> TableAnswer
     ensures { λ r. ⌜ r ≡ answer (now (s .entry)) ⌝ }
 {
     let a = sections::actions(s);
@@ -22,7 +22,7 @@ pub fn check(bytes: &[u8]) -> u8
 {
     let answer = read(bytes);
     match answer {
-        Answer::Refused(number) => number,
-        Answer::Accepted(_) => 0,
+        TableAnswer::Refused(number) => number,
+        TableAnswer::Accepted(_) => 0,
     }
 }

@@ -1,7 +1,7 @@
 // The four sections in their order: each takes the stage that the one before has reached.
-use crate::parts::Answer;
 use crate::parts::Layout;
 use crate::parts::Stage;
+use crate::parts::TableAnswer;
 use items::cursor::Cursor;
 use items::cursor::Read;
 use items::items::codes_refusal;
@@ -137,16 +137,16 @@ pub fn entries(s: &[u8], stage: Stage) -> Stage
 }
 
 // Nothing may follow section 4.
-pub fn end(s: &[u8], stage: Stage) -> Answer
+pub fn end(s: &[u8], stage: Stage) -> TableAnswer
     requires { ⌜ stage ≡ after-entries (now s) ⌝ }
     ensures { λ r. ⌜ r ≡ answer (now (s .entry)) ⌝ }
 {
     match stage {
-        Stage::Refused(number) => Answer::Refused(number),
+        Stage::Refused(number) => TableAnswer::Refused(number),
         Stage::At(t, c) => if c.at == s.len() {
-            Answer::Accepted(t)
+            TableAnswer::Accepted(t)
         } else {
-            Answer::Refused(2)
+            TableAnswer::Refused(2)
         },
     }
 }

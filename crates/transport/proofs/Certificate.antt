@@ -17,7 +17,7 @@ use Rattle.simulation.proofs.Finite.Tests.{same-test, is-true, true-T, false-T}
 use Rattle.simulation.proofs.Finite.Sums.{sum-mono, sum-tight}
 use Rattle.simulation.proofs.Flow.Partial.{Reach, row, tight-from}
 use Rattle.simulation.proofs.Fit.Gain.{supply, demand, all-supply}
-use Rattle.simulation.proofs.Fit.Hall.{Partial, Certified, sent-all, full-shares}
+use Rattle.simulation.proofs.Fit.Hall.{PartialFlow, Certified, sent-all, full-shares}
 use Rattle.simulation.proofs.Fit.Cut.{Reached, largest-gain-sent, fits-sent, sent-fits, cut-certified}
 use Rattle.relation.specs.Mask.{Test, member}
 use Rattle.relation.proofs.Mask.{lowest-of, member-none, member-high, below-power}
@@ -28,7 +28,7 @@ use Rattle.matrix.specs.Masks.{Used}
 use Rattle.matrix.specs.Flow.{Flow}
 use Rattle.search.specs.Search.{Forest, Ended}
 use Rattle.greedy.specs.Start.{Balanced}
-use Rattle.matrix.proofs.MaskedLaws.{true-or-false, neither, user-column, user-row}
+use Rattle.matrix.proofs.MaskedLaws.{true-or-false, neither, sender-column, sender-row}
 use Rattle.search.proofs.SearchLaws.{forest-all}
 
 pub eq-T : {m n : ℕ} → m ≡ n → T (eqb m n)
@@ -40,7 +40,7 @@ none-reached h (Reach.short i l s) = omega (arith, h i l)
 none-reached h (Reach.back i j i′ r l m t l′ d) = none-reached h r
 
 -- S is the set of the members of r, r a mask of rows
-module _ (ws vs rel x : List ℕ) (r : ℕ) (F : Partial (holds rel) ws vs (cell x)) (Z : Certified (holds rel) ws vs (cell x) (member r))
+module _ (ws vs rel x : List ℕ) (r : ℕ) (F : PartialFlow (holds rel) ws vs (cell x)) (Z : Certified (holds rel) ws vs (cell x) (member r))
     (K : Reached (holds rel) ws vs (cell x) (member r)) (l : r < 2 ^ length ws) where
   all-sent : r ≡ 0 → total ws * total vs ≤ sent-all ws vs (cell x)
   all-sent z = omega (
@@ -79,20 +79,20 @@ module _ (ws vs rel x : List ℕ) (r : ℕ) (F : Partial (holds rel) ws vs (cell
 module _ {p q : ℕ} {rel x senders : List ℕ} {from via : ℕ → ℕ} {short : ℕ} {S : Test} {rank : ℕ → ℕ} {a : ℕ → ℕ} (t : Forest rel senders short from via S rank) (u : Used p q x senders)
     (h : (i : ℕ) → member short i ≡ true → i < p) (s : (i : ℕ) → member short i ≡ true → row q (cell x) i < a i) where
   pub forest-row : (k i : ℕ) → S i ≡ true → rank i ≡ k → i < p
-  forest-row = forest-all (λ (k : ℕ). k < p) t h (user-row u)
+  forest-row = forest-all (λ (k : ℕ). k < p) t h (sender-row u)
 
   pub forest-reach : (k i : ℕ) → S i ≡ true → rank i ≡ k → Reach p q (holds rel) a (cell x) i
   forest-reach zero i m e = Reach.short i (forest-row zero i m e) (s i (t .root i m e))
   forest-reach (suc k) i m e =
       let r = t .before i k m e in
-      let j = user-column u i (via i) (t .sender i k m e) in
+      let j = sender-column u i (via i) (t .sender i k m e) in
       Reach.back (from i) (via i) i (forest-reach k (from i) r (t .lower i k m e)) (forest-row k (from i) r (t .lower i k m e)) j (true-T (t .related i k m e))
       (forest-row (suc k) i m e) (u .column (via i) j .some i (t .sender i k m e))
 
 -- the search ended without a path
 module _ {ws vs rel x a b senders : List ℕ} (r : ℕ) (f : Flow (length ws) (length vs) rel x a b senders) (d : Ended (length ws) (length vs) rel a b senders (member r))
     (e : Balanced ws vs x a b) where
-  flow : Partial (holds rel) ws vs (cell x)
+  flow : PartialFlow (holds rel) ws vs (cell x)
   unfolding row-sum column-sum
   flow = record {
     support = λ i j h k n. true-T (f .supported .support i j h k n);

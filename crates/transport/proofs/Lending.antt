@@ -48,7 +48,7 @@ module _ {ws vs x₀ x a b : List ℕ} (s : Begun ws vs x₀ x a b) (la : length
       )
 
 -- the greedy flow G from the start F
-pub record Filled (ws vs rel x₀ : List ℕ) (F G : Partial) (free : ℕ) : Type 0 where
+pub record GreedyFrom (ws vs rel x₀ : List ℕ) (F G : Partial) (free : ℕ) : Type 0 where
   pub given : Given ws vs rel x₀
   pub begun : Begun ws vs x₀ (F .amounts) (F .supply) (F .demand)
   pub same-length : length (F .amounts) ≡ length x₀
@@ -58,7 +58,7 @@ pub record Filled (ws vs rel x₀ : List ℕ) (F G : Partial) (free : ℕ) : Typ
   pub free-columns : MaskOf (length (F .demand)) (λ j. getD (G .demand) j 0) free
   pub greedy : Greedy (length (F .supply)) (length (F .demand)) rel (λ i. getD (F .supply) i 0) (λ j. getD (F .demand) j 0) (G .amounts)
 
-module _ {ws vs rel x₀ : List ℕ} {F G : Partial} {free : ℕ} (k : Filled ws vs rel x₀ F G free) where
+module _ {ws vs rel x₀ : List ℕ} {F G : Partial} {free : ℕ} (k : GreedyFrom ws vs rel x₀ F G free) where
   pub rows-left : length (G .supply) ≡ length ws
   rows-left = k .improves .same-a ∙ k .rows
 

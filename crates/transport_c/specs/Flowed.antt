@@ -23,7 +23,7 @@ pub record Accepts (ws vs rel x cut paths : List ℕ) (r : Bool) : Type 0 where
   pub refused : r ≡ false → Taken ws vs rel x cut paths → ⊥
 
 -- 1 with the kernel's answer, its cut c and the number of paths k first in their buffers, where the input is taken; else 0, and nothing changed
-pub record Flowed (ws vs rel x cut paths x′ cut′ paths′ : List ℕ) (r : ℕ) : Type 0 where
+pub record FlowAnswered (ws vs rel x cut paths x′ cut′ paths′ : List ℕ) (r : ℕ) : Type 0 where
   pub answered : Taken ws vs rel x cut paths → (r ≡ 1) × (c : Set) × (k : ℕ) × (cut′ ≡ put-row cut 0 c) × (paths′ ≡ set paths 0 k)
       × MaximumFlow ws vs rel x x′ (mask c) × Counts ws vs rel x′ k
   pub refused : (Taken ws vs rel x cut paths → ⊥) → (r ≡ 0) × (x′ ≡ x) × (cut′ ≡ cut) × (paths′ ≡ paths)

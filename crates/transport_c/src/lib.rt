@@ -3,7 +3,7 @@ use relation::Word;
 use relation::rows;
 use relation::set::Set;
 use simulation::Table;
-ghost use Rattle.transport_c.specs.Flowed.{Accepts, Flowed};
+ghost use Rattle.transport_c.specs.Flowed.{Accepts, FlowAnswered};
 
 // Whether the input is taken: not with more than Table::STATES targets on a side, a total above Table::TOTAL, too few masks, too few cells,
 // or no place for the cut or for the number of paths.
@@ -48,7 +48,7 @@ pub extern "C" fn transport_flow(
     cut: &mut [Word],
     paths: &mut [u32],
 ) -> u32
-    ensures { λ r. ⌜ Flowed (now (m .entry)) (now (n .entry)) (now (rel .entry)) (now (amounts .entry)) (now (cut .entry)) (now (paths .entry))
+    ensures { λ r. ⌜ FlowAnswered (now (m .entry)) (now (n .entry)) (now (rel .entry)) (now (amounts .entry)) (now (cut .entry)) (now (paths .entry))
         (now (amounts .exit)) (now (cut .exit)) (now (paths .exit)) r ⌝ }
 {
     if accepts(m, n, rel, amounts, cut, paths) {

@@ -1,6 +1,6 @@
 -- What is written of a transition, turn by turn: the part that each turn leaves; and what is written of a tree.
 -- Assumes nothing.
-use mathlib.Core.Path.{_≡_, sym, ap, ap₂, _∙_}
+use mathlib.Core.Path.{_≡_, sym, ap, ap₂, _∙_, subst}
 use mathlib.Core.Logic.{_≢_}
 use mathlib.Core.List.{List, _∷_, _++_}
 use Prim.Native.Nat.{ℕ, _+_, _-_, _*_, _^_, _≤_, _<_}
@@ -19,88 +19,68 @@ use Rattle.choice.specs.Choice.{Lost}
 use Rattle.counting.specs.Pair.{number}
 use Rattle.counting.specs.Count.{longest}
 use Rattle.tree.specs.declared.write.Rest.{Rest}
-use Rattle.tree.specs.Parts.{words-for, stack-words, step-of, Left, StepGiven, StepWritten, Around, TreeGiven}
+use Rattle.tree.specs.declared.write.Step.{Step}
+use Rattle.tree.specs.Parts.{words-for, stack-words, offset, step-of, Left, StepGiven, StepWritten, Around, TreeGiven}
 use Rattle.tree.proofs.Lengths.{step-size, tree-parts}
 use Rattle.tree.proofs.Places.{piece, placed, piece-length, placed-length}
 use Rattle.tree.proofs.Slots.{Slot, slot-lent, slot-kept, left-none, left-inner}
-use Rattle.tree.proofs.Nodes.{pair-lost, pair-size, pair-asked, left-all, Kept, kept-all, kept-then, given-kept}
+use Rattle.tree.proofs.Nodes.{pair-lost, pair-size, pair-asked, left-all, kept-all, StepLoop, loop-begins, loop-next}
 
 -- ---- the loop down the parts that are left
 
-module _ (tables : List ℕ) (s t : ℕ) where
-  -- where the loop stands: all but the part in hand is written
-  pub record HoleLoop (ranks choices lengths : List ℕ) (limit : ℕ) (amounts₀ stack₀ buf₀ amounts stack buf : List ℕ) (rest : Rest) : Type 0 where
-    pub step : StepGiven tables ranks choices lengths s t limit amounts stack buf
-    pub short : length buf ≤ limit
-    pub small : length buf < 2 ^ 64
-    pub held : Left tables choices lengths (step-of tables s t) (length (step-of tables s t)) (rest .s) (rest .t) (rest .at) (rest .len) buf
-    pub kept : Kept amounts₀ stack₀ buf₀ amounts stack buf
+-- where the loop stands: all but the part in hand is written
+pub record HoleLoop (tables ranks choices lengths : List ℕ) (step : Step) (amounts₀ stack₀ buf₀ amounts stack buf : List ℕ) (rest : Rest) : Type 0 where
+  pub loop : StepLoop tables ranks choices lengths step amounts₀ stack₀ buf₀ amounts stack buf
+  pub held : Left tables choices lengths (step-of tables (step .s) (step .t)) (length (step-of tables (step .s) (step .t))) rest buf
 
-pub hole-begins : {tables ranks choices lengths : List ℕ} {s t limit : ℕ} {amounts stack buf : List ℕ} → StepGiven tables ranks choices lengths s t limit amounts stack buf
-    → length buf ≤ limit → length buf < 2 ^ 64
-    → HoleLoop tables s t ranks choices lengths limit amounts stack buf amounts stack buf (record { s = s; t = t; at = 0; len = length buf })
-hole-begins {buf = buf} g short small = record { step = g; short = short; small = small; held = left-all (g .measured) (length buf) (g .size) buf; kept = kept-all }
+pub hole-begins : {tables ranks choices lengths : List ℕ} {step : Step} {amounts stack buf : List ℕ} → StepGiven tables ranks choices lengths step amounts stack buf
+    → length buf ≤ step .limit → length buf < 2 ^ 64
+    → HoleLoop tables ranks choices lengths step amounts stack buf amounts stack buf (record { s = step .s; t = step .t; at = 0; len = length buf })
+hole-begins {buf = buf} g short small = record { loop = loop-begins g short small kept-all; held = left-all (g .measured) (length buf) (g .size) buf }
 
-module _ {tables : List ℕ} {s t : ℕ} {ranks choices lengths : List ℕ} {limit : ℕ} {amounts₀ stack₀ buf₀ amounts stack buf : List ℕ} {rest : Rest}
-    (l : HoleLoop tables s t ranks choices lengths limit amounts₀ stack₀ buf₀ amounts stack buf rest) where
-  pub hole-ends : rest .len ≡ 0 → buf ≡ step-of tables s t
-  hole-ends z = ext-getD 0 buf (step-of tables s t) (l .step .size) (λ k lt. left-none (l .held) z k (omega (arith, l .step .size)))
+module _ {tables ranks choices lengths : List ℕ} {step : Step} {amounts₀ stack₀ buf₀ amounts stack buf : List ℕ} {rest : Rest}
+    (l : HoleLoop tables ranks choices lengths step amounts₀ stack₀ buf₀ amounts stack buf rest) where
+  abbrev total : List ℕ
+  total = step-of tables (step .s) (step .t)
+
+  pub hole-ends : rest .len ≡ 0 → buf ≡ total
+  hole-ends z = ext-getD 0 buf total (l .loop .call .size) (λ k lt. left-none (l .held) z k (omega (arith, l .loop .call .size)))
 
   pub hole-room : rest .at + rest .len ≤ length buf
-  hole-room = omega (arith, l .held .within, l .step .size)
+  hole-room = omega (arith, l .held .within, l .loop .call .size)
 
   module _ (some : rest .len ≢ 0) where
     pos : 0 < rest .len
     pos = pos-of-ne-zero some
 
-    hole-slot : Slot (step-of tables s t) (rest .at) (rest .at + rest .len) buf (step-of tables (rest .s) (rest .t))
+    hole-slot : Slot total (rest .at) (rest .at + rest .len) buf (step-of tables (rest .s) (rest .t))
     hole-slot =
-        let q = l .held .rest pos in
+        let q = l .held .part pos in
         record { ordered = omega arith; room = hole-room; part = q .part; size = omega (arith, q .size) }
 
-    pub hole-step : StepGiven tables ranks choices lengths (rest .s) (rest .t) limit amounts stack (piece (rest .at) (rest .at + rest .len) buf)
-    hole-step =
-        record {
-          given = l .step .given;
-          measured = l .held .rest pos .measured;
-          size = slot-lent hole-slot;
-          levels = l .step .levels;
-          deep = l .step .deep;
-          words = l .step .words;
-        }
+    pub hole-step : StepGiven tables ranks choices lengths (record { s = rest .s; t = rest .t; limit = step .limit }) amounts stack (piece (rest .at) (rest .at + rest .len) buf)
+    hole-step = record { given = l .loop .call .given; depth = l .loop .call .depth; measured = l .held .part pos .measured; size = slot-lent hole-slot }
 
-    pub hole-short : length (piece (rest .at) (rest .at + rest .len) buf) ≤ limit
-    hole-short = omega (arith, slot-lent hole-slot, hole-slot .size, hole-room, l .short)
+    pub hole-short : length (piece (rest .at) (rest .at + rest .len) buf) ≤ step .limit
+    hole-short = omega (arith, slot-lent hole-slot, hole-slot .size, hole-room, l .loop .short)
 
-    module _ {half : ℕ} {found : Rest} {zs : List ℕ} (w : Around tables choices lengths (step-of tables (rest .s) (rest .t)) half found zs) where
-      pub hole-less : found .len < rest .len
-      hole-less = omega (arith, w .less, hole-slot .size)
+    module _ {half : ℕ} {hole : Rest} {zs : List ℕ} (w : Around tables choices lengths (step-of tables (rest .s) (rest .t)) half hole zs) where
+      pub hole-fits : rest .at + hole .at < 2 ^ 64
+      hole-fits = omega (arith, w .left .within, hole-slot .size, hole-room, l .loop .small)
 
-      pub hole-fits : rest .at + found .at < 2 ^ 64
-      hole-fits = omega (arith, w .left .within, hole-slot .size, hole-room, l .small)
+      module _ {rest′ : Rest} (moved : rest′ ≡ offset hole (rest .at)) where
+        pub hole-less : rest′ .len < rest .len
+        hole-less = omega (arith, w .less, hole-slot .size, ap (λ (r : Rest). r .len) moved)
 
-      pub hole-next : (same : length zs ≡ length (piece (rest .at) (rest .at + rest .len) buf)) {amounts′ stack′ : List ℕ}
-          → length amounts′ ≡ length amounts → length stack′ ≡ length stack
-          → HoleLoop tables s t ranks choices lengths limit amounts₀ stack₀ buf₀ amounts′ stack′ (placed (rest .at) (rest .at + rest .len) buf zs)
-          (record { s = found .s; t = found .t; at = rest .at + found .at; len = found .len })
-      hole-next same {amounts′} {stack′} ea es =
-          let k : Kept amounts stack buf amounts′ stack′ (placed (rest .at) (rest .at + rest .len) buf zs) =
-          record { same-amounts = ea; same-stack = es; same-buf = slot-kept hole-slot zs same } in
-          let g = l .step in
-          record {
-            step = record {
-              given = given-kept (g .given) k;
-              measured = g .measured;
-              size = k .same-buf ∙ g .size;
-              levels = g .levels;
-              deep = g .deep;
-              words = omega (arith, k .same-stack, g .words);
-            };
-            short = omega (arith, k .same-buf, l .short);
-            small = omega (arith, k .same-buf, l .small);
-            held = left-inner hole-slot zs same (length (step-of tables s t)) (l .held .within) (l .held .written) (w .left);
-            kept = kept-then (l .kept) k;
-          }
+        pub hole-next : (same : length zs ≡ length (piece (rest .at) (rest .at + rest .len) buf)) {amounts′ stack′ : List ℕ}
+            → length amounts′ ≡ length amounts → length stack′ ≡ length stack
+            → HoleLoop tables ranks choices lengths step amounts₀ stack₀ buf₀ amounts′ stack′ (placed (rest .at) (rest .at + rest .len) buf zs) rest′
+        hole-next same ea es =
+            record {
+              loop = loop-next (l .loop) (record { same-amounts = ea; same-stack = es; same-buf = slot-kept hole-slot zs same });
+              held = subst (λ (r : Rest). Left tables choices lengths total (length total) r (placed (rest .at) (rest .at + rest .len) buf zs)) (sym moved)
+                  (left-inner hole-slot zs same (length total) (l .held .within) (l .held .written) (w .left));
+            }
 
 -- ---- a tree
 
@@ -137,18 +117,19 @@ module _ {tables ranks choices lengths : List ℕ} {s t : ℕ} {amounts buf : Li
       root-piece : length (piece 1 (1 + r) (set buf 0 b)) ≡ (1 + r) - 1
       root-piece = piece-length 1 (1 + r) (set buf 0 b) (omega arith) set-room
 
-      pub root-step : (stack : List ℕ) → stack-words ≤ length stack → StepGiven tables ranks choices lengths s t longest amounts stack (piece 1 (1 + r) (set buf 0 b))
+      abbrev root : Step
+      root = record { s = s; t = t; limit = longest }
+
+      pub root-step : (stack : List ℕ) → stack-words ≤ length stack → StepGiven tables ranks choices lengths root amounts stack (piece 1 (1 + r) (set buf 0 b))
       root-step stack room =
           record {
             given = g .given;
+            depth = record { levels = 16; deep = omega arith; words = omega (arith, words-enough) };
             measured = g .measured;
             size = omega (arith, root-piece, root-r);
-            levels = 16;
-            deep = omega arith;
-            words = omega (arith, words-enough);
           }
 
-      module _ {rest : Rest} {ys : List ℕ} (w : StepWritten tables s t longest rest (piece 1 (1 + r) (set buf 0 b)) ys)
+      module _ {rest : Rest} {ys : List ℕ} (w : StepWritten tables root rest (piece 1 (1 + r) (set buf 0 b)) ys)
           (same : length ys ≡ length (piece 1 (1 + r) (set buf 0 b))) where
         pub root-kept : length (placed 1 (1 + r) (set buf 0 b) ys) ≡ length buf
         root-kept = placed-length 1 (1 + r) (set buf 0 b) (omega arith) set-room ys (same ∙ root-piece) ∙ length-set buf 0 b

@@ -18,7 +18,7 @@ use Rattle.simulation.specs.Demands.{Sound}
 use Rattle.simulation.proofs.Finite.Tests.{and-left, and-right, is-false}
 use Rattle.simulation.proofs.Finite.Sums.{sum-pick, members}
 use Rattle.simulation.proofs.Simulation.Ranks.{rank-law}
-use Rattle.simulation.proofs.Trees.Choice.{Fallen, fallen-root}
+use Rattle.simulation.proofs.Trees.Choice.{RanksUpTo, fallen-root}
 use Rattle.simulation.proofs.Trees.OwnTree.{node-fuel}
 use Rattle.simulation.proofs.Trees.Length.{node-length}
 use Rattle.relation.specs.Mask.{without-member, Lowest}
@@ -27,7 +27,7 @@ use Rattle.tree.proofs.Bytes.{steps-lowest, no-steps, node-is}
 -- ---- the bytes of a pair and of a node
 
 module _ (M N : Table) (sound : Sound M) (s : ℕ) (a : s < states-of M) where
-  pub fallen-set : (X : States) → ((t : ℕ) → T (X t) → (t < states-of N) × (0 < rank M N s t)) → Fallen M N (pairs M N) s X
+  pub fallen-set : (X : States) → ((t : ℕ) → T (X t) → (t < states-of N) × (0 < rank M N s t)) → RanksUpTo M N (pairs M N) s X
   fallen-set X h = record { state = a; ranks = λ t b x. (h t x .1, rank-law M N s t a b .bound) }
 
   -- the bytes of a node are as many as the lengths of its pairs, and one

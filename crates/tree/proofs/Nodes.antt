@@ -29,12 +29,14 @@ use Rattle.choice.specs.Choice.{Lost}
 use Rattle.counting.specs.Pair.{number}
 use Rattle.counting.proofs.Pairs.{lost-place, lost-low, member-holds, without-in}
 use Rattle.measure.specs.Lengths.{Measured}
+use Rattle.tree.specs.declared.write.Node.{Node}
 use Rattle.tree.specs.declared.write.Rest.{Rest}
-use Rattle.tree.specs.Parts.{At, node-of, step-of, Left, WriteGiven, StepGiven, StepWritten, NodeGiven, Around}
+use Rattle.tree.specs.declared.write.Step.{Step}
+use Rattle.tree.specs.Parts.{At, nothing, Remains, Depth, node-of, step-of, Left, WriteGiven, StepGiven, StepWritten, NodeGiven, Around}
 use Rattle.tree.proofs.Bytes.{members-all, steps-lowest, no-steps, steps-bytes, node-is}
 use Rattle.tree.proofs.Lengths.{step-size}
 use Rattle.tree.proofs.Places.{at-self, at-is, at-front, at-back, piece, placed}
-use Rattle.tree.proofs.Slots.{Slot, slot-lent, slot-kept, Standing, Done, stand-next, stand-ends}
+use Rattle.tree.proofs.Slots.{Slot, slot-lent, slot-kept, PartLoop, Done, stand-begins, stand-next, stand-ends}
 
 -- ---- a pair that is measured
 
@@ -76,16 +78,16 @@ module _ {tables ranks choices lengths amounts : List ℕ} (g : WriteGiven table
 
 -- ---- what is lent keeps its lengths
 
-pub record Kept (amounts₀ stack₀ buf₀ amounts stack buf : List ℕ) : Type 0 where
+pub record LengthsKept (amounts₀ stack₀ buf₀ amounts stack buf : List ℕ) : Type 0 where
   pub same-amounts : length amounts ≡ length amounts₀
   pub same-stack : length stack ≡ length stack₀
   pub same-buf : length buf ≡ length buf₀
 
-pub kept-all : {amounts stack buf : List ℕ} → Kept amounts stack buf amounts stack buf
+pub kept-all : {amounts stack buf : List ℕ} → LengthsKept amounts stack buf amounts stack buf
 kept-all = record { same-amounts = refl; same-stack = refl; same-buf = refl }
 
-pub kept-then : {amounts₀ stack₀ buf₀ amounts stack buf amounts′ stack′ buf′ : List ℕ} → Kept amounts₀ stack₀ buf₀ amounts stack buf → Kept amounts stack buf amounts′ stack′ buf′
-    → Kept amounts₀ stack₀ buf₀ amounts′ stack′ buf′
+pub kept-then : {amounts₀ stack₀ buf₀ amounts stack buf amounts′ stack′ buf′ : List ℕ} → LengthsKept amounts₀ stack₀ buf₀ amounts stack buf → LengthsKept amounts stack buf amounts′ stack′ buf′
+    → LengthsKept amounts₀ stack₀ buf₀ amounts′ stack′ buf′
 kept-then a b =
     record {
       same-amounts = b .same-amounts ∙ a .same-amounts;
@@ -93,23 +95,43 @@ kept-then a b =
       same-buf = b .same-buf ∙ a .same-buf;
     }
 
-pub given-kept : {tables ranks choices lengths amounts stack buf amounts′ stack′ buf′ : List ℕ} → WriteGiven tables ranks choices lengths amounts
-    → Kept amounts stack buf amounts′ stack′ buf′ → WriteGiven tables ranks choices lengths amounts′
-given-kept g k = record { ranked = g .ranked; notes = g .notes; enough = g .enough; amounts-room = omega (arith, g .amounts-room, k .same-amounts) }
+module _ {amounts stack buf amounts′ stack′ buf′ : List ℕ} (k : LengthsKept amounts stack buf amounts′ stack′ buf′) where
+  depth-kept : {limit : ℕ} → Depth limit stack → Depth limit stack′
+  depth-kept d = record { levels = d .levels; deep = d .deep; words = omega (arith, d .words, k .same-stack) }
 
-node-kept : {tables ranks choices lengths amounts stack buf amounts′ stack′ buf′ : List ℕ} {s members half : ℕ} → NodeGiven tables ranks choices lengths s members half amounts stack buf
-    → Kept amounts stack buf amounts′ stack′ buf′ → NodeGiven tables ranks choices lengths s members half amounts′ stack′ buf′
-node-kept g k =
-    record {
-      given = given-kept (g .given) k;
-      state = g .state;
-      measured = g .measured;
-      size = k .same-buf ∙ g .size;
-      once = omega (arith, k .same-buf, g .once);
-      levels = g .levels;
-      deep = g .deep;
-      words = omega (arith, k .same-stack, g .words);
-    }
+  module _ {tables ranks choices lengths : List ℕ} where
+    given-kept : WriteGiven tables ranks choices lengths amounts → WriteGiven tables ranks choices lengths amounts′
+    given-kept g = record { ranked = g .ranked; notes = g .notes; enough = g .enough; amounts-room = omega (arith, g .amounts-room, k .same-amounts) }
+
+    step-kept : {step : Step} → StepGiven tables ranks choices lengths step amounts stack buf → StepGiven tables ranks choices lengths step amounts′ stack′ buf′
+    step-kept g = record { given = given-kept (g .given); depth = depth-kept (g .depth); measured = g .measured; size = k .same-buf ∙ g .size }
+
+    node-kept : {node : Node} → NodeGiven tables ranks choices lengths node amounts stack buf → NodeGiven tables ranks choices lengths node amounts′ stack′ buf′
+    node-kept g =
+        record {
+          given = given-kept (g .given);
+          depth = depth-kept (g .depth);
+          state = g .state;
+          measured = g .measured;
+          size = k .same-buf ∙ g .size;
+          once = omega (arith, k .same-buf, g .once);
+        }
+
+-- a loop that writes a transition which is not longer than the limit
+pub record StepLoop (tables ranks choices lengths : List ℕ) (step : Step) (amounts₀ stack₀ buf₀ amounts stack buf : List ℕ) : Type 0 where
+  pub call : StepGiven tables ranks choices lengths step amounts stack buf
+  pub short : length buf ≤ step .limit
+  pub small : length buf < 2 ^ 64
+  pub kept : LengthsKept amounts₀ stack₀ buf₀ amounts stack buf
+
+module _ {tables ranks choices lengths : List ℕ} {step : Step} where
+  pub loop-begins : {amounts stack buf amounts′ stack′ buf′ : List ℕ} → StepGiven tables ranks choices lengths step amounts stack buf → length buf ≤ step .limit → length buf < 2 ^ 64
+      → LengthsKept amounts stack buf amounts′ stack′ buf′ → StepLoop tables ranks choices lengths step amounts′ stack′ buf′ amounts′ stack′ buf′
+  loop-begins g short small k = record { call = step-kept k g; short = omega (arith, k .same-buf, short); small = omega (arith, k .same-buf, small); kept = kept-all }
+
+  pub loop-next : {amounts₀ stack₀ buf₀ amounts stack buf amounts′ stack′ buf′ : List ℕ} → StepLoop tables ranks choices lengths step amounts₀ stack₀ buf₀ amounts stack buf
+      → LengthsKept amounts stack buf amounts′ stack′ buf′ → StepLoop tables ranks choices lengths step amounts₀ stack₀ buf₀ amounts′ stack′ buf′
+  loop-next l k = let b = loop-begins (l .call) (l .short) (l .small) k in record { call = b .call; short = b .short; small = b .small; kept = kept-then (l .kept) k }
 
 -- ---- the loop over the members
 
@@ -124,26 +146,29 @@ word-next w lt = (omega arith, omega arith, omega arith)
 pub word-done : (X : Set) (w left : ℕ) → left ≡ 0 → left-of w left X ≡ after (w + 1) X
 word-done X w left e = walk-on X (λ (n : ℕ). left-of w left X ≡ n) w left e refl
 
-module _ (tables : List ℕ) (s : ℕ) where
+module _ (tables : List ℕ) where
   -- the bytes of the transitions of the members left
-  abbrev pub steps-left : Test → List ℕ
-  steps-left X = steps-bytes (first-table tables) (second-table tables) s X (pairs (first-table tables) (second-table tables))
+  abbrev pub steps-left : ℕ → Test → List ℕ
+  steps-left s X = steps-bytes (first-table tables) (second-table tables) s X (pairs (first-table tables) (second-table tables))
 
   -- where the loop stands
-  pub record NodeLoop (ranks choices lengths : List ℕ) (half members : ℕ) (amounts₀ stack₀ buf₀ amounts stack buf : List ℕ) (rest : Rest) (at left : ℕ) : Type 0 where
-    pub node : NodeGiven tables ranks choices lengths s members half amounts stack buf
+  pub record NodeLoop (ranks choices lengths : List ℕ) (node : Node) (amounts₀ stack₀ buf₀ amounts stack buf : List ℕ) (rest : Rest) (at left : ℕ) : Type 0 where
+    pub call : NodeGiven tables ranks choices lengths node amounts stack buf
     pub small : length buf < 2 ^ 64
-    pub inside : (t : ℕ) → T (member left t) → T (member members t)
-    pub place : At (node-of tables s members) at (steps-left (member left))
-    pub ends : at + length (steps-left (member left)) ≡ length (node-of tables s members)
-    pub stands : Standing tables choices lengths (node-of tables s members) half 1 at rest buf
-    pub kept : Kept amounts₀ stack₀ buf₀ amounts stack buf
+    pub inside : (t : ℕ) → T (member left t) → T (member (mask (node .members)) t)
+    pub place : At (node-of tables node) at (steps-left (node .s) (member left))
+    pub ends : at + length (steps-left (node .s) (member left)) ≡ length (node-of tables node)
+    pub stands : PartLoop tables choices lengths (node-of tables node) (node .half) 1 at rest buf
+    pub kept : LengthsKept amounts₀ stack₀ buf₀ amounts stack buf
 
-module _ {tables ranks choices lengths : List ℕ} {s members half : ℕ} {amounts stack buf : List ℕ} (g : NodeGiven tables ranks choices lengths s members half amounts stack buf) where
-  abbrev total : List ℕ
-  total = node-of tables s members
+module _ {tables ranks choices lengths : List ℕ} {node : Node} {amounts stack buf : List ℕ} (g : NodeGiven tables ranks choices lengths node amounts stack buf) where
+  abbrev s : ℕ
+  s = node .s
 
-  node-parts : total ≡ size (states-of (second-table tables)) (member members) ∷ steps-left tables s (member members)
+  abbrev members : ℕ
+  members = mask (node .members)
+
+  node-parts : node-of tables node ≡ size (states-of (second-table tables)) (member members) ∷ steps-left tables s (member members)
   node-parts =
       let M = first-table tables in
       let N = second-table tables in
@@ -154,27 +179,19 @@ module _ {tables ranks choices lengths : List ℕ} {s members half : ℕ} {amoun
   node-room = omega (arith, g .size, ap length node-parts)
 
   -- the count is written
-  pub node-begins : (n : ℕ) → n ≡ size most-states (member members) → length buf < 2 ^ 64
-      → NodeLoop tables s ranks choices lengths half members amounts stack (set buf 0 n) amounts stack (set buf 0 n) (record { s = s; t = 0; at = 0; len = 0 }) 1 members
-  node-begins n e h =
+  pub node-begins : (n : ℕ) → n ≡ size most-states (member members) → length buf < 2 ^ 64 → {rest : Rest} → rest ≡ nothing s 0
+      → NodeLoop tables ranks choices lengths node amounts stack (set buf 0 n) amounts stack (set buf 0 n) rest 1 members
+  node-begins n e h none =
       let N = second-table tables in
       let count : n ≡ size (states-of N) (member members) =
       e ∙ members-all (states-of N) (member members) (limits (second-form tables) (g .given .ranked .loaded .second) .states-few) (λ t h. pair-lost (g .given) (g .measured t h) .right) in
       record {
-        node = node-kept g (record { same-amounts = refl; same-stack = refl; same-buf = length-set buf 0 n });
+        call = node-kept (record { same-amounts = refl; same-stack = refl; same-buf = length-set buf 0 n }) g;
         small = omega (arith, length-set buf 0 n);
         inside = λ t h. h;
-        place = at-back (size (states-of N) (member members) ∷ []) (steps-left tables s (member members)) (at-is node-parts (at-self total));
+        place = at-back (size (states-of N) (member members) ∷ []) (steps-left tables s (member members)) (at-is node-parts (at-self (node-of tables node)));
         ends = omega (arith, ap length node-parts);
-        stands = record {
-          held = record {
-            within = omega arith;
-            written = λ k lt _. first-byte (set buf 0 n) total k lt (getD-set-same buf 0 n 0 node-room ∙ count ∙ sym (ap (λ (l : List ℕ). getD l 0 0) node-parts));
-            rest = λ z. absurd (omega arith);
-          };
-          tail = omega arith;
-          long = λ z. absurd (omega arith);
-        };
+        stands = stand-begins s 0 none (λ k lt. first-byte (set buf 0 n) (node-of tables node) k lt (getD-set-same buf 0 n 0 node-room ∙ count ∙ sym (ap (λ (l : List ℕ). getD l 0 0) node-parts)));
         kept = kept-all;
       }
     where
@@ -185,25 +202,26 @@ module _ {tables ranks choices lengths : List ℕ} {s members half : ℕ} {amoun
 
 -- all of it is left
 pub left-all : {tables choices lengths : List ℕ} {s t : ℕ} → Measured tables choices lengths s t → (len : ℕ) → len ≡ length (step-of tables s t) → (now : List ℕ)
-    → Left tables choices lengths (step-of tables s t) (length (step-of tables s t)) s t 0 len now
+    → Left tables choices lengths (step-of tables s t) (length (step-of tables s t)) (record { s = s; t = t; at = 0; len = len }) now
 left-all {tables} {s = s} {t = t} m len e now =
     record {
       within = omega arith;
       written = λ k lt out. never k lt out;
-      rest = λ _. record { measured = m; size = e; part = at-self (step-of tables s t) };
+      part = λ _. record { measured = m; size = e; part = at-self (step-of tables s t) };
     }
   where
     never : (k : ℕ) → k < length (step-of tables s t) → (k < 0) ⊎ (0 + len ≤ k) → getD now k 0 ≡ getD (step-of tables s t) k 0
     never k lt (inl o) = absurd (omega arith)
     never k lt (inr o) = absurd (omega arith)
 
-step-done : {tables choices lengths : List ℕ} {s t limit : ℕ} {found : Rest} {old new : List ℕ} → Measured tables choices lengths s t → length old ≡ length (step-of tables s t)
-    → StepWritten tables s t limit found old new → Done tables choices lengths (step-of tables s t) limit found new
-step-done {tables} {choices} {lengths} {s} {t} {limit} {found} {old} {new} m e w = by (below-or-not limit (length old))
+step-done : {tables choices lengths : List ℕ} {step : Step} {hole : Rest} {old new : List ℕ} → Measured tables choices lengths (step .s) (step .t)
+    → length old ≡ length (step-of tables (step .s) (step .t)) → StepWritten tables step hole old new
+    → Done tables choices lengths (step-of tables (step .s) (step .t)) (step .limit) hole new
+step-done {tables} {choices} {lengths} {step} {hole} {old} {new} m e w = by (below-or-not (step .limit) (length old))
   where
-    by : (limit < length old) ⊎ (length old ≤ limit) → Done tables choices lengths (step-of tables s t) limit found new
+    by : (step .limit < length old) ⊎ (length old ≤ step .limit) → Done tables choices lengths (step-of tables (step .s) (step .t)) (step .limit) hole new
     by (inl c) =
-        subst (λ (r : Rest). Done tables choices lengths (step-of tables s t) limit r new) (sym (w .long c))
+        subst (λ (r : Rest). Done tables choices lengths (step-of tables (step .s) (step .t)) (step .limit) r new) (sym (w .long c))
         (record { whole = λ z. absurd (omega arith); part = λ _. left-all m (length old) e new; long = λ _. c })
     by (inr c) =
         let q = w .short c in
@@ -215,96 +233,89 @@ step-done {tables} {choices} {lengths} {s} {t} {limit} {found} {old} {new} m e w
 
 -- ---- the turns of the loop
 
-module _ {tables : List ℕ} {s : ℕ} {ranks choices lengths : List ℕ} {half members : ℕ} {amounts₀ stack₀ buf₀ amounts stack buf : List ℕ} {rest : Rest} {at left : ℕ}
-    (l : NodeLoop tables s ranks choices lengths half members amounts₀ stack₀ buf₀ amounts stack buf rest at left) where
+module _ {tables ranks choices lengths : List ℕ} {node : Node} {amounts₀ stack₀ buf₀ amounts stack buf : List ℕ} {rest : Rest} {at left : ℕ}
+    (l : NodeLoop tables ranks choices lengths node amounts₀ stack₀ buf₀ amounts stack buf rest at left) where
   -- the same, by another name of the set left and counted from other lists of the same lengths
-  pub node-same : {amounts₁ stack₁ buf₁ : List ℕ} (left′ : ℕ) → left ≡ left′ → Kept amounts₁ stack₁ buf₁ amounts stack buf
-      → NodeLoop tables s ranks choices lengths half members amounts₁ stack₁ buf₁ amounts stack buf rest at left′
+  pub node-same : {amounts₁ stack₁ buf₁ : List ℕ} (left′ : ℕ) → left ≡ left′ → LengthsKept amounts₁ stack₁ buf₁ amounts stack buf
+      → NodeLoop tables ranks choices lengths node amounts₁ stack₁ buf₁ amounts stack buf rest at left′
   node-same {amounts₁} {stack₁} {buf₁} left′ e k =
-      subst (λ (n : ℕ). NodeLoop tables s ranks choices lengths half members amounts₁ stack₁ buf₁ amounts stack buf rest at n) e
-      (record { node = l .node; small = l .small; inside = l .inside; place = l .place; ends = l .ends; stands = l .stands; kept = k })
+      subst (λ (n : ℕ). NodeLoop tables ranks choices lengths node amounts₁ stack₁ buf₁ amounts stack buf rest at n) e
+      (record { call = l .call; small = l .small; inside = l .inside; place = l .place; ends = l .ends; stands = l .stands; kept = k })
 
-  pub node-ends : left ≡ 0 → Around tables choices lengths (node-of tables s members) half rest buf
+  pub node-ends : left ≡ 0 → Around tables choices lengths (node-of tables node) (node .half) rest buf
   node-ends z =
       let M = first-table tables in
       let N = second-table tables in
-      let none : steps-left tables s (member left) ≡ [] =
-      ap (λ (k : ℕ). steps-left tables s (member k)) z ∙ no-steps M N (own-node M N (pairs M N - 1)) s (member 0) (states-of N) member-none in
+      let none : steps-left tables (node .s) (member left) ≡ [] =
+      ap (λ (k : ℕ). steps-left tables (node .s) (member k)) z ∙ no-steps M N (own-node M N (pairs M N - 1)) (node .s) (member 0) (states-of N) member-none in
       stand-ends (omega arith) (omega (arith, l .ends, ap length none)) (l .stands)
 
   -- the bytes of the members left other than t
   abbrev others : ℕ → List ℕ
-  others t = steps-left tables s (without-member t (member left))
+  others t = steps-left tables (node .s) (without-member t (member left))
 
   module _ (t : ℕ) (low : Lowest (member left) t) where
-    node-measured : Measured tables choices lengths s t
-    node-measured = l .node .measured t (l .inside t (member-holds low))
+    node-measured : Measured tables choices lengths (node .s) t
+    node-measured = l .call .measured t (l .inside t (member-holds low))
 
-    pub node-asked : BothLoaded tables × (s < most-states) × (t < most-states) × (number tables s t < length lengths)
-    node-asked = pair-asked (l .node .given) node-measured
+    pub node-asked : BothLoaded tables × (node .s < most-states) × (t < most-states) × (number tables (node .s) t < length lengths)
+    node-asked = pair-asked (l .call .given) node-measured
 
-    apart : steps-left tables s (member left) ≡ step-of tables s t ++ others t
+    apart : steps-left tables (node .s) (member left) ≡ step-of tables (node .s) t ++ others t
     apart =
         let M = first-table tables in
         let N = second-table tables in
-        steps-lowest M N (own-node M N (pairs M N - 1)) s (member left) t (states-of N) (pair-lost (l .node .given) node-measured .right) low
+        steps-lowest M N (own-node M N (pairs M N - 1)) (node .s) (member left) t (states-of N) (pair-lost (l .call .given) node-measured .right) low
 
-    turn : At (node-of tables s members) at (step-of tables s t ++ others t)
+    turn : At (node-of tables node) at (step-of tables (node .s) t ++ others t)
     turn = at-is apart (l .place)
 
-    turn-length : length (steps-left tables s (member left)) ≡ length (step-of tables s t) + length (others t)
-    turn-length = ap length apart ∙ length-append (step-of tables s t) (others t)
+    turn-length : length (steps-left tables (node .s) (member left)) ≡ length (step-of tables (node .s) t) + length (others t)
+    turn-length = ap length apart ∙ length-append (step-of tables (node .s) t) (others t)
 
   -- the lowest member left and the length of its transition
   pub record Next (t r : ℕ) : Type 0 where
     pub low : Lowest (member left) t
-    pub size : r ≡ getD lengths (number tables s t) 0
+    pub size : r ≡ getD lengths (number tables (node .s) t) 0
 
   module _ {t r : ℕ} (next : Next t r) where
-    turn-size : r ≡ length (step-of tables s t)
-    turn-size = next .size ∙ pair-size (l .node .given) (node-measured t (next .low))
+    turn-size : r ≡ length (step-of tables (node .s) t)
+    turn-size = next .size ∙ pair-size (l .call .given) (node-measured t (next .low))
 
-    pub turn-slot : Slot (node-of tables s members) at (at + r) buf (step-of tables s t)
+    pub turn-slot : Slot (node-of tables node) at (at + r) buf (step-of tables (node .s) t)
     turn-slot =
         record {
           ordered = omega arith;
-          room = omega (arith, turn-size, turn-length t (next .low), l .ends, l .node .size);
-          part = at-front (step-of tables s t) (others t) (turn t (next .low));
+          room = omega (arith, turn-size, turn-length t (next .low), l .ends, l .call .size);
+          part = at-front (step-of tables (node .s) t) (others t) (turn t (next .low));
           size = omega (arith, turn-size);
         }
 
-    pub node-step : StepGiven tables ranks choices lengths s t half amounts stack (piece at (at + r) buf)
-    node-step =
-        record {
-          given = l .node .given;
-          measured = node-measured t (next .low);
-          size = slot-lent turn-slot;
-          levels = l .node .levels;
-          deep = l .node .deep;
-          words = l .node .words;
-        }
+    abbrev step : Step
+    step = record { s = node .s; t = t; limit = node .half }
 
-    module _ {found : Rest} {ys : List ℕ} (w : StepWritten tables s t half found (piece at (at + r) buf) ys) where
-      done : Done tables choices lengths (step-of tables s t) half found ys
+    pub node-step : StepGiven tables ranks choices lengths step amounts stack (piece at (at + r) buf)
+    node-step = record { given = l .call .given; depth = l .call .depth; measured = node-measured t (next .low); size = slot-lent turn-slot }
+
+    module _ {hole : Rest} {ys : List ℕ} (w : StepWritten tables step hole (piece at (at + r) buf) ys) where
+      done : Done tables choices lengths (step-of tables (node .s) t) (node .half) hole ys
       done = step-done (node-measured t (next .low)) (slot-lent turn-slot) w
 
-      pub node-joins : 0 < found .len → at + found .at < 2 ^ 64
+      pub node-joins : 0 < hole .len → at + hole .at < 2 ^ 64
       node-joins pos = omega (arith, done .part pos .within, turn-size, turn-slot .room, l .small)
 
-      pub node-next : (same : length ys ≡ length (piece at (at + r) buf)) {rest′ : Rest} → (found .len ≡ 0 → rest′ ≡ rest)
-          → (0 < found .len → rest′ ≡ record { s = found .s; t = found .t; at = at + found .at; len = found .len })
-          → {amounts′ stack′ : List ℕ} (left′ : ℕ) → member left′ ≡ without-member t (member left)
-          → length amounts′ ≡ length amounts → length stack′ ≡ length stack
-          → NodeLoop tables s ranks choices lengths half members amounts₀ stack₀ buf₀ amounts′ stack′ (placed at (at + r) buf ys) rest′ (at + r) left′
-      node-next same j₀ j₁ left′ el ea es =
-          let back : others t ≡ steps-left tables s (member left′) = ap (steps-left tables s) (sym el) in
-          let k : Kept amounts stack buf _ _ (placed at (at + r) buf ys) = record { same-amounts = ea; same-stack = es; same-buf = slot-kept turn-slot ys same } in
+      pub node-next : (same : length ys ≡ length (piece at (at + r) buf)) {rest′ : Rest} → Remains rest hole at rest′
+          → {amounts′ stack′ : List ℕ} (left′ : ℕ) → member left′ ≡ without-member t (member left) → length amounts′ ≡ length amounts → length stack′ ≡ length stack
+          → NodeLoop tables ranks choices lengths node amounts₀ stack₀ buf₀ amounts′ stack′ (placed at (at + r) buf ys) rest′ (at + r) left′
+      node-next same j left′ el ea es =
+          let back : others t ≡ steps-left tables (node .s) (member left′) = ap (steps-left tables (node .s)) (sym el) in
+          let k : LengthsKept amounts stack buf _ _ (placed at (at + r) buf ys) = record { same-amounts = ea; same-stack = es; same-buf = slot-kept turn-slot ys same } in
           record {
-            node = node-kept (l .node) k;
+            call = node-kept k (l .call);
             small = omega (arith, k .same-buf, l .small);
             inside = λ u h. l .inside u (without-in t left u el h);
-            place = at-is back (subst (λ (k : ℕ). At (node-of tables s members) (at + k) (others t)) (sym turn-size) (at-back (step-of tables s t) (others t) (turn t (next .low))));
+            place = at-is back (subst (λ (k : ℕ). At (node-of tables node) (at + k) (others t)) (sym turn-size) (at-back (step-of tables (node .s) t) (others t) (turn t (next .low))));
             ends = omega (arith, l .ends, turn-length t (next .low), turn-size, ap length back);
-            stands = stand-next (l .stands) turn-slot ys same (omega (arith, turn-slot .room, l .node .once)) done j₀ j₁;
+            stands = stand-next (l .stands) turn-slot ys same (omega (arith, turn-slot .room, l .call .once)) done j;
             kept = kept-then (l .kept) k;
           }

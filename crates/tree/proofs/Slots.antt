@@ -9,7 +9,7 @@ use native.Mathlib.Omega.{arith}
 use lib.ListN.{length, getD}
 use Rattle.relation.proofs.Mask.{below-or-not}
 use Rattle.tree.specs.declared.write.Rest.{Rest}
-use Rattle.tree.specs.Parts.{At, Left, Around}
+use Rattle.tree.specs.Parts.{At, nothing, offset, Remains, Left, Around}
 use Rattle.tree.proofs.Places.{at-trans, piece, placed, piece-length, placed-length, placed-before, placed-in, placed-after}
 
 zero-or : (n : ℕ) → (0 < n → n ≡ 0) → n ≡ 0
@@ -21,11 +21,11 @@ zero-pos zero = inl refl
 zero-pos (suc n) = inr (zero-lt-suc n)
 
 -- nothing is left: all bytes so far are written
-pub left-none : {tables choices lengths total : List ℕ} {n s t at len : ℕ} {now : List ℕ} → Left tables choices lengths total n s t at len now → len ≡ 0
+pub left-none : {tables choices lengths total : List ℕ} {n : ℕ} {rest : Rest} {now : List ℕ} → Left tables choices lengths total n rest now → rest .len ≡ 0
     → (k : ℕ) → k < n → getD now k 0 ≡ getD total k 0
-left-none {at = at} {len = len} l z k lt = l .written k lt (outside (below-or-not k at))
+left-none {rest = rest} l z k lt = l .written k lt (outside (below-or-not k (rest .at)))
   where
-    outside : (k < at) ⊎ (at ≤ k) → (k < at) ⊎ (at + len ≤ k)
+    outside : (k < rest .at) ⊎ (rest .at ≤ k) → (k < rest .at) ⊎ (rest .at + rest .len ≤ k)
     outside (inl b) = inl b
     outside (inr b) = inr (omega arith)
 
@@ -61,34 +61,34 @@ module _ {total : List ℕ} {a b : ℕ} {now P : List ℕ} (slot : Slot total a 
         (placed-in a b now (slot .ordered) (slot .room) ys slot-same (k - a) (omega arith) ∙ put ∙ sym (slot .part .same (k - a) (omega (arith, slot .size))))
 
     -- the part after those so far is written
-    left-more : {tables choices lengths : List ℕ} {s t at len : ℕ} → Left tables choices lengths total a s t at len now
-        → ((k : ℕ) → k < length P → getD ys k 0 ≡ getD P k 0) → Left tables choices lengths total b s t at len (placed a b now ys)
-    left-more {at = at} {len = len} l put =
+    left-more : {tables choices lengths : List ℕ} {rest : Rest} → Left tables choices lengths total a rest now
+        → ((k : ℕ) → k < length P → getD ys k 0 ≡ getD P k 0) → Left tables choices lengths total b rest (placed a b now ys)
+    left-more {rest = rest} l put =
         record {
           within = omega (arith, l .within, slot .ordered);
           written = λ k lt out. by k lt out (below-or-not k a);
-          rest = l .rest;
+          part = l .part;
         }
       where
-        by : (k : ℕ) → k < b → (k < at) ⊎ (at + len ≤ k) → (k < a) ⊎ (a ≤ k) → getD (placed a b now ys) k 0 ≡ getD total k 0
+        by : (k : ℕ) → k < b → (k < rest .at) ⊎ (rest .at + rest .len ≤ k) → (k < a) ⊎ (a ≤ k) → getD (placed a b now ys) k 0 ≡ getD total k 0
         by k lt out (inl c) = slot-before k c ∙ l .written k c out
         by k lt out (inr c) = slot-in k c lt (put (k - a) (omega (arith, slot .size)))
 
     -- the part is written, but for a part of it, among bytes that are written
-    pub left-inner : {tables choices lengths : List ℕ} {s t at len : ℕ} (n : ℕ) → b ≤ n → ((k : ℕ) → k < n → (k < a) ⊎ (b ≤ k) → getD now k 0 ≡ getD total k 0)
-        → Left tables choices lengths P (length P) s t at len ys → Left tables choices lengths total n s t (a + at) len (placed a b now ys)
-    left-inner {at = at} {len = len} n le out l =
+    pub left-inner : {tables choices lengths : List ℕ} {hole : Rest} (n : ℕ) → b ≤ n → ((k : ℕ) → k < n → (k < a) ⊎ (b ≤ k) → getD now k 0 ≡ getD total k 0)
+        → Left tables choices lengths P (length P) hole ys → Left tables choices lengths total n (offset hole a) (placed a b now ys)
+    left-inner {hole = hole} n le out l =
         record {
           within = omega (arith, l .within, slot .size, slot .ordered);
           written = λ k lt o. by k lt o (below-or-not k a) (below-or-not k b);
-          rest = λ pos. let q = l .rest pos in record { measured = q .measured; size = q .size; part = at-trans (slot .part) (q .part) };
+          part = λ pos. let q = l .part pos in record { measured = q .measured; size = q .size; part = at-trans (slot .part) (q .part) };
         }
       where
-        shift : (k : ℕ) → a ≤ k → (k < a + at) ⊎ (a + at + len ≤ k) → (k - a < at) ⊎ (at + len ≤ k - a)
+        shift : (k : ℕ) → a ≤ k → (k < a + hole .at) ⊎ (a + hole .at + hole .len ≤ k) → (k - a < hole .at) ⊎ (hole .at + hole .len ≤ k - a)
         shift k h (inl o) = inl (omega arith)
         shift k h (inr o) = inr (omega arith)
 
-        by : (k : ℕ) → k < n → (k < a + at) ⊎ (a + at + len ≤ k) → (k < a) ⊎ (a ≤ k) → (k < b) ⊎ (b ≤ k) → getD (placed a b now ys) k 0 ≡ getD total k 0
+        by : (k : ℕ) → k < n → (k < a + hole .at) ⊎ (a + hole .at + hole .len ≤ k) → (k < a) ⊎ (a ≤ k) → (k < b) ⊎ (b ≤ k) → getD (placed a b now ys) k 0 ≡ getD total k 0
         by k lt o (inl h) _ = slot-before k h ∙ out k lt (inl h)
         by k lt o (inr h) (inr h′) = placed-after a b now (slot .ordered) (slot .room) ys slot-same k h′ ∙ out k lt (inr h′)
         by k lt o (inr h) (inl h′) = slot-in k h h′ (l .written (k - a) (omega (arith, slot .size)) (shift k h o))
@@ -96,40 +96,51 @@ module _ {total : List ℕ} {a b : ℕ} {now P : List ℕ} (slot : Slot total a 
 -- ---- a loop over parts
 
 -- the loop is at n: a part longer than half at most is left, past the first bytes
-pub record Standing (tables choices lengths total : List ℕ) (half head n : ℕ) (rest : Rest) (now : List ℕ) : Type 0 where
-  pub held : Left tables choices lengths total n (rest .s) (rest .t) (rest .at) (rest .len) now
+pub record PartLoop (tables choices lengths total : List ℕ) (half head n : ℕ) (rest : Rest) (now : List ℕ) : Type 0 where
+  pub held : Left tables choices lengths total n rest now
   pub tail : rest .len + head ≤ n
   pub long : 0 < rest .len → half < rest .len
 
--- the part P is written, but for a part of it that is longer than half
-pub record Done (tables choices lengths P : List ℕ) (half : ℕ) (found : Rest) (now : List ℕ) : Type 0 where
-  pub whole : found .len ≡ 0 → (k : ℕ) → k < length P → getD now k 0 ≡ getD P k 0
-  pub part : 0 < found .len → Left tables choices lengths P (length P) (found .s) (found .t) (found .at) (found .len) now
-  pub long : 0 < found .len → half < found .len
+-- only the first bytes are written, and nothing is left
+pub stand-begins : {tables choices lengths total : List ℕ} {half head : ℕ} {rest : Rest} {now : List ℕ} (s t : ℕ) → rest ≡ nothing s t
+    → ((k : ℕ) → k < head → getD now k 0 ≡ getD total k 0) → PartLoop tables choices lengths total half head head rest now
+stand-begins s t none first =
+    rw none
+    (record {
+      held = record { within = omega arith; written = λ k lt _. first k lt; part = λ z. absurd (omega arith) };
+      tail = omega arith;
+      long = λ z. absurd (omega arith);
+    })
 
-pub around-done : {tables choices lengths P : List ℕ} {half : ℕ} {found : Rest} {now : List ℕ} → Around tables choices lengths P half found now
-    → Done tables choices lengths P half found now
+-- the part P is written, but for a part of it that is longer than half
+pub record Done (tables choices lengths P : List ℕ) (half : ℕ) (hole : Rest) (now : List ℕ) : Type 0 where
+  pub whole : hole .len ≡ 0 → (k : ℕ) → k < length P → getD now k 0 ≡ getD P k 0
+  pub part : 0 < hole .len → Left tables choices lengths P (length P) hole now
+  pub long : 0 < hole .len → half < hole .len
+
+pub around-done : {tables choices lengths P : List ℕ} {half : ℕ} {hole : Rest} {now : List ℕ} → Around tables choices lengths P half hole now
+    → Done tables choices lengths P half hole now
 around-done w = record { whole = left-none (w .left); part = λ _. w .left; long = w .long }
 
 -- a loop that is at the end has written all but what is left
 pub stand-ends : {tables choices lengths total : List ℕ} {half head n : ℕ} {rest : Rest} {now : List ℕ} → 0 < head → n ≡ length total
-    → Standing tables choices lengths total half head n rest now → Around tables choices lengths total half rest now
+    → PartLoop tables choices lengths total half head n rest now → Around tables choices lengths total half rest now
 stand-ends {tables} {choices} {lengths} {total} {rest = rest} {now = now} some e l =
     record {
-      left = subst (λ (k : ℕ). Left tables choices lengths total k (rest .s) (rest .t) (rest .at) (rest .len) now) e (l .held);
+      left = subst (λ (k : ℕ). Left tables choices lengths total k rest now) e (l .held);
       less = omega (arith, l .tail);
       long = l .long;
     }
 
 module _ {tables choices lengths total : List ℕ} {half head a b : ℕ} {rest : Rest} {now P : List ℕ}
-    (l : Standing tables choices lengths total half head a rest now) (slot : Slot total a b now P) (ys : List ℕ) (same : length ys ≡ length (piece a b now)) where
+    (l : PartLoop tables choices lengths total half head a rest now) (slot : Slot total a b now P) (ys : List ℕ) (same : length ys ≡ length (piece a b now)) where
   -- the next part is written
-  pub stand-whole : ((k : ℕ) → k < length P → getD ys k 0 ≡ getD P k 0) → Standing tables choices lengths total half head b rest (placed a b now ys)
+  pub stand-whole : ((k : ℕ) → k < length P → getD ys k 0 ≡ getD P k 0) → PartLoop tables choices lengths total half head b rest (placed a b now ys)
   stand-whole put = record { held = left-more slot ys same (l .held) put; tail = omega (arith, l .tail, slot .ordered); long = l .long }
 
   -- or all but a part of it is; two parts longer than half are too many
-  module _ (once : b ≤ 2 * half + 1) {found : Rest} (w : Done tables choices lengths P half found ys) where
-    stand-part : 0 < found .len → Standing tables choices lengths total half head b (record { s = found .s; t = found .t; at = a + found .at; len = found .len }) (placed a b now ys)
+  module _ (once : b ≤ 2 * half + 1) {hole : Rest} (w : Done tables choices lengths P half hole ys) where
+    stand-part : 0 < hole .len → PartLoop tables choices lengths total half head b (offset hole a) (placed a b now ys)
     stand-part pos =
         record {
           held = left-inner slot ys same b (le-refl b) before (w .part pos);
@@ -145,11 +156,9 @@ module _ {tables choices lengths total : List ℕ} {half head a b : ℕ} {rest :
         before k lt (inr o) = absurd (omega arith)
 
     -- what is left then is what is there of the two
-    pub stand-next : {rest′ : Rest} → (found .len ≡ 0 → rest′ ≡ rest)
-        → (0 < found .len → rest′ ≡ record { s = found .s; t = found .t; at = a + found .at; len = found .len })
-        → Standing tables choices lengths total half head b rest′ (placed a b now ys)
-    stand-next {rest′} j₀ j₁ = by (zero-pos (found .len))
+    pub stand-next : {rest′ : Rest} → Remains rest hole a rest′ → PartLoop tables choices lengths total half head b rest′ (placed a b now ys)
+    stand-next {rest′} j = by (zero-pos (hole .len))
       where
-        by : (found .len ≡ 0) ⊎ (0 < found .len) → Standing tables choices lengths total half head b rest′ (placed a b now ys)
-        by (inl z) = subst (λ (r : Rest). Standing tables choices lengths total half head b r (placed a b now ys)) (sym (j₀ z)) (stand-whole (w .whole z))
-        by (inr pos) = subst (λ (r : Rest). Standing tables choices lengths total half head b r (placed a b now ys)) (sym (j₁ pos)) (stand-part pos)
+        by : (hole .len ≡ 0) ⊎ (0 < hole .len) → PartLoop tables choices lengths total half head b rest′ (placed a b now ys)
+        by (inl z) = subst (λ (r : Rest). PartLoop tables choices lengths total half head b r (placed a b now ys)) (sym (j .none z)) (stand-whole (w .whole z))
+        by (inr pos) = subst (λ (r : Rest). PartLoop tables choices lengths total half head b r (placed a b now ys)) (sym (j .some pos)) (stand-part pos)

@@ -14,27 +14,30 @@ use Rattle.simulation.specs.Round.{pairs, rank}
 use Rattle.simulation.specs.Tree.{chosen, set-of, own-node, node-bytes}
 use Rattle.simulation.proofs.Finite.Sums.{sum-ext, when-same}
 use Rattle.simulation.proofs.Simulation.Ranks.{rank-law}
-use Rattle.simulation.proofs.Trees.Choice.{Fallen, chosen-law, chosen-target}
+use Rattle.simulation.proofs.Trees.Choice.{RanksUpTo, chosen-law, chosen-target}
 use Rattle.simulation.proofs.Trees.OwnTree.{node-fuel}
 use Rattle.form.specs.Form.{transitions-of}
 use Rattle.form.specs.Tables.{first-form, first-table, second-table, first-step}
 use Rattle.form.proofs.FormLaws.{limits, sound, weights-length, limited-of}
 use Rattle.relation.specs.Mask.{Test, member}
-use Rattle.relation.specs.Words.{words, row-of}
+use Rattle.relation.specs.Words.{words, mask, row-of}
+use Rattle.relation.specs.declared.set.Set.{Set}
 use Rattle.relation.proofs.Words.{number-ext}
 use Rattle.buffer.specs.Buffer.{over}
-use Rattle.buffer.proofs.Buffer.{part, back, part-all}
-use Rattle.choice.specs.Choice.{Choice, Sets}
+use Rattle.buffer.proofs.Buffer.{part-from, back, part-all}
+use Rattle.choice.specs.Choice.{Lost, Choice, SetsChosen}
 use Rattle.choice.proofs.Choices.{choice-number, below-lost}
 use Rattle.measure.specs.Lengths.{set-length, SumGiven, Measured}
+use Rattle.tree.specs.declared.write.Node.{Node}
 use Rattle.tree.specs.declared.write.Rest.{Rest}
-use Rattle.tree.specs.Begin.{head-bytes, entry-bytes, BeginGiven, Begun}
-use Rattle.tree.specs.Parts.{At, words-for, node-of, step-of, WriteGiven, StepGiven, NodeGiven, Around}
+use Rattle.tree.specs.declared.write.Step.{Step}
+use Rattle.tree.specs.Begin.{head-bytes, entry-bytes, BeginGiven, TransitionBegun}
+use Rattle.tree.specs.Parts.{At, words-for, nothing, Remains, Depth, node-of, step-of, StepGiven, NodeGiven, Around}
 use Rattle.tree.proofs.Bytes.{children-from, child-at, no-children, step-is}
 use Rattle.tree.proofs.Lengths.{fallen-set, node-size}
 use Rattle.tree.proofs.Places.{at-self, at-is, at-front, at-back, piece, placed}
-use Rattle.tree.proofs.Slots.{Slot, slot-lent, slot-kept, Standing, around-done, stand-whole, stand-next, stand-ends}
-use Rattle.tree.proofs.Nodes.{pair-lost, pair-long, pair-noted, Kept, kept-all, kept-then, given-kept}
+use Rattle.tree.proofs.Slots.{Slot, slot-lent, slot-kept, PartLoop, around-done, stand-begins, stand-whole, stand-next, stand-ends}
+use Rattle.tree.proofs.Nodes.{pair-lost, pair-long, pair-noted, LengthsKept, StepLoop, loop-begins, loop-next}
 
 -- ---- halves and levels
 
@@ -65,106 +68,95 @@ kept-below n i l ys le lt =
 
 -- ---- the loop over the children
 
-module _ (tables : List ℕ) (s t : ℕ) where
+module _ (tables : List ℕ) where
+  -- the transition of a pair
+  abbrev pub chosen-of : Step → Transition
+  chosen-of step = chosen (first-table tables) (second-table tables) (step .s) (step .t)
+
   -- the bytes of the children from place i on
-  abbrev pub children-left : ℕ → List ℕ
-  children-left i =
-      children-from (own-node (first-table tables) (second-table tables) (pairs (first-table tables) (second-table tables) - 1)) (set-of (first-table tables) (second-table tables) s t) i
-      (chosen (first-table tables) (second-table tables) s t .entries)
+  abbrev pub children-left : Step → ℕ → List ℕ
+  children-left step i =
+      children-from (own-node (first-table tables) (second-table tables) (pairs (first-table tables) (second-table tables) - 1))
+      (set-of (first-table tables) (second-table tables) (step .s) (step .t)) i (chosen-of step .entries)
 
-  -- where the loop stands; past the sets of the n children the stack has the words for the calls below
-  pub record AroundLoop (ranks choices lengths : List ℕ) (half j n : ℕ) (amounts₀ stack₀ buf₀ amounts stack buf : List ℕ) (rest : Rest) (at i : ℕ) : Type 0 where
-    pub given : WriteGiven tables ranks choices lengths amounts
-    pub measured : Measured tables choices lengths s t
-    pub size : length buf ≡ length (step-of tables s t)
-    pub once : length buf ≤ 2 * half + 1
-    pub small : length buf < 2 ^ 64
-    pub levels : ℕ
-    pub deep : half < 2 ^ levels
-    pub room : words * n + (words-for levels + 2 * words * most-states) ≤ length stack
-    pub choice : Choice tables s t j
-    pub width : n ≡ length (chosen (first-table tables) (second-table tables) s t .entries)
-    pub few : n ≤ most-states
-    pub sets : Sets tables s t stack
-    pub place : At (step-of tables s t) at (children-left i)
-    pub ends : at + length (children-left i) ≡ length (step-of tables s t)
-    pub stands : Standing tables choices lengths (step-of tables s t) half 2 at rest buf
-    pub kept : Kept amounts₀ stack₀ buf₀ amounts stack buf
+  -- where the loop stands
+  pub record AroundLoop (ranks choices lengths : List ℕ) (step : Step) (j n : ℕ) (amounts₀ stack₀ buf₀ amounts stack buf : List ℕ) (rest : Rest) (at i : ℕ) : Type 0 where
+    pub loop : StepLoop tables ranks choices lengths step amounts₀ stack₀ buf₀ amounts stack buf
+    pub choice : Choice tables (step .s) (step .t) j
+    pub width : n ≡ length (chosen-of step .entries)
+    pub sets : SetsChosen tables (step .s) (step .t) stack
+    pub place : At (step-of tables (step .s) (step .t)) at (children-left step i)
+    pub ends : at + length (children-left step i) ≡ length (step-of tables (step .s) (step .t))
+    pub stands : PartLoop tables choices lengths (step-of tables (step .s) (step .t)) (step .limit / 2) 2 at rest buf
 
-module _ {tables ranks choices lengths : List ℕ} {s t limit : ℕ} {amounts stack buf : List ℕ} (g : StepGiven tables ranks choices lengths s t limit amounts stack buf) (short : length buf ≤ limit) where
-  abbrev total : List ℕ
-  total = step-of tables s t
+module _ {tables ranks choices lengths : List ℕ} {step : Step} {amounts stack buf : List ℕ} (g : StepGiven tables ranks choices lengths step amounts stack buf) where
+  step-parts : step-of tables (step .s) (step .t) ≡ head-bytes (chosen-of tables step) ++ children-left tables step 0
+  step-parts =
+      step-is (first-table tables) (second-table tables) (own-node (first-table tables) (second-table tables) (pairs (first-table tables) (second-table tables) - 1)) (step .s) (step .t)
 
-  step-parts : total ≡ head-bytes (chosen (first-table tables) (second-table tables) s t) ++ children-left tables s t 0
-  step-parts = step-is (first-table tables) (second-table tables) (own-node (first-table tables) (second-table tables) (pairs (first-table tables) (second-table tables) - 1)) s t
+  pub number-known : {j : ℕ} → Choice tables (step .s) (step .t) j → j < transitions-of (first-form tables)
+  number-known {j} = choice-number tables (g .given .ranked .loaded .first) (step .s) (step .t) j (pair-lost (g .given) (g .measured) .left)
 
-  -- the limit has room for two bytes, and four for each child
-  pub step-long : 2 + 4 * length (chosen (first-table tables) (second-table tables) s t .entries) ≤ limit
-  step-long = omega (arith, pair-long (g .given) (g .measured), g .size)
-
-  step-few : length (chosen (first-table tables) (second-table tables) s t .entries) ≤ most-states
+  step-few : length (chosen-of tables step .entries) ≤ most-states
   step-few =
       let M = first-table tables in
       let N = second-table tables in
       let p = pair-lost (g .given) (g .measured) in
-      let c = chosen-law M N s t (p .left) (p .right) (p .fell) in
+      let c = chosen-law M N (step .s) (step .t) (p .left) (p .right) (p .fell) in
       subst (λ (m : Transition). length (m .entries) ≤ most-states) (c .same)
-      (omega (arith, limited-of (first-form tables) (g .given .ranked .loaded .first) s (c .place) (c .here) .few, weights-length (transition M s (c .place))))
+      (omega (arith, limited-of (first-form tables) (g .given .ranked .loaded .first) (step .s) (c .place) (c .here) .few, weights-length (transition M (step .s) (c .place))))
 
-  pub begin-given : BeginGiven tables ranks choices s t amounts stack buf
+  pub begin-given : BeginGiven tables ranks choices (step .s) (step .t) amounts stack buf
   begin-given =
       record {
         ranked = g .given .ranked;
         lost = pair-lost (g .given) (g .measured);
         noted = pair-noted (g .given) (g .measured);
-        choice = g .measured .choice s t (g .measured .here);
+        choice = g .measured .choice (step .s) (step .t) (g .measured .here);
         amounts-room = g .given .amounts-room;
-        words = omega (arith, g .words);
+        words = omega (arith, g .depth .words);
         room = omega (arith, pair-long (g .given) (g .measured), g .size);
       }
 
-  module _ {j : ℕ} {stack₁ buf₁ : List ℕ} (b : Begun tables s t j stack₁ buf buf₁) where
-    pub begin-number : j < transitions-of (first-form tables)
-    begin-number = choice-number tables (g .given .ranked .loaded .first) s t j (pair-lost (g .given) (g .measured) .left) (b .choice)
+  module _ (short : length buf ≤ step .limit) where
+    -- the limit has room for two bytes, and four for each child
+    pub step-long : 2 + 4 * length (chosen-of tables step .entries) ≤ step .limit
+    step-long = omega (arith, pair-long (g .given) (g .measured), g .size)
+
+    -- past the sets of the n children the stack has the words for the calls below
+    module _ {n : ℕ} (width : n ≡ length (chosen-of tables step .entries)) where
+      room-below : words * n + (words-for (g .depth .levels - 1) + 2 * words * most-states) ≤ length stack
+      room-below = omega (arith, words-next (g .depth .levels) (step .limit) _ step-few step-long (g .depth .deep), g .depth .words)
+
+      depth-below : Depth (step .limit / 2) (part-from (words * n) stack)
+      depth-below =
+          record {
+            levels = g .depth .levels - 1;
+            deep = half-deep (g .depth .levels) (step .limit) (omega (arith, step-long)) (g .depth .deep);
+            words = omega (arith, ap length (part-all (words * n) stack), length-drop (words * n) stack, room-below);
+          }
 
     -- the head is written, and the sets are on the stack
-    pub around-begins : {amounts₁ : List ℕ} (n : ℕ) → n ≡ length (first-step tables j .entries) → Kept amounts stack buf amounts₁ stack₁ buf₁ → length buf < 2 ^ 64
-        → AroundLoop tables s t ranks choices lengths (limit / 2) j n amounts₁ stack₁ buf₁ amounts₁ stack₁ buf₁ (record { s = s; t = t; at = 0; len = 0 }) 2 0
-    around-begins n en k h =
-        let m = chosen (first-table tables) (second-table tables) s t in
-        let width : n ≡ length (m .entries) = en ∙ ap (λ (m : Transition). length (m .entries)) (b .choice .is) in
+    pub around-begins : {j : ℕ} {amounts₁ stack₁ buf₁ : List ℕ} → TransitionBegun tables (step .s) (step .t) j stack₁ buf buf₁ → (n : ℕ) → n ≡ length (first-step tables j .entries)
+        → LengthsKept amounts stack buf amounts₁ stack₁ buf₁ → length buf < 2 ^ 64 → {rest : Rest} → rest ≡ nothing (step .s) (step .t)
+        → AroundLoop tables ranks choices lengths step j n amounts₁ stack₁ buf₁ amounts₁ stack₁ buf₁ rest 2 0
+    around-begins b n en k small none =
+        let head = head-bytes (chosen-of tables step) in
+        let children = children-left tables step 0 in
         record {
-          given = given-kept (g .given) k;
-          measured = g .measured;
-          size = k .same-buf ∙ g .size;
-          once = omega (arith, short, k .same-buf, half-law limit);
-          small = omega (arith, k .same-buf);
-          levels = g .levels - 1;
-          deep = half-deep (g .levels) limit (omega (arith, step-long)) (g .deep);
-          room = omega (arith, words-next (g .levels) limit _ step-few step-long (g .deep), width, g .words, k .same-stack);
+          loop = loop-begins g short small k;
           choice = b .choice;
-          width = width;
-          few = omega (arith, width, step-few);
+          width = en ∙ ap (λ (m : Transition). length (m .entries)) (b .choice .is);
           sets = b .sets;
-          place = at-back (head-bytes m) (children-left tables s t 0) (at-is step-parts (at-self total));
+          place = at-back head children (at-is step-parts (at-self (step-of tables (step .s) (step .t))));
           ends = omega (arith, ap length step-parts);
-          stands = record {
-            held = record {
-              within = omega arith;
-              written = λ k lt _.
-                  ap (λ (l : List ℕ). getD l k 0) (b .head)
-                  ∙ List·getD-append (head-bytes m) (drop 2 buf) 0 k lt
-                  ∙ sym (ap (λ (l : List ℕ). getD l k 0) step-parts ∙ List·getD-append (head-bytes m) (children-left tables s t 0) 0 k lt);
-              rest = λ z. absurd (omega arith);
-            };
-            tail = omega arith;
-            long = λ z. absurd (omega arith);
-          };
-          kept = kept-all;
+          stands = stand-begins (step .s) (step .t) none (λ k lt. ap (λ (l : List ℕ). getD l k 0) (b .head)
+              ∙ List·getD-append head (drop 2 buf) 0 k lt
+              ∙ sym (ap (λ (l : List ℕ). getD l k 0) step-parts ∙ List·getD-append head children 0 k lt));
         }
 
-module _ {tables : List ℕ} {s t : ℕ} {ranks choices lengths : List ℕ} {half j n : ℕ} {amounts₀ stack₀ buf₀ amounts stack buf : List ℕ} {rest : Rest} {at i : ℕ}
-    (l : AroundLoop tables s t ranks choices lengths half j n amounts₀ stack₀ buf₀ amounts stack buf rest at i) where
+module _ {tables ranks choices lengths : List ℕ} {step : Step} {j n : ℕ} {amounts₀ stack₀ buf₀ amounts stack buf : List ℕ} {rest : Rest} {at i : ℕ}
+    (l : AroundLoop tables ranks choices lengths step j n amounts₀ stack₀ buf₀ amounts stack buf rest at i) where
   abbrev M : Table
   M = first-table tables
 
@@ -172,25 +164,40 @@ module _ {tables : List ℕ} {s t : ℕ} {ranks choices lengths : List ℕ} {hal
   N = second-table tables
 
   abbrev m : Transition
-  m = chosen M N s t
+  m = chosen-of tables step
 
-  pub around-ends : n ≤ i → Around tables choices lengths (step-of tables s t) half rest buf
+  abbrev total : List ℕ
+  total = step-of tables (step .s) (step .t)
+
+  abbrev g : StepGiven tables ranks choices lengths step amounts stack buf
+  g = l .loop .call
+
+  lost : Lost tables (step .s) (step .t)
+  lost = pair-lost (g .given) (g .measured)
+
+  once : length buf ≤ 2 * (step .limit / 2) + 1
+  once = omega (arith, half-law (step .limit), l .loop .short)
+
+  pub around-ends : n ≤ i → Around tables choices lengths total (step .limit / 2) rest buf
   around-ends le =
-      let none : children-left tables s t i ≡ [] = no-children (own-node M N (pairs M N - 1)) (set-of M N s t) i (m .entries) (omega (arith, l .width)) in
+      let none : children-left tables step i ≡ [] = no-children (own-node M N (pairs M N - 1)) (set-of M N (step .s) (step .t)) i (m .entries) (omega (arith, l .width)) in
       stand-ends (omega arith) (omega (arith, l .ends, ap length none)) (l .stands)
 
-  pub stack-room : words * n ≤ length stack
-  stack-room = omega (arith, l .room)
+  pub children-few : n ≤ most-states
+  children-few = omega (arith, l .width, step-few g)
 
-  pub number-known : j < transitions-of (first-form tables)
-  number-known = choice-number tables (l .given .ranked .loaded .first) s t j (pair-lost (l .given) (l .measured) .left) (l .choice)
+  pub stack-room : words * n ≤ length stack
+  stack-room = omega (arith, room-below g (l .loop .short) (l .width))
 
   -- the bytes of the child at place i: its entry, then its node and the children after it
   abbrev entry : List ℕ
   entry = entry-bytes (target-at m i) (getD (weights m) i 0)
 
-  abbrev others : List ℕ
-  others = node-bytes (own-node M N (pairs M N - 1) (target-at m i) (set-of M N s t i)) ++ children-left tables s t (i + 1)
+  abbrev child-bytes : List ℕ
+  child-bytes = node-bytes (own-node M N (pairs M N - 1) (target-at m i) (set-of M N (step .s) (step .t) i))
+
+  abbrev later : List ℕ
+  later = children-left tables step (i + 1)
 
   module _ (lt : i < n) where
     place : i < length (m .entries)
@@ -199,41 +206,44 @@ module _ {tables : List ℕ} {s t : ℕ} {ranks choices lengths : List ℕ} {hal
     pub place-known : i < length (first-step tables j .entries)
     place-known = subst (λ (m : Transition). i < length (m .entries)) (sym (l .choice .is)) place
 
-    parts : children-left tables s t i ≡ entry ++ others
-    parts = child-at (own-node M N (pairs M N - 1)) (set-of M N s t) i (m .entries) place
+    parts : children-left tables step i ≡ entry ++ (child-bytes ++ later)
+    parts = child-at (own-node M N (pairs M N - 1)) (set-of M N (step .s) (step .t)) i (m .entries) place
 
-    turn : At (step-of tables s t) at (entry ++ others)
+    turn : At total at (entry ++ (child-bytes ++ later))
     turn = at-is parts (l .place)
 
-    pub entry-slot : Slot (step-of tables s t) at (at + 3) buf entry
+    pub entry-slot : Slot total at (at + 3) buf entry
     entry-slot =
         record {
           ordered = omega arith;
-          room = omega (arith, turn .fits, length-append entry others, l .size);
-          part = at-front entry others turn;
+          room = omega (arith, turn .fits, length-append entry (child-bytes ++ later), g .size);
+          part = at-front entry (child-bytes ++ later) turn;
           size = omega arith;
         }
 
   -- the entry of the child is written as ys, with the target w, and its set is in hand
-  pub record Child (w : ℕ) (ys : List ℕ) (members : ℕ) : Type 0 where
+  pub record Child (w : ℕ) (ys : List ℕ) (members : Set) : Type 0 where
     pub more : i < n
     pub target : w ≡ target-at (first-step tables j) i
     pub put : ys ≡ over (entry-bytes w (getD (weights (first-step tables j)) i 0)) (piece at (at + 3) buf)
     pub same : length ys ≡ length (piece at (at + 3) buf)
-    pub set : members ≡ row-of stack i
+    pub set : mask members ≡ row-of stack i
 
-  module _ {w : ℕ} {ys : List ℕ} {members : ℕ} (child : Child w ys members) where
+  module _ {w : ℕ} {ys : List ℕ} {members : Set} (child : Child w ys members) where
+    abbrev X : Test
+    X = member (mask members)
+
     target-is : w ≡ target-at m i
     target-is = child .target ∙ ap (λ (m : Transition). target-at m i) (l .choice .is)
 
-    set-is : member members ≡ set-of M N s t i
+    set-is : X ≡ set-of M N (step .s) (step .t) i
     set-is = ap member (child .set) ∙ l .sets .set i (place (child .more))
 
     abbrev buf′ : List ℕ
     buf′ = placed at (at + 3) buf ys
 
     -- the child's entry is in place
-    entry-stands : Standing tables choices lengths (step-of tables s t) half 2 (at + 3) rest buf′
+    entry-stands : PartLoop tables choices lengths total (step .limit / 2) 2 (at + 3) rest buf′
     entry-stands =
         stand-whole (l .stands) (entry-slot (child .more)) ys (child .same)
         (λ k b. ap (λ (z : List ℕ). getD z k 0) (child .put)
@@ -244,13 +254,13 @@ module _ {tables : List ℕ} {s t : ℕ} {ranks choices lengths : List ℕ} {hal
     entry-kept = slot-kept (entry-slot (child .more)) ys (child .same)
 
     -- the child's pairs
-    below : (v : ℕ) → T (member members v) → Measured tables choices lengths w v
+    below : (v : ℕ) → T (X v) → Measured tables choices lengths w v
     below v h =
-        let q = l .measured in
+        let q = g .measured in
         subst (λ (k : ℕ). Measured tables choices lengths k v) (sym target-is)
         (record {
           met = q .met;
-          here = q .below s t i v (q .here) (place (child .more)) (subst (λ (X : Test). T (X v)) set-is h);
+          here = q .below (step .s) (step .t) i v (q .here) (place (child .more)) (subst (λ (X : Test). T (X v)) set-is h);
           lost = q .lost;
           below = q .below;
           choice = q .choice;
@@ -262,108 +272,95 @@ module _ {tables : List ℕ} {s t : ℕ} {ranks choices lengths : List ℕ} {hal
       where
         target-low : target-at m i < states-of M
         target-low =
-            let p = pair-lost (l .given) (l .measured) in
-            chosen-target M N (sound (first-form tables) (l .given .ranked .loaded .first)) s t (p .left) (p .right) (p .fell) i (omega (arith, weights-length m, place (child .more)))
+            chosen-target M N (sound (first-form tables) (g .given .ranked .loaded .first)) (step .s) (step .t) (lost .left) (lost .right) (lost .fell) i
+            (omega (arith, weights-length m, place (child .more)))
 
-    child-lost : (v : ℕ) → T (member members v) → (v < states-of N) × (0 < rank M N w v)
-    child-lost v h = let p = pair-lost (l .given) (below v h) in (p .right, p .fell)
+    child-lost : (v : ℕ) → T (X v) → (v < states-of N) × (0 < rank M N w v)
+    child-lost v h = let p = pair-lost (g .given) (below v h) in (p .right, p .fell)
 
-    -- its node, which does not depend on the fuel
-    node-same : node-bytes (own-node M N (pairs M N - 1) (target-at m i) (set-of M N s t i)) ≡ node-of tables w members
+    -- its node
+    abbrev node : Node
+    node = record { s = w; members = members; half = step .limit / 2 }
+
+    -- which does not depend on the fuel
+    node-same : child-bytes ≡ node-of tables node
     node-same =
-        let g = l .given in
-        let p = pair-lost g (l .measured) in
-        let lower : Fallen M N (pairs M N - 1) w (member members) =
+        let loaded = g .given .ranked .loaded in
+        let lower : RanksUpTo M N (pairs M N - 1) w X =
         record {
           state = child-state;
           ranks = λ v b h.
-              let q = below-lost tables (g .ranked .loaded .first) (g .ranked .loaded .second) s t p i v (place (child .more)) (subst (λ (X : Test). T (X v)) set-is h) in
-              let r : rank M N w v < rank M N s t = subst (λ (k : ℕ). rank M N k v < rank M N s t) (sym target-is) (q .1) in
-              (child-lost v h .1, omega (arith, r, rank-law M N s t (p .left) (p .right) .bound));
+              let q = below-lost tables (loaded .first) (loaded .second) (step .s) (step .t) lost i v (place (child .more)) (subst (λ (X : Test). T (X v)) set-is h) in
+              let r : rank M N w v < rank M N (step .s) (step .t) = subst (λ (k : ℕ). rank M N k v < rank M N (step .s) (step .t)) (sym target-is) (q .1) in
+              (child-lost v h .1, omega (arith, r, rank-law M N (step .s) (step .t) (lost .left) (lost .right) .bound));
         } in
         ap₂ (λ (u : ℕ) (X : Test). node-bytes (own-node M N (pairs M N - 1) u X)) (sym target-is) (sym set-is)
-        ∙ ap node-bytes (node-fuel M N (sound (first-form tables) (g .ranked .loaded .first)) (pairs M N - 1) (pairs M N) w (member members) lower
-        (fallen-set M N (sound (first-form tables) (g .ranked .loaded .first)) w child-state (member members) child-lost))
+        ∙ ap node-bytes (node-fuel M N (sound (first-form tables) (loaded .first)) (pairs M N - 1) (pairs M N) w X lower
+        (fallen-set M N (sound (first-form tables) (loaded .first)) w child-state X child-lost))
 
-    node-turn : At (step-of tables s t) (at + 3) (node-of tables w members ++ children-left tables s t (i + 1))
-    node-turn = at-is (ap (λ (z : List ℕ). z ++ children-left tables s t (i + 1)) node-same) (at-back entry others (turn (child .more)))
+    node-turn : At total (at + 3) (node-of tables node ++ later)
+    node-turn = at-is (ap (λ (z : List ℕ). z ++ later) node-same) (at-back entry (child-bytes ++ later) (turn (child .more)))
 
     -- its length, from the list
-    node-sum : 1 + set-length (states-of N) lengths w (member members) ≡ length (node-of tables w members)
+    node-sum : 1 + set-length (states-of N) lengths w X ≡ length (node-of tables node)
     node-sum =
-        ap (_+_ 1) (sum-ext (states-of N) _ _ (λ v _. when-same (member members v) _ _ (λ h. let q = below v h in q .right w v (q .here))))
-        ∙ sym (node-size M N (sound (first-form tables) (l .given .ranked .loaded .first)) w child-state (member members) child-lost)
+        ap (_+_ 1) (sum-ext (states-of N) _ _ (λ v _. when-same (X v) _ _ (λ h. let q = below v h in q .right w v (q .here))))
+        ∙ sym (node-size M N (sound (first-form tables) (g .given .ranked .loaded .first)) w child-state X child-lost)
 
-    node-room : at + 3 + length (node-of tables w members) ≤ length buf
-    node-room = omega (arith, node-turn .fits, length-append (node-of tables w members) (children-left tables s t (i + 1)), l .size)
+    node-room : at + 3 + length (node-of tables node) ≤ length buf
+    node-room = omega (arith, node-turn .fits, length-append (node-of tables node) later, g .size)
 
-    pub sum-given : SumGiven tables lengths w members
+    pub sum-given : SumGiven tables lengths w (mask members)
     sum-given =
-        let g = l .given in
         record {
-          loaded = g .ranked .loaded;
-          low = omega (arith, child-state, limits (first-form tables) (g .ranked .loaded .first) .states-few);
+          loaded = g .given .ranked .loaded;
+          low = omega (arith, child-state, limits (first-form tables) (g .given .ranked .loaded .first) .states-few);
           inside = λ v h. child-lost v h .0;
-          room = let row : suc w * states-of N ≤ states-of M * states-of N = mul-le-mul-right (states-of N) child-state in omega (arith, row, suc-mul w (states-of N), g .enough);
-          small = omega (arith, node-sum, node-room, l .small);
+          room = let row : suc w * states-of N ≤ states-of M * states-of N = mul-le-mul-right (states-of N) child-state in omega (arith, row, suc-mul w (states-of N), g .given .enough);
+          small = omega (arith, node-sum, node-room, l .loop .small);
         }
 
-    module _ (r : ℕ) (er : r ≡ 1 + set-length (states-of N) lengths w (member members)) where
-      r-is : r ≡ length (node-of tables w members)
+    module _ {r : ℕ} (er : r ≡ 1 + set-length (states-of N) lengths w X) where
+      r-is : r ≡ length (node-of tables node)
       r-is = er ∙ node-sum
 
-      pub child-slot : Slot (step-of tables s t) (at + 3) (at + 3 + r) buf′ (node-of tables w members)
+      pub child-slot : Slot total (at + 3) (at + 3 + r) buf′ (node-of tables node)
       child-slot =
           record {
             ordered = omega arith;
             room = omega (arith, r-is, node-room, entry-kept);
-            part = at-front (node-of tables w members) (children-left tables s t (i + 1)) node-turn;
+            part = at-front (node-of tables node) later node-turn;
             size = omega (arith, r-is);
           }
 
       pub child-fits : at + 3 + r < 2 ^ 64
-      child-fits = omega (arith, r-is, node-room, l .small)
+      child-fits = omega (arith, r-is, node-room, l .loop .small)
 
-      pub child-given : NodeGiven tables ranks choices lengths w members half amounts (part (words * n) stack) (piece (at + 3) (at + 3 + r) buf′)
+      pub child-given : NodeGiven tables ranks choices lengths node amounts (part-from (words * n) stack) (piece (at + 3) (at + 3 + r) buf′)
       child-given =
           record {
-            given = l .given;
+            given = g .given;
+            depth = depth-below g (l .loop .short) (l .width);
             state = child-state;
             measured = below;
             size = slot-lent child-slot;
-            once = omega (arith, slot-lent child-slot, node-room, l .once);
-            levels = l .levels;
-            deep = l .deep;
-            words = omega (arith, ap length (part-all (words * n) stack), length-drop (words * n) stack, l .room);
+            once = omega (arith, slot-lent child-slot, node-room, once);
           }
 
-      module _ {found : Rest} {zs : List ℕ} (w′ : Around tables choices lengths (node-of tables w members) half found zs) where
-        pub join-fits : 0 < found .len → at + 3 + found .at < 2 ^ 64
+      module _ {hole : Rest} {zs : List ℕ} (w′ : Around tables choices lengths (node-of tables node) (step .limit / 2) hole zs) where
+        pub join-fits : 0 < hole .len → at + 3 + hole .at < 2 ^ 64
         join-fits _ = omega (arith, w′ .left .within, r-is, child-fits)
 
-        pub around-next : (same′ : length zs ≡ length (piece (at + 3) (at + 3 + r) buf′)) {rest′ : Rest} → (found .len ≡ 0 → rest′ ≡ rest)
-            → (0 < found .len → rest′ ≡ record { s = found .s; t = found .t; at = at + 3 + found .at; len = found .len })
+        pub around-next : (same′ : length zs ≡ length (piece (at + 3) (at + 3 + r) buf′)) {rest′ : Rest} → Remains rest hole (at + 3) rest′
             → {amounts′ : List ℕ} (ws : List ℕ) → length amounts′ ≡ length amounts → length (back (words * n) stack ws) ≡ length stack
-            → AroundLoop tables s t ranks choices lengths half j n amounts₀ stack₀ buf₀ amounts′ (back (words * n) stack ws) (placed (at + 3) (at + 3 + r) buf′ zs) rest′ (at + 3 + r) (i + 1)
-        around-next same′ j₀ j₁ ws ea es =
-            let k : Kept amounts stack buf _ (back (words * n) stack ws) (placed (at + 3) (at + 3 + r) buf′ zs) =
-            record { same-amounts = ea; same-stack = es; same-buf = slot-kept child-slot zs same′ ∙ entry-kept } in
+            → AroundLoop tables ranks choices lengths step j n amounts₀ stack₀ buf₀ amounts′ (back (words * n) stack ws) (placed (at + 3) (at + 3 + r) buf′ zs) rest′ (at + 3 + r) (i + 1)
+        around-next same′ joined ws ea es =
             record {
-              given = given-kept (l .given) k;
-              measured = l .measured;
-              size = k .same-buf ∙ l .size;
-              once = omega (arith, k .same-buf, l .once);
-              small = omega (arith, k .same-buf, l .small);
-              levels = l .levels;
-              deep = l .deep;
-              room = omega (arith, l .room, es);
+              loop = loop-next (l .loop) (record { same-amounts = ea; same-stack = es; same-buf = slot-kept child-slot zs same′ ∙ entry-kept });
               choice = l .choice;
               width = l .width;
-              few = l .few;
               sets = record { set = λ k b. ap member (kept-below n k stack ws stack-room (omega (arith, l .width))) ∙ l .sets .set k b };
-              place = subst (λ (k : ℕ). At (step-of tables s t) (at + 3 + k) (children-left tables s t (i + 1))) (sym r-is)
-                  (at-back (node-of tables w members) (children-left tables s t (i + 1)) node-turn);
-              ends = omega (arith, l .ends, ap length (parts (child .more)), length-append entry others, length-append (node-bytes (own-node M N (pairs M N - 1) (target-at m i) (set-of M N s t i))) (children-left tables s t (i + 1)), ap length node-same, r-is);
-              stands = stand-next entry-stands child-slot zs same′ (omega (arith, r-is, node-room, l .once)) (around-done w′) j₀ j₁;
-              kept = kept-then (l .kept) k;
+              place = subst (λ (k : ℕ). At total (at + 3 + k) later) (sym r-is) (at-back (node-of tables node) later node-turn);
+              ends = omega (arith, l .ends, ap length (parts (child .more)), length-append entry (child-bytes ++ later), length-append child-bytes later, ap length node-same, r-is);
+              stands = stand-next entry-stands child-slot zs same′ (omega (arith, r-is, node-room, once)) (around-done w′) joined;
             }

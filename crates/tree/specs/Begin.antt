@@ -10,8 +10,8 @@ use Rattle.simulation.specs.Tree.{chosen}
 use Rattle.form.specs.Tables.{first-table, second-table}
 use Rattle.relation.specs.Words.{height}
 use Rattle.buffer.specs.Buffer.{over}
-use Rattle.relate.specs.Ranked.{Ranked}
-use Rattle.choice.specs.Choice.{Lost, Choice, Sets}
+use Rattle.relate.specs.Ranked.{RanksRight}
+use Rattle.choice.specs.Choice.{Lost, Choice, SetsChosen}
 
 -- the code and the number of children of a transition
 abbrev pub head-bytes : Transition → List ℕ
@@ -23,7 +23,7 @@ entry-bytes s w = s ∷ w % 256 ∷ w / 256 ∷ []
 
 -- what the beginning of a transition rests on
 pub record BeginGiven (tables ranks choices : List ℕ) (s t : ℕ) (amounts stack buf : List ℕ) : Type 0 where
-  pub ranked : Ranked tables ranks
+  pub ranked : RanksRight tables ranks
   pub lost : Lost tables s t
   pub noted : s * states-of (second-table tables) + t < length choices
   pub choice : Choice tables s t (getD choices (s * states-of (second-table tables) + t) 0)
@@ -32,7 +32,7 @@ pub record BeginGiven (tables ranks choices : List ℕ) (s t : ℕ) (amounts sta
   pub room : 2 ≤ length buf
 
 -- the transition j of the pair is begun
-pub record Begun (tables : List ℕ) (s t j : ℕ) (stack old new : List ℕ) : Type 0 where
+pub record TransitionBegun (tables : List ℕ) (s t j : ℕ) (stack old new : List ℕ) : Type 0 where
   pub choice : Choice tables s t j
-  pub sets : Sets tables s t stack
+  pub sets : SetsChosen tables s t stack
   pub head : new ≡ over (head-bytes (chosen (first-table tables) (second-table tables) s t)) old

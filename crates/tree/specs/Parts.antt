@@ -13,11 +13,13 @@ use Rattle.simulation.specs.Tree.{leaf, own-step, own-node, transition-bytes, n
 use Rattle.simulation.specs.Length.{tree-length}
 use Rattle.form.specs.Tables.{first-table, second-table}
 use Rattle.relation.specs.Mask.{member}
-use Rattle.relation.specs.Words.{words}
+use Rattle.relation.specs.Words.{words, mask}
 use Rattle.counting.specs.Count.{longest}
 use Rattle.measure.specs.Lengths.{Measured}
-use Rattle.relate.specs.Ranked.{Ranked}
+use Rattle.relate.specs.Ranked.{RanksRight}
+use Rattle.tree.specs.declared.write.Node.{Node}
 use Rattle.tree.specs.declared.write.Rest.{Rest}
+use Rattle.tree.specs.declared.write.Step.{Step}
 
 -- the list P stands in the list l at place a
 pub record At (l : List ℕ) (a : ℕ) (P : List ℕ) : Type 0 where
@@ -33,10 +35,30 @@ words-for (suc levels) = words * min most-states (2 ^ suc levels / 4) + words-fo
 abbrev pub stack-words : ℕ
 stack-words = words * (11 * most-states - 1)
 
+-- no part is left of a pair
+abbrev pub nothing : ℕ → ℕ → Rest
+nothing s t = record { s = s; t = t; at = 0; len = 0 }
+
+-- what is left in a part of a buffer, at its place in the buffer, in which the part begins at `start`
+abbrev pub offset : Rest → ℕ → Rest
+offset hole start = record { s = hole .s; t = hole .t; at = start + hole .at; len = hole .len }
+
+-- what is left of both: `hole`, which lies in the part from `start` on, or `rest` if that is none
+pub record Remains (rest hole : Rest) (start : ℕ) (r : Rest) : Type 0 where
+  pub none : hole .len ≡ 0 → r ≡ rest
+  pub some : 0 < hole .len → r ≡ offset hole start
+
+-- the calls below a limit are no deeper than the levels, and the stack has the words for them
+pub record Depth (limit : ℕ) (stack : List ℕ) : Type 0 where
+  pub levels : ℕ
+  pub deep : limit < 2 ^ levels
+  pub words : words-for levels + 2 * words * most-states ≤ length stack
+
 module _ (tables : List ℕ) where
   -- the bytes of the node of a state and a set of states that it is not kept with; no rank is above the number of pairs
-  abbrev pub node-of : ℕ → ℕ → List ℕ
-  node-of s members = node-bytes (own-node (first-table tables) (second-table tables) (pairs (first-table tables) (second-table tables)) s (member members))
+  abbrev pub node-of : Node → List ℕ
+  node-of node =
+      node-bytes (own-node (first-table tables) (second-table tables) (pairs (first-table tables) (second-table tables)) (node .s) (member (mask (node .members))))
 
   -- the bytes of the transition of a pair that is not kept
   abbrev pub step-of : ℕ → ℕ → List ℕ
@@ -44,52 +66,48 @@ module _ (tables : List ℕ) where
       transition-bytes (own-step (first-table tables) (second-table tables) (own-node (first-table tables) (second-table tables) (pairs (first-table tables) (second-table tables) - 1)) s t leaf)
 
   -- the part of `total` that a pair's transition takes
-  pub record PartOf (choices lengths total : List ℕ) (s t at len : ℕ) : Type 0 where
-    pub measured : Measured tables choices lengths s t
-    pub size : len ≡ length (step-of s t)
-    pub part : At total at (step-of s t)
+  pub record PartOf (choices lengths total : List ℕ) (rest : Rest) : Type 0 where
+    pub measured : Measured tables choices lengths (rest .s) (rest .t)
+    pub size : rest .len ≡ length (step-of (rest .s) (rest .t))
+    pub part : At total (rest .at) (step-of (rest .s) (rest .t))
 
-  -- the first n bytes of `total` are written, but for the part of the pair (s, t) at `at`, which is still to be written; none is if its length is 0
-  pub record Left (choices lengths total : List ℕ) (n s t at len : ℕ) (now : List ℕ) : Type 0 where
-    pub within : at + len ≤ n
-    pub written : (k : ℕ) → k < n → (k < at) ⊎ (at + len ≤ k) → getD now k 0 ≡ getD total k 0
-    pub rest : 0 < len → PartOf choices lengths total s t at len
+  -- the first n bytes of `total` are written, but for a pair's part that is still to be written; none is if its length is 0
+  pub record Left (choices lengths total : List ℕ) (n : ℕ) (rest : Rest) (now : List ℕ) : Type 0 where
+    pub within : rest .at + rest .len ≤ n
+    pub written : (k : ℕ) → k < n → (k < rest .at) ⊎ (rest .at + rest .len ≤ k) → getD now k 0 ≡ getD total k 0
+    pub part : 0 < rest .len → PartOf choices lengths total rest
 
   -- what all writing rests on
   pub record WriteGiven (ranks choices lengths amounts : List ℕ) : Type 0 where
-    pub ranked : Ranked tables ranks
+    pub ranked : RanksRight tables ranks
     pub notes : pairs (first-table tables) (second-table tables) ≤ length choices
     pub enough : pairs (first-table tables) (second-table tables) ≤ length lengths
     pub amounts-room : most-pairs ≤ length amounts
 
-  -- the writing of a transition or its deferral; the calls below it are no deeper than the levels, and the stack has the words for them
-  pub record StepGiven (ranks choices lengths : List ℕ) (s t limit : ℕ) (amounts stack buf : List ℕ) : Type 0 where
+  -- the writing of a transition or its deferral
+  pub record StepGiven (ranks choices lengths : List ℕ) (step : Step) (amounts stack buf : List ℕ) : Type 0 where
     pub given : WriteGiven ranks choices lengths amounts
-    pub measured : Measured tables choices lengths s t
-    pub size : length buf ≡ length (step-of s t)
-    pub levels : ℕ
-    pub deep : limit < 2 ^ levels
-    pub words : words-for levels + 2 * words * most-states ≤ length stack
+    pub depth : Depth (step .limit) stack
+    pub measured : Measured tables choices lengths (step .s) (step .t)
+    pub size : length buf ≡ length (step-of (step .s) (step .t))
 
   -- the transition is written if it is not longer than the limit, and is what is left if it is
-  pub record StepWritten (s t limit : ℕ) (rest : Rest) (old new : List ℕ) : Type 0 where
-    pub short : length old ≤ limit → (rest .len ≡ 0) × (new ≡ step-of s t)
-    pub long : limit < length old → rest ≡ record { s = s; t = t; at = 0; len = length old }
+  pub record StepWritten (step : Step) (rest : Rest) (old new : List ℕ) : Type 0 where
+    pub short : length old ≤ step .limit → (rest .len ≡ 0) × (new ≡ step-of (step .s) (step .t))
+    pub long : step .limit < length old → rest ≡ record { s = step .s; t = step .t; at = 0; len = length old }
 
   -- the writing of a node whose bytes have at most one part that is longer than half
-  pub record NodeGiven (ranks choices lengths : List ℕ) (s members half : ℕ) (amounts stack buf : List ℕ) : Type 0 where
+  pub record NodeGiven (ranks choices lengths : List ℕ) (node : Node) (amounts stack buf : List ℕ) : Type 0 where
     pub given : WriteGiven ranks choices lengths amounts
-    pub state : s < states-of (first-table tables)
-    pub measured : (t : ℕ) → T (member members t) → Measured tables choices lengths s t
-    pub size : length buf ≡ length (node-of s members)
-    pub once : length buf ≤ 2 * half + 1
-    pub levels : ℕ
-    pub deep : half < 2 ^ levels
-    pub words : words-for levels + 2 * words * most-states ≤ length stack
+    pub depth : Depth (node .half) stack
+    pub state : node .s < states-of (first-table tables)
+    pub measured : (t : ℕ) → T (member (mask (node .members)) t) → Measured tables choices lengths (node .s) t
+    pub size : length buf ≡ length (node-of node)
+    pub once : length buf ≤ 2 * node .half + 1
 
   -- all but a part longer than half is written
   pub record Around (choices lengths total : List ℕ) (half : ℕ) (rest : Rest) (now : List ℕ) : Type 0 where
-    pub left : Left choices lengths total (length total) (rest .s) (rest .t) (rest .at) (rest .len) now
+    pub left : Left choices lengths total (length total) rest now
     pub less : rest .len < length total
     pub long : 0 < rest .len → half < rest .len
 

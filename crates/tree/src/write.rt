@@ -21,10 +21,9 @@ ghost use Rattle.simulation.specs.Table.{weights, target-at};
 ghost use Rattle.simulation.specs.Tree.{tree, node-bytes};
 ghost use Rattle.form.specs.Form.{transitions-of};
 ghost use Rattle.form.specs.Tables.{first-form, first-table, second-table, first-step, BothLoaded};
-ghost use Rattle.relation.specs.Words.{mask};
 ghost use Rattle.buffer.specs.Buffer.{over, Filled};
-ghost use Rattle.tree.specs.Begin.{head-bytes, entry-bytes, BeginGiven, Begun};
-ghost use Rattle.tree.specs.Parts.{step-of, node-of, StepGiven, StepWritten, NodeGiven, Around, TreeGiven};
+ghost use Rattle.tree.specs.Begin.{head-bytes, entry-bytes, BeginGiven, TransitionBegun};
+ghost use Rattle.tree.specs.Parts.{nothing, offset, Remains, step-of, node-of, StepGiven, StepWritten, NodeGiven, Around, TreeGiven};
 
 // The words of the stack: a set for each child of the transition in hand at each of 16 levels, since LONGEST is below 2 ^ 16. A transition at
 // level k has no more children than a quarter of 2 ^ k, since each takes four bytes, and no more than Table::STATES: that many at the upper
@@ -90,13 +89,49 @@ fn begin_transition(
     buf: &mut [u8],
 ) -> usize
     requires { ⌜ BeginGiven (now tables) (now ranks) (now choices) s t (now amounts) (now stack) (now buf) ⌝ }
-    ensures { λ r. ⌜ Begun (now (tables .entry)) s t r (now (stack .exit)) (now (buf .entry)) (now (buf .exit)) ⌝ }
+    ensures { λ r. ⌜ TransitionBegun (now (tables .entry)) s t r (now (stack .exit)) (now (buf .entry)) (now (buf .exit)) ⌝ }
 {
     let p = number(tables, s, t);
     let j = choices[p] as usize;
     find_sets(tables, ranks, s, t, ranks[p], j, stack, amounts);
     put_head(tables, j, buf);
     j
+}
+
+// No part is left of the pair (s, t).
+fn nothing(s: usize, t: usize) -> Rest
+    ensures { λ r. ⌜ r ≡ nothing s t ⌝ }
+{
+    Rest {
+        s,
+        t,
+        at: 0,
+        len: 0,
+    }
+}
+
+// What is left in a part of the buffer from `start` on, at its place in the buffer.
+fn offset(hole: Rest, start: usize) -> Rest
+    requires { ⌜ start + hole .at < 2 ^ 64 ⌝ }
+    ensures { λ r. ⌜ r ≡ offset hole start ⌝ }
+{
+    Rest {
+        s: hole.s,
+        t: hole.t,
+        at: start + hole.at,
+        len: hole.len,
+    }
+}
+
+// Of the two parts, the one that is there: the second lies in a part of the buffer from `start` on.
+fn join(rest: Rest, hole: Rest, start: usize) -> Rest
+    requires { ⌜ (0 < hole .len → start + hole .at < 2 ^ 64) ⌝ }
+    ensures { λ r. ⌜ Remains rest hole start r ⌝ }
+{
+    if hole.len == 0 {
+        return rest;
+    }
+    offset(hole, start)
 }
 
 // The node, in a buffer of its length, but for a transition that is longer than half: that is what is left.
@@ -110,21 +145,15 @@ fn write_node(
     stack: &mut [Word],
     buf: &mut [u8],
 ) -> Rest
-    requires { ⌜ NodeGiven (now tables) (now ranks) (now choices) (now lengths) (node .s) (mask (node .members)) (node .half)
-        (now amounts) (now stack) (now buf) ⌝ }
-    ensures { λ r. ⌜ Around (now (tables .entry)) (now (choices .entry)) (now (lengths .entry))
-        (node-of (now (tables .entry)) (node .s) (mask (node .members))) (node .half) r (now (buf .exit)) ⌝ }
+    requires { ⌜ NodeGiven (now tables) (now ranks) (now choices) (now lengths) node (now amounts) (now stack) (now buf) ⌝ }
+    ensures { λ r. ⌜ Around (now (tables .entry)) (now (choices .entry)) (now (lengths .entry)) (node-of (now (tables .entry)) node)
+        (node .half) r (now (buf .exit)) ⌝ }
 {
     let s = node.s;
     let limit = node.half;
     let members = node.members;
     buf[0] = set::count(members) as u8;
-    let mut rest = Rest {
-        s,
-        t: 0,
-        at: 0,
-        len: 0,
-    };
+    let mut rest = nothing(s, 0);
     let mut at = 1;
     for w in 0..Set::WORDS {
         let mut left = members.words[w];
@@ -132,39 +161,14 @@ fn write_node(
             let t = walk::lowest(members, w, left);
             let end = at + pair_length(tables, lengths, s, t);
             let step = Step { s, t, limit };
-            let part = &mut buf[at..end];
-            let found = write_transition(
-                tables,
-                ranks,
-                choices,
-                lengths,
-                step,
-                amounts,
-                stack,
-                part,
-            );
-            rest = join(rest, found, at);
+            let out = &mut buf[at..end];
+            let hole = write_transition(tables, ranks, choices, lengths, step, amounts, stack, out);
+            rest = join(rest, hole, at);
             at = end;
             left = walk::without_lowest(members, w, left);
         }
     }
     rest
-}
-
-// Of the two parts, the one that is there: the second lies in a part of the buffer from `at` on.
-fn join(rest: Rest, found: Rest, at: usize) -> Rest
-    requires { ⌜ (0 < found .len → at + found .at < 2 ^ 64) ⌝ }
-    ensures { λ r. ⌜ (found .len ≡ 0 → r ≡ rest) × (0 < found .len → r ≡ record { s = found .s; t = found .t; at = at + found .at; len = found .len }) ⌝ }
-{
-    if found.len == 0 {
-        return rest;
-    }
-    Rest {
-        s: found.s,
-        t: found.t,
-        at: at + found.at,
-        len: found.len,
-    }
 }
 
 // The transition, in a buffer of its length, which is at most the limit, but for a part that is longer than half the limit: that is what is
@@ -179,22 +183,14 @@ fn write_around(
     stack: &mut [Word],
     buf: &mut [u8],
 ) -> Rest
-    requires { ⌜ StepGiven (now tables) (now ranks) (now choices) (now lengths) (step .s) (step .t) (step .limit) (now amounts) (now stack) (now buf)
+    requires { ⌜ StepGiven (now tables) (now ranks) (now choices) (now lengths) step (now amounts) (now stack) (now buf)
         × (length (now buf) ≤ step .limit) ⌝ }
     ensures { λ r. ⌜ Around (now (tables .entry)) (now (choices .entry)) (now (lengths .entry)) (step-of (now (tables .entry)) (step .s) (step .t))
         (step .limit / 2) r (now (buf .exit)) ⌝ }
 {
-    let s = step.s;
-    let t = step.t;
-    let j = begin_transition(tables, ranks, choices, s, t, amounts, stack, buf);
+    let j = begin_transition(tables, ranks, choices, step.s, step.t, amounts, stack, buf);
     let n = tables::targets(tables, Form::FIRST, j).len();
-    let half = step.limit / 2;
-    let mut rest = Rest {
-        s,
-        t,
-        at: 0,
-        len: 0,
-    };
+    let mut rest = nothing(step.s, step.t);
     let mut at = 2;
     for i in 0..n {
         let start = at + 3;
@@ -204,19 +200,12 @@ fn write_around(
         let node = Node {
             s: target,
             members,
-            half,
+            half: step.limit / 2,
         };
-        let found = write_node(
-            tables,
-            ranks,
-            choices,
-            lengths,
-            node,
-            amounts,
-            &mut stack[Set::WORDS * n..],
-            &mut buf[start..end],
-        );
-        rest = join(rest, found, start);
+        let deeper = &mut stack[Set::WORDS * n..];
+        let out = &mut buf[start..end];
+        let hole = write_node(tables, ranks, choices, lengths, node, amounts, deeper, out);
+        rest = join(rest, hole, start);
         at = end;
     }
     rest
@@ -234,17 +223,16 @@ fn write_transition(
     stack: &mut [Word],
     buf: &mut [u8],
 ) -> Rest
-    requires { ⌜ StepGiven (now tables) (now ranks) (now choices) (now lengths) (step .s) (step .t) (step .limit) (now amounts) (now stack) (now buf) ⌝ }
-    ensures { λ r. ⌜ StepWritten (now (tables .entry)) (step .s) (step .t) (step .limit) r (now (buf .entry)) (now (buf .exit)) ⌝ }
+    requires { ⌜ StepGiven (now tables) (now ranks) (now choices) (now lengths) step (now amounts) (now stack) (now buf) ⌝ }
+    ensures { λ r. ⌜ StepWritten (now (tables .entry)) step r (now (buf .entry)) (now (buf .exit)) ⌝ }
 {
-    let limit = step.limit;
     let mut rest = Rest {
         s: step.s,
         t: step.t,
         at: 0,
         len: buf.len(),
     };
-    if limit < rest.len {
+    if step.limit < rest.len {
         return rest;
     }
     while rest.len != 0 {
@@ -253,16 +241,11 @@ fn write_transition(
         let inner = Step {
             s: rest.s,
             t: rest.t,
-            limit,
+            limit: step.limit,
         };
-        let part = &mut buf[start..end];
-        let found = write_around(tables, ranks, choices, lengths, inner, amounts, stack, part);
-        rest = Rest {
-            s: found.s,
-            t: found.t,
-            at: start + found.at,
-            len: found.len,
-        };
+        let out = &mut buf[start..end];
+        let hole = write_around(tables, ranks, choices, lengths, inner, amounts, stack, out);
+        rest = offset(hole, start);
     }
     rest
 }
@@ -290,7 +273,7 @@ pub fn tree(
         t,
         limit: LONGEST as usize,
     };
-    let part = &mut buf[1..end];
+    let out = &mut buf[1..end];
     write_transition(
         tables,
         ranks,
@@ -299,7 +282,7 @@ pub fn tree(
         step,
         amounts,
         &mut stack,
-        part,
+        out,
     );
     end
 }

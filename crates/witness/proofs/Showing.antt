@@ -11,9 +11,9 @@ use Rattle.simulation.specs.Table.{Table, states-of}
 use Rattle.simulation.specs.Round.{pairs}
 use Rattle.simulation.specs.Demands.{Kept}
 use Rattle.simulation.specs.Length.{tree-length}
-use Rattle.simulation.proofs.Trees.Length.{tree-bytes as bytes-length}
+use Rattle.simulation.proofs.Trees.Length.{tree-bytes-length as bytes-length}
 use Rattle.form.specs.Form.{Loaded, table-of}
-use Rattle.form.proofs.FormLaws.{few-pairs}
+use Rattle.form.proofs.FormLaws.{pairs-bound}
 use Rattle.flows.specs.Flow.{flow-room}
 use Rattle.flows.specs.FlowSteps.{Flowed}
 use Rattle.flows.proofs.FlowPlace.{right-amounts}
@@ -29,7 +29,7 @@ module _ (f g : List ℕ) (lf : Loaded f) (lg : Loaded g) {p q : ℕ} (ep : p �
   count-is = ap₂ _*_ ep eq
 
   pub count-small : p * q ≤ most-pairs
-  count-small = omega (arith, count-is, few-pairs f g lf lg)
+  count-small = omega (arith, count-is, pairs-bound f g lf lg)
 
 -- what is shown of a kept pair
 module _ (M N : Table) (s t : ℕ) (a : Answer) (flow : List ℕ) where

@@ -11,7 +11,7 @@ use Rattle.form.specs.Form.{Loaded, start-of, transitions-of}
 use Rattle.form.specs.Tables.{first-form, second-form, first-step}
 use Rattle.form.proofs.FormLaws.{limits}
 use Rattle.fit.specs.Ranked.{InRound}
-use Rattle.choice.specs.Choice.{Choice, Sets, round-fits-some, Tested}
+use Rattle.choice.specs.Choice.{Choice, SetsChosen, round-fits-some, Tested}
 use Rattle.choice.proofs.Choosing.{LostPair, lost-compared, matches, Trying, number-of, trying-start, trying-next, trying-end, tested-one}
 use Rattle.choice.proofs.choose.Statement.{statement}
 use Rattle.choice.proofs.choose.Tie as tie
@@ -51,7 +51,7 @@ module _ {tables ranks : List ℕ} {s t r : ℕ} (p : LostPair tables ranks s t 
     guess lt f = tested-one tables s t first (p .lost) (p .its-rank) (w .tested .low) (omega (arith, w .ends)) f
 
     -- number j fits none
-    ended : end ≤ l → Choice tables s t j × Sets tables s t sets
+    ended : end ≤ l → Choice tables s t j × SetsChosen tables s t sets
     ended le =
         let c = trying-end tables s t first (p .lost) (w .trying) (matched j (w .tested .none (omega (arith, w .ends)))) in
         (c, w .tested .found c)

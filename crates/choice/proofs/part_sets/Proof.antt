@@ -1,6 +1,6 @@
 -- `choice::part_sets` meets its contract.
 -- Assumes nothing.
-use mathlib.Core.Path.{_≡_, sym, _∙_, subst}
+use mathlib.Core.Path.{sym, subst}
 use mathlib.Core.List.{List}
 use Prim.Native.Nat.{ℕ, _*_, _≤_, pred}
 use native.Mathlib.Omega.{arith}
@@ -14,7 +14,7 @@ use Rattle.relation.proofs.Parts.{part-height}
 use Rattle.relate.proofs.Places.{few-places}
 use Rattle.buffer.specs.Buffer.{with-part}
 use Rattle.fit.specs.Ranked.{Cut}
-use Rattle.choice.proofs.Choosing.{parted-other, parted-fit, parted-unfit, cut-names, half, lent-height, lent-rows, lent-sets}
+use Rattle.choice.proofs.Choosing.{parted-fit, parted-unfit, cut-names, half-words, lent-height, lent-rows, lent-sets}
 use Rattle.choice.proofs.part_sets.Statement.{statement}
 use Rattle.choice.proofs.part_sets.Tie as tie
 
@@ -22,30 +22,17 @@ use Rattle.choice.proofs.part_sets.Tie as tie
 few : (c : tie.Start) → length (first-step (c .args .tables .now) (c .args .j) .entries) ≤ most-states
 few c = let g = c .pre .0 in few-places (first-form (c .args .tables .now)) (c .args .j) (g .ranked .loaded .first) (g .from-first)
 
--- the codes are the same
-same-code : (c : tie.Else1) → let a = c .before .before .before .before .before .before .before .args in first-step (a .tables .now) (a .j) .code ≡ second-step (a .tables .now) (a .k) .code
-same-code c = sym (c .before .before .code .ensures) ∙ c .if1 .left ∙ c .before .code2 .ensures
-
 -- the rows that were lent, and the sets with them: as many rows as at the entry
 abbrev rel-of : tie.After-sets → List ℕ
 rel-of c = c .before .round-cut .last .1 .1 .1 .1 .1 .0
 
 abbrev sets-of : tie.After-sets → List ℕ
-sets-of c = with-part half half (rel-of c) (c .before .before .before .before .before .before .before .before .before .before .before .args .sets .now)
+sets-of c = with-part half-words half-words (rel-of c) (c .before .before .before .before .before .before .before .before .args .sets .now)
 
 room : (c : tie.After-sets) → 2 * most-states ≤ height (sets-of c)
 room c =
-    let entry = c .before .before .before .before .before .before .before .before .before .before .before in
+    let entry = c .before .before .before .before .before .before .before .before in
     omega (arith, entry .pre .1, lent-height (rel-of c) (entry .args .sets .now) (entry .pre .1) (c .sets .given .0))
-
-code-requires : tie.Need-code-requires
-code-requires c κs = search needs
-
-code-requires-2 : tie.Need-code-requires-2
-code-requires-2 c κs = search needs
-
-returns : tie.Need-returns
-returns c = parted-other _ _ _ (λ e. c .if1 .taken (c .before .before .code .ensures ∙ e ∙ sym (c .before .code2 .ensures))) _
 
 mul-rel : tie.Need-mul-rel
 mul-rel c = search needs
@@ -61,7 +48,7 @@ part-rel-end c = search needs
 
 round-cut-requires : tie.Need-round-cut-requires
 round-cut-requires c κs =
-    let entry = c .before .before .before .before .before .before .before .before .before in
+    let entry = c .before .before .before .before .before .before in
     (entry .pre .0, omega (arith, few entry, part-height most-states most-states (entry .args .sets .now) (omega (arith, entry .pre .1))))
 
 is-empty-requires : tie.Need-is-empty-requires
@@ -73,11 +60,11 @@ same-length c = search needs
 same-length-2 : tie.Need-same-length-2
 same-length-2 c = search needs
 
-returns-2 : tie.Need-returns-2
-returns-2 c =
+returns : tie.Need-returns
+returns c =
     let at-is-empty = c .before in
     let at-cut = at-is-empty .before .before .before .before .before in
-    parted-fit _ _ _ (same-code (at-cut .before .before .before)) (at-cut .round-cut .ensures) (at-is-empty .is-empty .ensures) (c .if2 .taken)
+    parted-fit _ _ _ (at-cut .before .before .before .before .before .before .before .pre .2) (at-cut .round-cut .ensures) (at-is-empty .is-empty .ensures) (c .if1 .taken)
 
 mul-reached : tie.Need-mul-reached
 mul-reached c = search needs
@@ -94,7 +81,7 @@ part-reached-end c = search needs
 reached-requires : tie.Need-reached-requires
 reached-requires c κs =
     let at-sets = c .before .before .before .before .before .before .before in
-    let entry = at-sets .before .before .before .before .before .before .before .before .before .before .before in
+    let entry = at-sets .before .before .before .before .before .before .before .before in
     cut-names _ _ _ (at-sets .before .round-cut .ensures) _ (omega (arith, few entry, part-height most-states most-states (sets-of at-sets) (omega (arith, room at-sets))))
 
 other-targets-requires : tie.Need-other-targets-requires
@@ -103,7 +90,7 @@ other-targets-requires c κs = search needs
 join-sets-requires : tie.Need-join-sets-requires
 join-sets-requires c κs =
     let at-sets = c .before .before .before .before .before .before .before .before .before .before in
-    let entry = at-sets .before .before .before .before .before .before .before .before .before .before .before in
+    let entry = at-sets .before .before .before .before .before .before .before .before in
     cut-names _ _ _ (at-sets .before .round-cut .ensures) _ (omega (arith, few entry, room at-sets))
 
 same-length-3 : tie.Need-same-length-3
@@ -112,14 +99,14 @@ same-length-3 c = search needs
 same-length-4 : tie.Need-same-length-4
 same-length-4 c = search needs
 
-returns-3 : tie.Need-returns-3
-returns-3 c =
+returns-2 : tie.Need-returns-2
+returns-2 c =
     let at-other = c .before .before .before .before in
     let at-reached = at-other .before in
-    let at-if2 = at-reached .before .before .before in
-    let at-sets = at-if2 .before .before .before .before .before in
+    let at-if1 = at-reached .before .before .before in
+    let at-sets = at-if1 .before .before .before .before .before in
     let at-cut = at-sets .before in
-    let entry = at-cut .before .before .before .before .before .before .before .before .before .before in
+    let entry = at-cut .before .before .before .before .before .before .before in
     let a = entry .args in
     let tables = a .tables .now in
     let R = round (first-table tables) (second-table tables) (pred (a .r)) in
@@ -128,18 +115,15 @@ returns-3 c =
     let rel = rel-of at-sets in
     let rows = lent-rows rel (a .sets .now) (entry .pre .1) (at-sets .sets .given .0) in
     let cut = subst (λ (z : List ℕ). Cut R m n z (mask (at-cut .round-cut .result))) (sym rows) (at-cut .round-cut .ensures) in
-    parted-unfit R m n _ _ (same-code (at-cut .before .before .before)) cut
+    parted-unfit R m n _ _ (entry .pre .2) cut
     (omega (arith, few entry, part-height most-states most-states (sets-of at-sets) (omega (arith, room at-sets))))
-    (at-reached .reached .ensures) (at-other .other-targets .ensures) (at-if2 .before .is-empty .ensures) (at-if2 .if2 .left)
+    (at-reached .reached .ensures) (at-other .other-targets .ensures) (at-if1 .before .is-empty .ensures) (at-if1 .if1 .left)
     (λ i b. lent-sets rel (a .sets .now) (entry .pre .1) (at-sets .sets .given .0) i (omega (arith, few entry))) (c .before .before .join-sets .ensures)
 
 pub part-sets-spec : {M : Type 1} → statement M
 part-sets-spec =
     tie.close
     (tie.spec
-    code-requires
-    code-requires-2
-    returns
     mul-rel
     sub-rel
     part-rel-start
@@ -148,7 +132,7 @@ part-sets-spec =
     is-empty-requires
     same-length
     same-length-2
-    returns-2
+    returns
     mul-reached
     sub-reached
     part-reached-start
@@ -158,4 +142,4 @@ part-sets-spec =
     join-sets-requires
     same-length-3
     same-length-4
-    returns-3)
+    returns-2)

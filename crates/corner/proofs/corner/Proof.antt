@@ -9,12 +9,12 @@ use lib.ListN.{length}
 use Rattle.simulation.specs.Fit.{weight, total}
 use Rattle.simulation.proofs.Finite.Tests.{true-T}
 use Rattle.matrix.specs.Problem.{joins}
-use Rattle.corner.proofs.Turn.{Reached, Turn, start, all-passed, row-fits, column-fits, turn, both-done, row-done, column-done}
+use Rattle.corner.proofs.Turn.{RuleAt, Turn, start, all-passed, row-fits, column-fits, turn, both-done, row-done, column-done}
 use Rattle.corner.proofs.corner.Statement.{statement}
 use Rattle.corner.proofs.corner.Tie as tie
 
 abbrev Inv-loop : tie.InvT-loop
-Inv-loop from m to n rows t u i₀ j₀ a₀ b₀ related₀ i j a b related = Reached (joins rows from to) m n i j a b related
+Inv-loop from m to n rows t u i₀ j₀ a₀ b₀ related₀ i j a b related = RuleAt (joins rows from to) m n i j a b related
 
 abbrev μ-loop : tie.MeasureT-loop
 μ-loop from m to n rows t u i₀ j₀ a₀ b₀ related₀ i j a b related = (length m - i) + (length n - j)

@@ -5,7 +5,7 @@ use mathlib.Core.Path.{sym, _∙_, subst}
 use mathlib.Core.List.{List, [], _∷_, _++_}
 use Prim.Native.Nat.{ℕ, _+_, _%_, _/_, _≤_, _<_}
 use native.Mathlib.Omega.{arith}
-use Rattle.digits.specs.Writes.{Room, Writes}
+use Rattle.digits.specs.Writes.{RoomFor, Writes}
 use Rattle.digits.specs.Digits.{decimal}
 use Rattle.digits.proofs.Writing.{then, kept, room-first, room-rest}
 use Rattle.digits.proofs.Digits.{decimal-last, decimal-more}
@@ -30,11 +30,11 @@ put-decimal-below t =
     and 1 put-decimal-kinds.ps (falls 1 put-decimal-kinds.ps _<_ μ-put-decimal t) put-decimal.Pre
 
 module _ {at : ℕ} {l : List ℕ} where
-  room-last : (n : ℕ) → n < 10 → Room (decimal n) at l → Room ((48 + n) ∷ []) at l
-  room-last n lt r = subst (λ (bs : List ℕ). Room bs at l) (decimal-last n lt) r
+  room-last : (n : ℕ) → n < 10 → RoomFor (decimal n) at l → RoomFor ((48 + n) ∷ []) at l
+  room-last n lt r = subst (λ (bs : List ℕ). RoomFor bs at l) (decimal-last n lt) r
 
-  room-more : (n : ℕ) → 10 ≤ n → Room (decimal n) at l → Room (decimal (n / 10) ++ ((48 + n % 10) ∷ [])) at l
-  room-more n le r = subst (λ (bs : List ℕ). Room bs at l) (decimal-more n le) r
+  room-more : (n : ℕ) → 10 ≤ n → RoomFor (decimal n) at l → RoomFor (decimal (n / 10) ++ ((48 + n % 10) ∷ [])) at l
+  room-more n le r = subst (λ (bs : List ℕ). RoomFor bs at l) (decimal-more n le) r
 
   wrote-last : (n : ℕ) → n < 10 → {m : List ℕ} {next : ℕ} → Writes ((48 + n) ∷ []) at l next m → Writes (decimal n) at l next m
   wrote-last n lt {m} {next} w = subst (λ (bs : List ℕ). Writes bs at l next m) (sym (decimal-last n lt)) w

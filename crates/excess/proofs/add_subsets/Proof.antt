@@ -1,7 +1,7 @@
 -- `excess::add_subsets` meets its contract: each pass joins one place more, and no sum is above that of all. Assumes nothing.
 use native.Mathlib.Omega.{arith}
 use borrow.Author.Needs.{needs}
-use Rattle.excess.proofs.Subsets.{Stage, stage-none, stage-next, stage-room, stage-all}
+use Rattle.excess.proofs.Subsets.{JoinStage, stage-none, stage-next, stage-room, stage-all}
 use Rattle.excess.proofs.add_subsets.Statement.{statement}
 use Rattle.excess.proofs.add_subsets.Tie as tie
 
@@ -19,13 +19,13 @@ abbrev third : tie.After-join4 → tie.After-join3
 third c = c .before .before .before .before
 
 -- what it leaves
-stage-1 : (c : tie.After-join) → Stage (start c .args .sums .now) 1 (c .join .last .0)
+stage-1 : (c : tie.After-join) → JoinStage (start c .args .sums .now) 1 (c .join .last .0)
 stage-1 c = stage-next (stage-none _) (c .join .ensures)
 
-stage-2 : (c : tie.After-join2) → Stage (start (first c) .args .sums .now) 2 (c .join2 .last .0)
+stage-2 : (c : tie.After-join2) → JoinStage (start (first c) .args .sums .now) 2 (c .join2 .last .0)
 stage-2 c = stage-next (stage-1 (first c)) (c .join2 .ensures)
 
-stage-3 : (c : tie.After-join3) → Stage (start (first (second c)) .args .sums .now) 3 (c .join3 .last .0)
+stage-3 : (c : tie.After-join3) → JoinStage (start (first (second c)) .args .sums .now) 3 (c .join3 .last .0)
 stage-3 c = stage-next (stage-2 (second c)) (c .join3 .ensures)
 
 join-requires : tie.Need-join-requires

@@ -8,16 +8,16 @@ use lib.ListN.{getD}
 use Rattle.simulation.specs.Sum.{when}
 use Rattle.simulation.proofs.Finite.Sums.{when-most}
 use Rattle.relation.specs.Mask.{member}
-use Rattle.excess.specs.Excess.{sets, parts}
+use Rattle.excess.specs.Excess.{set-count, parts}
 use Rattle.excess.proofs.Parts.{and-here}
 use Rattle.excess.proofs.at_most.Statement.{statement}
 use Rattle.excess.proofs.at_most.Tie as tie
 
 abbrev Inv-loop : tie.InvT-loop
-Inv-loop sums a b c d k₀ k = (k ≤ sets) × ((s : ℕ) → s < k → getD sums s 0 ≤ parts a b c d s)
+Inv-loop sums a b c d k₀ k = (k ≤ set-count) × ((s : ℕ) → s < k → getD sums s 0 ≤ parts a b c d s)
 
 abbrev μ-loop : tie.MeasureT-loop
-μ-loop sums a b c d k₀ k = sets - k
+μ-loop sums a b c d k₀ k = set-count - k
 
 -- no member has more than its amount
 each-most : (l : tie.At-loop Inv-loop μ-loop) → let k = l .loop .k in let g = l .before .before .args in

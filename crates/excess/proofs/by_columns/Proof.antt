@@ -2,68 +2,48 @@
 -- Assumes nothing.
 use mathlib.Core.Path.{_∙_}
 use borrow.Author.Needs.{needs}
-use native.Mathlib.Omega.{arith}
+use lib.ListN.{length}
 use Rattle.matrix.specs.Problem.{joins}
-use Rattle.greedy.proofs.StartLaws.{supply-fits}
-use Rattle.excess.proofs.Hall.{decides, has-room, fits-turned}
+use Rattle.excess.proofs.Hall.{FewSide, few-side, has-room, decides, fits-turned}
 use Rattle.excess.proofs.by_columns.Statement.{statement}
 use Rattle.excess.proofs.by_columns.Tie as tie
 
-abbrev start : tie.After-no-sums → tie.Start
-start c = c .before .before .before .before .before .before
+abbrev start : tie.After-total-weight → tie.Start
+start c = c .before .before .before .before .before .before .before
 
-no-sums-requires : tie.Need-no-sums-requires
-no-sums-requires c κs = search needs
-
-total-weight-requires : tie.Need-total-weight-requires
-total-weight-requires c κs = search needs
-
-slice-aggregate-row-sums : tie.Need-slice-aggregate-row-sums
-slice-aggregate-row-sums c = search needs
+begun : (c : tie.After-total-weight)
+    → FewSide (start c .args .n .now) (start c .args .m .now) (length (start c .args .to .now)) (length (start c .args .from .now)) (c .total-weight .result) (c .before .no-sums .result)
+begun c =
+    let h = start c .pre .0 in
+    few-side (h .columns-paired) (h .rows-paired) (c .total-weight .ensures) (start c .pre .1) (h .total-vs) (h .total-ws) (c .before .no-sums .ensures)
 
 row-sums-requires : tie.Need-row-sums-requires
-row-sums-requires c κs =
-    let s = start (c .before .before) in
-    let h = s .pre .0 in
-    let z = c .before .before .no-sums .ensures in
-    (h .row-states, h .column-states, omega (arith, h .columns-paired, s .pre .1), h .rows-paired, supply-fits _ _ (h .total-ws) (omega (arith, c .before .total-weight .ensures, h .total-vs)), z .0, z .1)
-
-slice-aggregate-carries : tie.Need-slice-aggregate-carries
-slice-aggregate-carries c = search needs
-
-total-weight-requires-2 : tie.Need-total-weight-requires-2
-total-weight-requires-2 c κs = search needs
+row-sums-requires c κs = let h = start (c .before) .pre .0 in (h .row-states, h .column-states, begun (c .before) .begun)
 
 carries-requires : tie.Need-carries-requires
 carries-requires c κs =
     let sums = c .before .before .before in
-    let s = start (sums .before .before .before) in
-    let h = s .pre .0 in
-    let a = s .args in
-    let R = joins (a .rows .now) (a .from .now) (a .to .now) in
-    has-room (λ j i. R i j) (a .n .now) (a .m .now) (h .columns-paired) (h .rows-paired) (sums .before .before .total-weight .ensures) (c .total-weight2 .ensures) (s .pre .1)
-    (sums .row-sums .ensures) (h .total-vs) (h .total-ws)
+    let a = start (sums .before .before) .args in
+    has-room (begun (sums .before .before)) (λ j i. joins (a .rows .now) (a .from .now) (a .to .now) i j) (c .total-weight2 .ensures) (sums .row-sums .ensures)
 
 returns : tie.Need-returns
 returns c =
-    let sums = c .before .before .before .before .before in
-    let s = start (sums .before .before .before) in
-    let h = s .pre .0 in
-    let a = s .args in
+    let total = c .before .before in
+    let sums = total .before .before .before in
+    let a = start (sums .before .before) .args in
     let R = joins (a .rows .now) (a .from .now) (a .to .now) in
-    decides (λ j i. R i j) (a .n .now) (a .m .now) (h .columns-paired) (h .rows-paired) (sums .before .before .total-weight .ensures) (c .before .before .total-weight2 .ensures) (s .pre .1)
-    (sums .row-sums .ensures) (c .before .carries .ensures)
+    decides (begun (sums .before .before)) (λ j i. R i j) (total .total-weight2 .ensures) (sums .row-sums .ensures) (c .before .carries .ensures)
     ∙ fits-turned R (a .m .now) (a .n .now)
 
 pub by-columns-spec : {M : Type 1} → statement M
 by-columns-spec =
     tie.close
     (tie.spec
-    no-sums-requires
-    total-weight-requires
-    slice-aggregate-row-sums
+    (λ c κs. search needs)
+    (λ c κs. search needs)
+    (λ c. search needs)
     row-sums-requires
-    slice-aggregate-carries
-    total-weight-requires-2
+    (λ c. search needs)
+    (λ c κs. search needs)
     carries-requires
     returns)

@@ -1,67 +1,46 @@
 -- `excess::by_rows` meets its contract: the sums by columns decide.
 -- Assumes nothing.
 use borrow.Author.Needs.{needs}
-use native.Mathlib.Omega.{arith}
+use lib.ListN.{length}
 use Rattle.matrix.specs.Problem.{joins}
-use Rattle.greedy.proofs.StartLaws.{supply-fits}
-use Rattle.excess.proofs.Hall.{decides, has-room}
+use Rattle.excess.proofs.Hall.{FewSide, few-side, has-room, decides}
 use Rattle.excess.proofs.by_rows.Statement.{statement}
 use Rattle.excess.proofs.by_rows.Tie as tie
 
-abbrev start : tie.After-no-sums → tie.Start
-start c = c .before .before .before .before .before .before
+abbrev start : tie.After-total-weight → tie.Start
+start c = c .before .before .before .before .before .before .before
 
-no-sums-requires : tie.Need-no-sums-requires
-no-sums-requires c κs = search needs
-
-total-weight-requires : tie.Need-total-weight-requires
-total-weight-requires c κs = search needs
-
-slice-aggregate-column-sums : tie.Need-slice-aggregate-column-sums
-slice-aggregate-column-sums c = search needs
+begun : (c : tie.After-total-weight)
+    → FewSide (start c .args .m .now) (start c .args .n .now) (length (start c .args .from .now)) (length (start c .args .to .now)) (c .total-weight .result) (c .before .no-sums .result)
+begun c =
+    let h = start c .pre .0 in
+    few-side (h .rows-paired) (h .columns-paired) (c .total-weight .ensures) (start c .pre .1) (h .total-ws) (h .total-vs) (c .before .no-sums .ensures)
 
 column-sums-requires : tie.Need-column-sums-requires
-column-sums-requires c κs =
-    let s = start (c .before .before) in
-    let h = s .pre .0 in
-    let z = c .before .before .no-sums .ensures in
-    (h .row-states, h .column-states, omega (arith, h .rows-paired, s .pre .1), h .columns-paired, supply-fits _ _ (h .total-vs) (omega (arith, c .before .total-weight .ensures, h .total-ws)), z .0, z .1)
-
-slice-aggregate-carries : tie.Need-slice-aggregate-carries
-slice-aggregate-carries c = search needs
-
-total-weight-requires-2 : tie.Need-total-weight-requires-2
-total-weight-requires-2 c κs = search needs
+column-sums-requires c κs = let h = start (c .before) .pre .0 in (h .row-states, h .column-states, begun (c .before) .begun)
 
 carries-requires : tie.Need-carries-requires
 carries-requires c κs =
     let sums = c .before .before .before in
-    let s = start (sums .before .before .before) in
-    let h = s .pre .0 in
-    let a = s .args in
-    let R = joins (a .rows .now) (a .from .now) (a .to .now) in
-    has-room R (a .m .now) (a .n .now) (h .rows-paired) (h .columns-paired) (sums .before .before .total-weight .ensures) (c .total-weight2 .ensures) (s .pre .1)
-    (sums .column-sums .ensures) (h .total-ws) (h .total-vs)
+    let a = start (sums .before .before) .args in
+    has-room (begun (sums .before .before)) (joins (a .rows .now) (a .from .now) (a .to .now)) (c .total-weight2 .ensures) (sums .column-sums .ensures)
 
 returns : tie.Need-returns
 returns c =
-    let sums = c .before .before .before .before .before in
-    let s = start (sums .before .before .before) in
-    let h = s .pre .0 in
-    let a = s .args in
-    let R = joins (a .rows .now) (a .from .now) (a .to .now) in
-    decides R (a .m .now) (a .n .now) (h .rows-paired) (h .columns-paired) (sums .before .before .total-weight .ensures) (c .before .before .total-weight2 .ensures) (s .pre .1)
-    (sums .column-sums .ensures) (c .before .carries .ensures)
+    let total = c .before .before in
+    let sums = total .before .before .before in
+    let a = start (sums .before .before) .args in
+    decides (begun (sums .before .before)) (joins (a .rows .now) (a .from .now) (a .to .now)) (total .total-weight2 .ensures) (sums .column-sums .ensures) (c .before .carries .ensures)
 
 pub by-rows-spec : {M : Type 1} → statement M
 by-rows-spec =
     tie.close
     (tie.spec
-    no-sums-requires
-    total-weight-requires
-    slice-aggregate-column-sums
+    (λ c κs. search needs)
+    (λ c κs. search needs)
+    (λ c. search needs)
     column-sums-requires
-    slice-aggregate-carries
-    total-weight-requires-2
+    (λ c. search needs)
+    (λ c κs. search needs)
     carries-requires
     returns)

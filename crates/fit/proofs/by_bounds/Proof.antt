@@ -2,7 +2,7 @@
 use borrow.Author.Needs.{needs}
 use Rattle.relation.specs.Words.{mask}
 use Rattle.relation.proofs.Sets.{mask-lt, is-none, not-some}
-use Rattle.fit.proofs.Covering.{missing, covered}
+use Rattle.fit.proofs.Covering.{outside-member, covered}
 use Rattle.fit.proofs.by_bounds.Statement.{statement}
 use Rattle.fit.proofs.by_bounds.Tie as tie
 
@@ -28,7 +28,7 @@ returns-2 : tie.Need-returns-2
 returns-2 c =
     let a = c .before .before .before .before .before .before .args in
     let d = c .before .before .difference2 in
-    missing (mask (a .to)) (mask (a .known .some)) (mask (d .result)) (mask-lt (d .result)) (not-some (c .before .is-empty2 .ensures) (c .if2 .taken)) (d .ensures)
+    outside-member (mask (a .to)) (mask (a .known .some)) (mask (d .result)) (mask-lt (d .result)) (not-some (c .before .is-empty2 .ensures) (c .if2 .taken)) (d .ensures)
 
 returns-3 : tie.Need-returns-3
 returns-3 c = search needs

@@ -3,7 +3,7 @@ use mathlib.Core.Path.{sym, subst}
 use borrow.Author.Needs.{needs}
 use borrow.Author.Tests.{not-true}
 use Rattle.relation.specs.Words.{height}
-use Rattle.fit.specs.Held.{Places}
+use Rattle.gather.specs.Places.{Places}
 use Rattle.fit.proofs.Fitting.{first-places, row-misfits}
 use Rattle.fit.proofs.decide.Statement.{statement}
 use Rattle.fit.proofs.decide.Tie as tie

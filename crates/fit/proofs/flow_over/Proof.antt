@@ -8,7 +8,7 @@ use Rattle.simulation.specs.Fit.{total}
 use Rattle.relation.specs.Words.{height}
 use Rattle.form.specs.Tables.{first-form, second-form}
 use Rattle.form.proofs.FormLaws.{limited-at}
-use Rattle.fit.specs.Held.{Ascending, Places}
+use Rattle.gather.specs.Places.{Places, Ascending}
 use Rattle.fit.proofs.Fitting.{targets-ascend, first-places, second-places, shares-between}
 use Rattle.fit.proofs.flow_over.Statement.{statement}
 use Rattle.fit.proofs.flow_over.Tie as tie

@@ -3,12 +3,12 @@ use Prim.Native.Nat.{_-_, _≤_}
 use native.Mathlib.Omega.{arith}
 use lib.ListN.{length}
 use Rattle.relation.specs.Words.{mask}
-use Rattle.fit.proofs.Covering.{Passed, passed-start, passed-next, passed-all}
+use Rattle.fit.proofs.Covering.{BoundsSoFar, passed-start, passed-next, passed-all}
 use Rattle.fit.proofs.row_bounds.Statement.{statement}
 use Rattle.fit.proofs.row_bounds.Tie as tie
 
 abbrev Inv-loop : tie.InvT-loop
-Inv-loop from rows some₀ every₀ i₀ some every i = (i ≤ length from) × Passed rows from i (mask some) (mask every)
+Inv-loop from rows some₀ every₀ i₀ some every i = (i ≤ length from) × BoundsSoFar rows from i (mask some) (mask every)
 
 abbrev μ-loop : tie.MeasureT-loop
 μ-loop from rows some₀ every₀ i₀ some every i = length from - i

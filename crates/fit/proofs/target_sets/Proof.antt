@@ -10,7 +10,7 @@ use Rattle.relation.proofs.Sets.{length-put}
 use Rattle.form.specs.Form.{transitions-of}
 use Rattle.form.specs.Tables.{second-form}
 use Rattle.form.proofs.FormLaws.{limits}
-use Rattle.fit.specs.Held.{Places}
+use Rattle.gather.specs.Places.{Places}
 use Rattle.fit.proofs.Fitting.{places-of}
 use Rattle.fit.proofs.Sets.{SetsTo, sets-next, last-start}
 use Rattle.fit.proofs.target_sets.Statement.{statement}

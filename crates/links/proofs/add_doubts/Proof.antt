@@ -3,19 +3,19 @@ use Prim.Native.Nat.{_≤_, _-_}
 use native.Mathlib.Omega.{arith}
 use Rattle.relation.specs.Words.{words, mask, after, rest}
 use Rattle.links.specs.Places.{HasMarks}
-use Rattle.links.proofs.Walks.{Passed, passed-none, passed-into, passed-on, passed-all}
+use Rattle.links.proofs.Walks.{EachPassed, passed-none, passed-into, passed-on, passed-all}
 use Rattle.links.proofs.Doubting.{InDoubt, MoreDoubts, more-none, more-then, more-next}
 use Rattle.links.proofs.add_doubts.Statement.{statement}
 use Rattle.links.proofs.add_doubts.Tie as tie
 
 abbrev Inv-loop2 : tie.InvT-loop2
-Inv-loop2 more marks₀ set w left₀ marks left = MoreDoubts marks₀ marks × Passed set (rest w left set) (InDoubt (mask more) marks)
+Inv-loop2 more marks₀ set w left₀ marks left = MoreDoubts marks₀ marks × EachPassed set (rest w left set) (InDoubt (mask more) marks)
 
 abbrev μ-loop2 : tie.MeasureT-loop2
 μ-loop2 more marks₀ set w left₀ marks left = left
 
 abbrev Inv-loop : tie.InvT-loop
-Inv-loop more marks₀ set w₀ marks w = (w ≤ words) × MoreDoubts marks₀ marks × Passed set (after w set) (InDoubt (mask more) marks)
+Inv-loop more marks₀ set w₀ marks w = (w ≤ words) × MoreDoubts marks₀ marks × EachPassed set (after w set) (InDoubt (mask more) marks)
 
 abbrev μ-loop : tie.MeasureT-loop
 μ-loop more marks₀ set w₀ marks w = words - w

@@ -10,7 +10,7 @@ use Rattle.relation.specs.Words.{words, mask, row-of, after, rest}
 use Rattle.relation.specs.Related.{holds}
 use Rattle.relation.proofs.Parts.{part-row}
 use Rattle.links.specs.Places.{behind-in}
-use Rattle.links.proofs.Walks.{Passed, passed-none, passed-into, passed-next, passed-on, passed-all}
+use Rattle.links.proofs.Walks.{EachPassed, passed-none, passed-into, passed-next, passed-on, passed-all}
 use Rattle.links.proofs.Growing.{union-left, union-right}
 use Rattle.links.proofs.behind_all.Statement.{statement}
 use Rattle.links.proofs.behind_all.Tie as tie
@@ -20,13 +20,13 @@ abbrev Taken : (sets : List ℕ) (r u : ℕ) → Type 0
 Taken sets r u = (t : ℕ) → holds (behind-in sets) u t ≡ true → member r t ≡ true
 
 abbrev Inv-loop2 : tie.InvT-loop2
-Inv-loop2 sets set r₀ w left₀ r left = Passed set (rest w left set) (Taken sets (mask r))
+Inv-loop2 sets set r₀ w left₀ r left = EachPassed set (rest w left set) (Taken sets (mask r))
 
 abbrev μ-loop2 : tie.MeasureT-loop2
 μ-loop2 sets set r₀ w left₀ r left = left
 
 abbrev Inv-loop : tie.InvT-loop
-Inv-loop sets set r₀ w₀ r w = (w ≤ words) × Passed set (after w set) (Taken sets (mask r))
+Inv-loop sets set r₀ w₀ r w = (w ≤ words) × EachPassed set (after w set) (Taken sets (mask r))
 
 abbrev μ-loop : tie.MeasureT-loop
 μ-loop sets set r₀ w₀ r w = words - w

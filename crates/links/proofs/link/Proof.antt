@@ -7,14 +7,14 @@ use native.Mathlib.Omega.{arith}
 use borrow.Author.Needs.{needs}
 use lib.ListN.{length}
 use Rattle.form.specs.Tables.{form-at}
-use Rattle.links.specs.Links.{Links, Within}
+use Rattle.links.specs.Links.{StateLinks, RowsBelow}
 use Rattle.links.proofs.Growing.{each-next}
 use Rattle.links.proofs.link.Statement.{statement}
 use Rattle.links.proofs.link.Tie as tie
 
 abbrev Inv-loop : tie.InvT-loop
 Inv-loop tables which before₀ n s₀ before s =
-    (s ≤ n) × (length before ≡ length before₀) × ((r : ℕ) → r < s → Links (form-at tables which) r before) × Within n before
+    (s ≤ n) × (length before ≡ length before₀) × ((r : ℕ) → r < s → StateLinks (form-at tables which) r before) × RowsBelow n before
 
 abbrev μ-loop : tie.MeasureT-loop
 μ-loop tables which before₀ n s₀ before s = n - s
@@ -57,7 +57,7 @@ returns c =
     record {
       room = omega arith;
       links = λ s a. l .loop .inv .2 s (omega arith);
-      states = subst (λ (n : ℕ). Within n (l .loop .before)) n (l .loop .inv .3);
+      states = subst (λ (n : ℕ). RowsBelow n (l .loop .before)) n (l .loop .inv .3);
     }
 
 pub link-spec : {M : Type 1} → statement M

@@ -11,7 +11,7 @@ use Rattle.form.specs.Form.{transitions-of}
 use Rattle.form.specs.Tables.{form-at}
 use Rattle.form.proofs.FormLaws.{limits, counts, start-bound}
 use Rattle.relation.specs.Words.{height}
-use Rattle.fit.specs.Held.{Places}
+use Rattle.gather.specs.Places.{Places}
 use Rattle.fit.proofs.Fitting.{places-of}
 use Rattle.links.specs.Links.{Joins}
 use Rattle.links.proofs.Growing.{LinksTo, links-next, joins-none, joins-more}

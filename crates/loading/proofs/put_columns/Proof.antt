@@ -4,12 +4,12 @@ use mathlib.Core.Path.{_∙_}
 use native.Mathlib.Omega.{arith}
 use borrow.Author.Needs.{needs}
 use denote.Ref.{now}
-use Rattle.loading.proofs.FillLaws.{Parts, parts, columns-by}
+use Rattle.loading.proofs.FillLaws.{Parts, parts-known, columns-by}
 use Rattle.loading.proofs.put_columns.Statement.{statement}
 use Rattle.loading.proofs.put_columns.Tie as tie
 
 known : (c : tie.After-shared-slice-known) → let s = c .before .before in Parts (now (s .args .s)) (s .args .t)
-known c = let s = c .before .before in parts (now (s .args .s)) (s .args .t) (λ i. omega (arith, c .shared-slice-known .given i)) (s .pre .0) (s .pre .1)
+known c = let s = c .before .before in parts-known (now (s .args .s)) (s .args .t) (λ i. omega (arith, c .shared-slice-known .given i)) (s .pre .0) (s .pre .1)
 
 put-bytes-requires : tie.Need-put-bytes-requires
 put-bytes-requires c κs = let p = known (c .before) in record { bytes = λ i l. omega arith; room = omega arith }

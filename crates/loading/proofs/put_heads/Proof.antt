@@ -5,12 +5,12 @@ use lib.ListN.{length}
 use native.Mathlib.Omega.{arith}
 use borrow.Author.Needs.{needs}
 use denote.Ref.{now}
-use Rattle.loading.proofs.FillLaws.{Parts, parts, heads-by}
+use Rattle.loading.proofs.FillLaws.{Parts, parts-known, heads-by}
 use Rattle.loading.proofs.put_heads.Statement.{statement}
 use Rattle.loading.proofs.put_heads.Tie as tie
 
 known : (c : tie.After-shared-slice-known) → let s = c .before .before in Parts (now (s .args .s)) (s .args .t)
-known c = let s = c .before .before in parts (now (s .args .s)) (s .args .t) (λ i. omega (arith, c .shared-slice-known .given i)) (s .pre .0) (s .pre .1)
+known c = let s = c .before .before in parts-known (now (s .args .s)) (s .args .t) (λ i. omega (arith, c .shared-slice-known .given i)) (s .pre .0) (s .pre .1)
 
 cast-put : tie.Need-cast-put
 cast-put c = let p = known (c .before .before) in omega arith

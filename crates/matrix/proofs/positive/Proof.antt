@@ -4,7 +4,7 @@ use Prim.Native.Nat.{_-_, _≤_}
 use native.Mathlib.Omega.{arith}
 use lib.ListN.{length-take, length-drop}
 use Rattle.relation.specs.Words.{words}
-use Rattle.relation.proofs.Sets.{Filled, filled-start, filled-next, filled-all, slice-passing}
+use Rattle.relation.proofs.Sets.{PlacesFilled, places-start, places-next, places-all, slice-passing}
 use Rattle.matrix.specs.Masks.{nonzero}
 use Rattle.matrix.proofs.MaskedLaws.{mask-of-part}
 use borrow.Author.Needs.{needs}
@@ -12,7 +12,7 @@ use Rattle.matrix.proofs.positive.Statement.{statement}
 use Rattle.matrix.proofs.positive.Tie as tie
 
 abbrev Inv-loop : tie.InvT-loop
-Inv-loop numbers n r₀ w₀ r w = (w ≤ words) × Filled nonzero numbers w (r .words)
+Inv-loop numbers n r₀ w₀ r w = (w ≤ words) × PlacesFilled nonzero numbers w (r .words)
 
 abbrev μ-loop : tie.MeasureT-loop
 μ-loop numbers n r₀ w₀ r w = words - w
@@ -21,7 +21,7 @@ empty-requires : tie.Need-empty-requires Inv-loop μ-loop
 empty-requires c κs = search needs
 
 loop-holds : tie.Need-loop-holds Inv-loop μ-loop
-loop-holds c = (omega arith, filled-start nonzero (c .before .before .args .numbers .now) (search needs))
+loop-holds c = (omega arith, places-start nonzero (c .before .before .args .numbers .now) (search needs))
 
 start-requires : tie.Need-start-requires Inv-loop μ-loop
 start-requires c κs = search needs
@@ -65,13 +65,13 @@ loop-again c =
     let l = s .before .before in
     let a = l .before .before .before .args .numbers .now in
     let w = l .loop .w in
-    (omega arith, filled-next nonzero a w (c .positive-word .result) (omega arith) (l .loop .inv .1) (c .positive-word .ensures ∙ slice-passing nonzero a w (s .start .ensures) (c .before .before .start2 .ensures)))
+    (omega arith, places-next nonzero a w (c .positive-word .result) (omega arith) (l .loop .inv .1) (c .positive-word .ensures ∙ slice-passing nonzero a w (s .start .ensures) (c .before .before .start2 .ensures)))
 
 returns : tie.Need-returns Inv-loop μ-loop
 returns c =
     let l = c .before in
     let s = l .before .before .before in
-    mask-of-part (filled-all nonzero (s .args .numbers .now) (l .loop .r) (omega arith) (s .pre) (l .loop .inv .1))
+    mask-of-part (places-all nonzero (s .args .numbers .now) (l .loop .r) (omega arith) (s .pre) (l .loop .inv .1))
 
 pub positive-spec : {M : Type 1} → statement M
 positive-spec =

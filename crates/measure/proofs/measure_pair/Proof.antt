@@ -1,7 +1,7 @@
 -- `measure::measure_pair` meets its contract. Assumes nothing.
 use mathlib.Core.Path.{_∙_}
 use borrow.Author.Needs.{needs}
-use Rattle.choice.specs.Choice.{Sets}
+use Rattle.choice.specs.Choice.{SetsChosen}
 use Rattle.counting.proofs.Pairs.{rank-asked}
 use Rattle.counting.proofs.Targets.{step-number}
 use Rattle.measure.proofs.Measuring.{pair-choice, pair-children, pair-over, pair-under}
@@ -19,7 +19,7 @@ abbrev lent : tie.After-targets → tie.After-sets
 lent c = c .before .before .before .before
 
 -- the sets that were found are those of the pair's transition
-found : (c : tie.After-find-sets) → let a = entry c .args in Sets (a .tables .now) (a .s) (a .t) (c .find-sets .last .1 .1 .1 .1 .1 .1 .0)
+found : (c : tie.After-find-sets) → let a = entry c .args in SetsChosen (a .tables .now) (a .s) (a .t) (c .find-sets .last .1 .1 .1 .1 .1 .1 .0)
 found c = c .find-sets .ensures .found (entry c .pre .1)
 
 rank-at-requires : tie.Need-rank-at-requires

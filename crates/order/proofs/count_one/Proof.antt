@@ -2,7 +2,7 @@
 use mathlib.Core.Path.{ap₂}
 use Prim.Native.Nat.{ℕ, _*_}
 use native.Mathlib.Omega.{arith}
-use Rattle.form.proofs.FormLaws.{few-pairs}
+use Rattle.form.proofs.FormLaws.{pairs-bound}
 use Rattle.counting.proofs.Counting.{root-in, one-counted}
 use borrow.Author.Needs.{needs}
 use Rattle.order.proofs.count_one.Statement.{statement}
@@ -11,14 +11,14 @@ use Rattle.order.proofs.count_one.Tie as tie
 mul-all : tie.Need-mul-all
 mul-all c =
     let p = c .before .before .before .before .pre in
-    record { fits = omega (arith, ap₂ (λ (m n : ℕ). m * n) (c .before .states .ensures) (c .states2 .ensures), few-pairs _ _ (p .0 .first) (p .0 .second)) }
+    record { fits = omega (arith, ap₂ (λ (m n : ℕ). m * n) (c .before .states .ensures) (c .states2 .ensures), pairs-bound _ _ (p .0 .first) (p .0 .second)) }
 
 clear-counts-requires : tie.Need-clear-counts-requires
 clear-counts-requires c κs =
     let at-states = c .before .before in
     let p = at-states .before .before .before .pre in
     let e = ap₂ (λ (m n : ℕ). m * n) (at-states .states .ensures) (c .before .states2 .ensures) in
-    (omega (arith, e, few-pairs _ _ (p .0 .first) (p .0 .second)), omega (arith, e, p .2))
+    (omega (arith, e, pairs-bound _ _ (p .0 .first) (p .0 .second)), omega (arith, e, p .2))
 
 slice-write-counts : tie.Need-slice-write-counts
 slice-write-counts c =

@@ -1,16 +1,14 @@
--- `ranking::fill_ranks` meets its contract: the ranks are cleared, the rows cut, each kind of set is filled in its own part of the list,
--- and the rounds do the rest. Assumes nothing.
-use mathlib.Core.Path.{sym, ap₂, _∙_, subst}
+-- `ranking::fill_ranks` meets its contract: the ranks are cleared, the rows cut, the sets filled, and the rounds do the rest.
+-- Assumes nothing.
+use mathlib.Core.Path.{ap₂}
 use Prim.Native.Nat.{_*_}
 use native.Mathlib.Omega.{arith}
 use borrow.Author.Needs.{needs}
 use Rattle.simulation.specs.Limits.{most-states}
 use Rattle.form.specs.Tables.{first-form, second-form, first-table, second-table}
-use Rattle.form.proofs.FormLaws.{limits, few-pairs}
-use Rattle.fit.specs.Known.{TargetSets}
+use Rattle.form.proofs.FormLaws.{limits, pairs-bound}
 use Rattle.fit.proofs.Trying.{none-tried}
-use Rattle.links.specs.Links.{Empty, Linked}
-use Rattle.ranking.proofs.Filling.{empty-part, behind-still, all-filled}
+use Rattle.links.proofs.Filling.{empty-part}
 use Rattle.ranking.proofs.Ends.{begun, refined-over}
 use Rattle.ranking.proofs.fill_ranks.Statement.{statement}
 use Rattle.ranking.proofs.fill_ranks.Tie as tie
@@ -28,7 +26,7 @@ mul-clear-ranks c =
     let d = p .before .before .before .before .before .before .before .before in
     let l = d .pre .ranking .loaded in
     let tables = d .args .tables .now in
-    omega (arith, ap₂ _*_ (p .states .ensures) (q .states2 .ensures), few-pairs (first-form tables) (second-form tables) (l .first) (l .second))
+    omega (arith, ap₂ _*_ (p .states .ensures) (q .states2 .ensures), pairs-bound (first-form tables) (second-form tables) (l .first) (l .second))
 
 clear-ranks-requires : tie.Need-clear-ranks-requires
 clear-ranks-requires c κs =
@@ -39,61 +37,13 @@ clear-ranks-requires c κs =
 narrow-requires : tie.Need-narrow-requires
 narrow-requires c κs = search needs
 
-sub-link : tie.Need-sub-link
-sub-link c = search needs
-
-part-link-start : tie.Need-part-link-start
-part-link-start c = search needs
-
-part-link-end : tie.Need-part-link-end
-part-link-end c = search needs
-
-link-requires : tie.Need-link-requires
-link-requires c κs =
-    let d = c .before .before .before .before .before .before .before .before .before .before .before .before .before .before .before .before .before .before in
-    (search needs, search needs, empty-part 0 most-states (d .args .sets .now) (d .pre .no-sets))
-
-sub-link-2 : tie.Need-sub-link-2
-sub-link-2 c = search needs
-
-part-link-start-2 : tie.Need-part-link-start-2
-part-link-start-2 c = search needs
-
-part-link-end-2 : tie.Need-part-link-end-2
-part-link-end-2 c = search needs
-
-link-requires-2 : tie.Need-link-requires-2
-link-requires-2 c κs =
-    let l = c .before .before in
-    let k = l .before in
-    let d = k .before .before .before .before .before .before .before .before .before .before .before .before .before .before .before .before .before .before .before in
-    let sets = d .args .sets .now in (
-      search needs,
-      search needs,
-      subst Empty (sym (behind-still sets (k .link .last .1 .1 .0) (d .pre .sets-room) (l .sets .given .0))) (empty-part most-states most-states sets (d .pre .no-sets)),
-    )
-
-sub-target-sets : tie.Need-sub-target-sets
-sub-target-sets c = search needs
-
-part-target-sets-start : tie.Need-part-target-sets-start
-part-target-sets-start c = search needs
-
-part-target-sets-end : tie.Need-part-target-sets-end
-part-target-sets-end c = search needs
-
-target-sets-requires : tie.Need-target-sets-requires
-target-sets-requires c κs = search needs
+fill-sets-requires : tie.Need-fill-sets-requires
+fill-sets-requires c κs = search needs
 
 refine-requires : tie.Need-refine-requires
 refine-requires c κs =
-    let l₃ = c .before .before .before .before .before .before .before in
-    let k₃ = l₃ .before in
-    let l₂ = k₃ .before .before .before in
-    let k₂ = l₂ .before in
-    let l₁ = k₂ .before .before .before in
-    let k₁ = l₁ .before in
-    let w = k₁ .before .before .before in
+    let f = c .before .before .before .before .before .before .before .before in
+    let w = f .before .before .before in
     let n = w .before in
     let r = n .before .before .before in
     let z = r .before in
@@ -102,35 +52,26 @@ refine-requires c κs =
     let d = p .before .before .before .before .before .before .before .before in
     let a = d .args in
     let tables = a .tables .now in
-    let first = first-form tables in
-    let second = second-form tables in
     let full = d .pre .ranking .rows-open in
     let loaded = d .pre .ranking .loaded in
-    let kinds = all-filled (a .sets .now) (k₁ .link .last .1 .1 .0) (d .pre .sets-room) (l₁ .sets .given .0) (k₂ .link2 .last .1 .1 .0) (l₂ .sets2 .given .0) (k₃ .target-sets .last .1 .0) (l₃ .sets3 .given .0) in
     record {
       prepared = record {
         loaded = loaded;
         ranks-room = omega (arith, d .pre .ranking .ranks-room, r .ranks .given);
-        sets-room = kinds .room;
-        first-links = subst (Linked first) (sym (kinds .before-are)) (k₁ .link .ensures);
-        second-links = subst (Linked second) (sym (kinds .behind-are)) (k₂ .link2 .ensures);
-        target-sets = subst (TargetSets second) (sym (kinds .targets-are)) (k₃ .target-sets .ensures);
+        sets-known = f .fill-sets .ensures;
         rows-room = omega (arith, full .room, w .rows .given);
         marks-room = d .pre .marks-room;
         amounts-room = d .pre .ranking .amounts-room;
         known = none-tried (d .pre .tried-room) (d .pre .untried);
       };
       after = begun (first-table tables) (second-table tables) (a .rows .now) (n .narrow .last .0) (a .ranks .now) (z .clear-ranks .last .0) full (p .states .ensures) (q .states2 .ensures)
-          (omega (arith, p .states .ensures, limits first (loaded .first) .states-few)) (omega (arith, q .states2 .ensures, limits second (loaded .second) .states-few))
-          (n .narrow .ensures) (z .clear-ranks .ensures);
+          (omega (arith, p .states .ensures, limits (first-form tables) (loaded .first) .states-few))
+          (omega (arith, q .states2 .ensures, limits (second-form tables) (loaded .second) .states-few)) (n .narrow .ensures) (z .clear-ranks .ensures);
       none-lost = empty-part most-states most-states (a .marks .now) (d .pre .no-marks);
     }
 
 same-length : tie.Need-same-length
-same-length c =
-    let r = c .before .before .before .before .before .before .before .before .before in
-    let f = r .before in
-    r .ranks2 .given ∙ f .before .before .before .before .before .before .before .before .before .before .before .before .before .before .before .before .before .before .before .before .before .before .before .before .ranks .given
+same-length c = search needs
 
 same-length-2 : tie.Need-same-length-2
 same-length-2 c = search needs
@@ -150,7 +91,7 @@ same-length-6 c = search needs
 returns : tie.Need-returns
 returns c =
     let f = c .before .before .before .before .before .before .before .before .before .before in
-    let z = f .before .before .before .before .before .before .before .before .before .before .before .before .before .before .before .before .before .before .before .before .before .before .before .before .before in
+    let z = f .before .before .before .before .before .before .before .before .before .before .before .before .before .before .before .before .before in
     let q = z .before .before in
     refined-over (q .before .states .ensures) (q .states2 .ensures) (z .clear-ranks .ensures) (f .refine .ensures)
 
@@ -163,18 +104,7 @@ fill-ranks-spec =
     mul-clear-ranks
     clear-ranks-requires
     narrow-requires
-    sub-link
-    part-link-start
-    part-link-end
-    link-requires
-    sub-link-2
-    part-link-start-2
-    part-link-end-2
-    link-requires-2
-    sub-target-sets
-    part-target-sets-start
-    part-target-sets-end
-    target-sets-requires
+    fill-sets-requires
     refine-requires
     same-length
     same-length-2

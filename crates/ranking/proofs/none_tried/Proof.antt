@@ -2,7 +2,7 @@
 -- Assumes nothing.
 use Prim.Native.Nat.{_+_, _*_}
 use Rattle.simulation.specs.Limits.{most-states, most-transitions}
-use Rattle.ranking.proofs.Filling.{zeros-of}
+use Rattle.ranking.proofs.Zeros.{zeros-of}
 use Rattle.ranking.proofs.none_tried.Statement.{statement}
 use Rattle.ranking.proofs.none_tried.Tie as tie
 

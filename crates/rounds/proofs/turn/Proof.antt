@@ -4,7 +4,7 @@ use mathlib.Core.Path.{refl}
 use native.Mathlib.Omega.{arith}
 use borrow.Author.Needs.{needs}
 use Rattle.form.specs.Tables.{first-form, second-form, first-table, second-table}
-use Rattle.form.proofs.FormLaws.{limits, few-pairs}
+use Rattle.form.proofs.FormLaws.{limits, pairs-bound}
 use Rattle.fit.proofs.Trying.{tried-less}
 use Rattle.rounds.proofs.Turning.{held-less, lost-places, bounded, moved, past, sure}
 use Rattle.rounds.proofs.turn.Statement.{statement}
@@ -15,7 +15,7 @@ add-count c =
     let d = c .before .before .before .before .before .before .before .before in
     let t = d .pre .0 in
     let tables = d .args .tables .now in
-    omega (arith, bounded (t .standing) (d .pre .1), few-pairs (first-form tables) (second-form tables) (t .prepared .loaded .first) (t .prepared .loaded .second))
+    omega (arith, bounded (t .standing) (d .pre .1), pairs-bound (first-form tables) (second-form tables) (t .prepared .loaded .first) (t .prepared .loaded .second))
 
 states-requires : tie.Need-states-requires
 states-requires c κs = search needs
@@ -35,7 +35,7 @@ settle-requires c κs =
 doubts-requires : tie.Need-doubts-requires
 doubts-requires c κs =
     let t = c .before .before .before .before .before .before .before .before .before .before .before .before .before .before .before .before .before .before .before .pre .0 in
-    (t .prepared .marks-room, t .prepared .sets-room, λ s u m. t .standing .next .within s u m .1)
+    (t .prepared .marks-room, t .prepared .sets-known .room, λ s u m. t .standing .next .within s u m .1)
 
 sub-targets : tie.Need-sub-targets
 sub-targets c = search needs
@@ -58,7 +58,7 @@ drop-rows-requires c κs =
     let w = m .before .doubts .ensures in (
       p .loaded,
       record {
-        target-sets = p .target-sets;
+        target-sets = p .sets-known .targets;
         rows-room = omega (arith, p .rows-room, r .rows .given);
         marks-room = omega (arith, p .marks-room, m .marks .given);
         ready = sure t (moved (t .standing) (d .pre .1) (s .before .states .ensures) (s .settle .ensures)) w;

@@ -17,7 +17,7 @@ use Rattle.simulation.proofs.Finite.Tests.{either, by-contradiction, is
 use Rattle.simulation.proofs.Finite.Sums.{sum-ext, sum-mul, sum-term, sum-zero, when-mul}
 use Rattle.simulation.proofs.Flow.Partial.{Reach, row, column, tight-from}
 use Rattle.simulation.proofs.Fit.Gain.{supply, demand, weight-split, gain-is, gain-ext, gain-largest, largest-gained, fits-gain, cut-least}
-use Rattle.simulation.proofs.Fit.Hall.{Partial, Certified, fits?→Fits, Fits→fits?}
+use Rattle.simulation.proofs.Fit.Hall.{PartialFlow, Certified, fits?→Fits, Fits→fits?}
 use Rattle.simulation.proofs.Fit.Cut.{Reached, cut-certified, cut-excess}
 use Rattle.simulation.proofs.Fit.Compose.{fits?-mono}
 use Rattle.simulation.proofs.Simulation.Steps.{fits-step-code, fits-step-fits, fits-step-by}
@@ -115,7 +115,7 @@ module _ (R : ℕ → ℕ → Bool) (ws vs : List ℕ) (S : Set) (positive : Pos
       sum-ext (length ws) (λ i. products i j) (λ i. weight vs j * when (R i j) (weight ws i)) (λ i _. when-swap (R i j) (weight ws i) (weight vs j))
       ∙ sum-mul (length ws) (weight vs j) (λ i. when (R i j) (weight ws i))
 
-  products-flow : Partial R ws vs products
+  products-flow : PartialFlow R ws vs products
   unfolding products
   products-flow =
       record {

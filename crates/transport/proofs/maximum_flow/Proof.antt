@@ -11,7 +11,7 @@ use Rattle.relation.proofs.Sets.{mask-lt}
 use Rattle.matrix.specs.Flow.{Partial, partial}
 use Rattle.transport.specs.Answer.{MaximumFlow}
 use Rattle.transport.specs.Paths.{Counts}
-use Rattle.transport.proofs.Lending.{Filled, begun-part, fill-ready, rows-left, columns-left, improve-ready, answers}
+use Rattle.transport.proofs.Lending.{GreedyFrom, begun-part, fill-ready, rows-left, columns-left, improve-ready, answers}
 use Rattle.transport.proofs.maximum_flow.Statement.{statement}
 use Rattle.transport.proofs.maximum_flow.Tie as tie
 
@@ -47,7 +47,7 @@ begun-flow c = let s = begun-at c in partial (s .begin .last .1 .1 .0) (take (ro
 abbrev greedy-flow : tie.After-fill → Partial
 greedy-flow c = let l = c .fill .last in partial (l .0) (l .1 .0) (l .1 .1 .0) (l .1 .1 .1 .0)
 
-filled : (c : tie.After-fill) → let a = start (begun-at c) .args in Filled (a .m .now) (a .n .now) (a .rel .now) (a .amounts .now) (begun-flow c) (greedy-flow c) (mask (c .fill .result))
+filled : (c : tie.After-fill) → let a = start (begun-at c) .args in GreedyFrom (a .m .now) (a .n .now) (a .rel .now) (a .amounts .now) (begun-flow c) (greedy-flow c) (mask (c .fill .result))
 filled c = let s = begun-at c in let e = c .fill .ensures in record {
   given = start s .pre;
   begun = begun-part (s .begin .ensures) (rows-room s) (columns-room s);

@@ -2,7 +2,7 @@
 -- Assumes nothing.
 use native.Mathlib.Omega.{arith}
 use borrow.Author.Needs.{needs}
-use Rattle.form.proofs.FormLaws.{few-pairs}
+use Rattle.form.proofs.FormLaws.{pairs-bound}
 use Rattle.witness.proofs.Showing.{count-is, count-small}
 use Rattle.witness.proofs.put_tree.Statement.{statement}
 use Rattle.witness.proofs.put_tree.Tie as tie
@@ -48,7 +48,7 @@ put-tree-in-requires : tie.Need-put-tree-in-requires
 put-tree-in-requires c κs =
     let at-lengths = c .before .before in
     let p = entry (at-lengths .before .before .before) .pre in
-    let few = few-pairs _ _ (p .0 .loaded .first) (p .0 .loaded .second) in
+    let few = pairs-bound _ _ (p .0 .loaded .first) (p .0 .loaded .second) in
     (p .0, p .1, p .2, omega (arith, few, slice-aggregate-put-tree-in (at-lengths .before)), omega (arith, few, slice-aggregate-put-tree-in-2 at-lengths))
 
 same-length-3 : tie.Need-same-length-3

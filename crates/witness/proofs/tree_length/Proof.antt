@@ -2,7 +2,7 @@
 -- Assumes nothing.
 use native.Mathlib.Omega.{arith}
 use borrow.Author.Needs.{needs}
-use Rattle.form.proofs.FormLaws.{few-pairs}
+use Rattle.form.proofs.FormLaws.{pairs-bound}
 use Rattle.witness.proofs.Showing.{count-is, count-small}
 use Rattle.witness.proofs.tree_length.Statement.{statement}
 use Rattle.witness.proofs.tree_length.Tie as tie
@@ -55,7 +55,7 @@ tree-length-requires-2 c κs =
     let at-order = c .before .before .before in
     let p = entry (at-order .before .before) .pre in
     let l = p .0 .loaded in
-    (record { ranked = p .0; room = omega (arith, few-pairs _ _ (l .first) (l .second), slice-aggregate-tree-length-2 at-order); notes = p .3; amounts-room = p .2 }, p .1, p .4)
+    (record { ranked = p .0; room = omega (arith, pairs-bound _ _ (l .first) (l .second), slice-aggregate-tree-length-2 at-order); notes = p .3; amounts-room = p .2 }, p .1, p .4)
 
 same-length-4 : tie.Need-same-length-4
 same-length-4 c = search needs

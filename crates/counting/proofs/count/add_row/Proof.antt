@@ -8,7 +8,7 @@ use Rattle.simulation.specs.Limits.{most-pairs}
 use Rattle.relation.specs.Words.{words, mask, after, rest}
 use Rattle.relation.proofs.Sets.{walk-begin, walk-into, walk-on, walk-done}
 use Rattle.counting.specs.Count.{Within}
-use Rattle.counting.proofs.Counting.{RowLoop, row-start, member-place, member-small, member-fits, row-turn, row-end}
+use Rattle.counting.proofs.Counting.{RowLoop, counting-start, member-place, member-small, member-fits, row-turn, counting-end}
 use Rattle.counting.proofs.count.add_row.Statement.{statement}
 use Rattle.counting.proofs.count.add_row.Tie as tie
 
@@ -53,7 +53,7 @@ mul-base c =
 loop-holds : tie.Need-loop-holds Inv-loop2 μ-loop2 Inv-loop μ-loop
 loop-holds c =
     let a = c .before .args in
-    (omega arith, walk-begin (a .t4) (λ (n : ℕ). RowLoop (a .width) (a .s) (mask (a .t4)) (a .c) (a .counts .now) (a .counts .now) n) (row-start _ _ _ _ _))
+    (omega arith, walk-begin (a .t4) (λ (n : ℕ). RowLoop (a .width) (a .s) (mask (a .t4)) (a .c) (a .counts .now) (a .counts .now) n) (counting-start _ _ _ _ _))
 
 mul-left : tie.Need-mul-left Inv-loop2 μ-loop2 Inv-loop μ-loop
 mul-left c = omega arith
@@ -121,7 +121,7 @@ same-length c = c .before .loop .inv .1 .size
 
 returns : tie.Need-returns Inv-loop2 μ-loop2 Inv-loop μ-loop
 returns c =
-    row-end (c .before .loop .inv .1) (walk-done (c .before .before .before .args .t4) (c .before .loop .w) (omega arith))
+    counting-end (c .before .loop .inv .1) (walk-done (c .before .before .before .args .t4) (c .before .loop .w) (omega arith))
 
 pub add-row-spec : {M : Type 1} → statement M
 add-row-spec =

@@ -15,7 +15,7 @@ use Rattle.flows.proofs.FlowWhole.{
   count-ordered,
   count-few,
   number-fits,
-  step-asked,
+  step-sought,
   room-kept,
   room-some,
   flowing-begin,
@@ -103,7 +103,7 @@ put-step-requires c κs =
     let l = c .before .before .before in
     let p = pair (l .before .before) in
     let lt = turn l (c .before .before .loop-test .taken) in
-    (step-asked p (l .loop .amounts) (l .loop .k) lt (l .loop .inv .1), p .chosen .rows-kept, flowing-room p _ (room l) (l .loop .inv .0) lt)
+    (step-sought p (l .loop .amounts) (l .loop .k) lt (l .loop .inv .1), p .chosen .rows-kept, flowing-room p _ (room l) (l .loop .inv .0) lt)
 
 add-at : tie.Need-add-at Inv-loop μ-loop
 add-at c =

@@ -7,17 +7,17 @@ use native.Mathlib.Omega.{arith}
 use lib.ListN.{length}
 use Rattle.matrix.specs.Matrix.{cell}
 use Rattle.flows.proofs.Pieces.{Plan, Going, going-start, going-within, going-room, going-fits, going-next, going-end}
-use Rattle.flows.proofs.FlowBytes.{row-at, records-plan, records-done}
+use Rattle.flows.proofs.FlowBytes.{flow-row-at, records-plan, records-done}
 use Rattle.flows.proofs.flow.put_records.Statement.{statement}
 use Rattle.flows.proofs.flow.put_records.Tie as tie
 
 abbrev Inv-loop : tie.InvT-loop
-Inv-loop mt nt x buf₀ at₀ i₀ i-end buf at i = Going [] (row-at mt nt (cell x)) (length mt) buf₀ i at buf
+Inv-loop mt nt x buf₀ at₀ i₀ i-end buf at i = Going [] (flow-row-at mt nt (cell x)) (length mt) buf₀ i at buf
 
 abbrev μ-loop : tie.MeasureT-loop
 μ-loop mt nt x buf₀ at₀ i₀ i-end buf at i = length mt - i
 
-plan : (k : tie.Start Inv-loop μ-loop) → Plan [] (row-at (k .args .mt .now) (k .args .nt .now) (cell (k .args .amounts .now)))
+plan : (k : tie.Start Inv-loop μ-loop) → Plan [] (flow-row-at (k .args .mt .now) (k .args .nt .now) (cell (k .args .amounts .now)))
     (λ i. length (k .args .nt .now) * 6) (length (k .args .mt .now)) (k .args .buf .now)
 plan k = records-plan (k .args .mt .now) (k .args .nt .now) (cell (k .args .amounts .now)) (k .args .buf .now) (k .pre .1)
 

@@ -53,7 +53,7 @@ use Rattle.buffer.specs.Buffer.{over, Filled}
 use Rattle.matrix.specs.Matrix.{cell}
 use Rattle.flows.specs.Flow.{flow-row}
 use Rattle.flows.specs.FlowSteps.{Row}
-use Rattle.flows.specs.Records.{no-record, row-records, Gathered, all-bytes}
+use Rattle.flows.specs.Records.{no-record, row-records, RecordsGathered, all-bytes}
 use Rattle.flows.specs.declared.records.Record.{Record}
 use Rattle.flows.proofs.FlowRow.{row-few, gathered-filled}
 use Rattle.flows.proofs.records.Record as T
@@ -272,8 +272,8 @@ module _ {M : Type 1} (𝓤 : URA M) (H : Heap 𝓤) (A : Atoms 𝓤) (W : Given
           (and-then ! (load ! (from ! (stop !)) (look ! 18 refl)) (and-then ! (load ! (from ! (stop !)) (look ! 9 refl)) (no-more !)))))) (λ w.
           use1 W (later (some (λ (n : ℕ). (ga-toks ν ⊛ ‵ (usize .own n (w ∷ []))) ⊛ raw (ensured 𝓤 H A ga.ended (ga.clauses 𝓤 H A mem run) (κ₀, (κ₁, (ν ∷ [], tt))) (ga-args l₆ γ ys) tt n)))) (id⊢ 𝓤 _) $ await ! tt $ pick ! (λ n.
           split ! $ move ! (1 ∷ []) $ use1 W (some (λ (ws : Unit {0} × (Unit {0} × (Unit {0} × (Unit {0} × (List Record × Unit {0}))))). ‵ (lasts ga.ended (κ₀, (κ₁, (ν ∷ [], tt))) (ga-args l₆ γ ys) ws)
-          ⊛ raw (fact 𝓤 (Gathered (row-records s (nt .now) a) n (ws .1 .1 .1 .1 .0))))) (id⊢ 𝓤 _) $ pick ! (λ ws.
-          split ! $ move ! (1 ∷ []) $ heard ! (Gathered (row-records s (nt .now) a) n (ws .1 .1 .1 .1 .0)) (λ told.
+          ⊛ raw (fact 𝓤 (RecordsGathered (row-records s (nt .now) a) n (ws .1 .1 .1 .1 .0))))) (id⊢ 𝓤 _) $ pick ! (λ ws.
+          split ! $ move ! (1 ∷ []) $ heard ! (RecordsGathered (row-records s (nt .now) a) n (ws .1 .1 .1 .1 .0)) (λ told.
           fsplit ! $ drop ! $ fsplit ! $ drop ! $ fsplit ! $ drop ! $ fsplit ! $ drop ! $ fsplit ! $ fsplit ! $ move ! (1 ∷ []) $ feqL ! (λ l.
           let zs : List Record = ws .1 .1 .1 .1 .0 in
           let full : length zs ≡ most-states = l ∙ len in

@@ -53,7 +53,7 @@ use denote.Triple.Walked.{says, needs, Stays, stay-none, stay-none-slice, stay-s
 use denote.Exit.{yes as kept}
 use Rattle.matrix.specs.Matrix.{cell}
 use Rattle.flows.specs.FlowSteps.{Row}
-use Rattle.flows.specs.Records.{no-record, cell-record, row-records, Gathered}
+use Rattle.flows.specs.Records.{no-record, cell-record, row-records, RecordsGathered}
 use Rattle.flows.specs.declared.records.Record.{Record}
 use Rattle.flows.proofs.FlowRow.{Gathering, gathering-start, gathering-take, gathering-skip, gathering-end}
 use Rattle.flows.proofs.records.Record as T
@@ -203,7 +203,7 @@ module _ {M : Type 1} (𝓤 : URA M) (H : Heap 𝓤) (A : Atoms 𝓤) (W : Given
         nothing ! $ owned ! usize (Is usize) (uint-makes 𝓤 H A W w64) j _ (refl, fits) $ fjoin ! $ owned ! usize (Is usize) (uint-makes 𝓤 H A W w64) i _ (refl, i-fits) $ fjoin ! $
         move ! (2 ∷ 0 ∷ []) $ fjoin ! $ move ! (1 ∷ 0 ∷ []) $ fjoin ! $ owned ! u8 (Is u8) (uint-makes 𝓤 H A W w8) s _ (refl, s-fits) $ fjoin ! $ done !
 
-    exits : (n : ℕ) (zs : List Record) → n < 2 ^ 64 → length zs ≡ length ys → Gathered (row-records s (nt .now) a) n zs
+    exits : (n : ℕ) (zs : List Record) → n < 2 ^ 64 → length zs ≡ length ys → RecordsGathered (row-records s (nt .now) a) n zs
         → ent 𝓤 (⋆ 𝓤 H A (Toks ∷ ‵ NT ∷ ‵ XS ∷ ‵ (flft κ₂ q₂) ∷ ‵ (Obs zs) ∷ ‵ (Bor zs) ∷ [])) (Post (vint w64 n))
     exits n zs fits len told =
         qed W (Toks ∷ ‵ NT ∷ ‵ XS ∷ ‵ (flft κ₂ q₂) ∷ ‵ (Obs zs) ∷ ‵ (Bor zs) ∷ []) ∵

@@ -11,20 +11,21 @@ use borrow.Author.Tests.{leb-true}
 use Rattle.simulation.specs.Sum.{sum}
 use Rattle.simulation.specs.Limits.{most-total}
 use Rattle.layout.specs.Bytes.{_then_, refuse_unless_, target-right, weight-from, weight-right, entry-refusal}
-use Rattle.layout.proofs.Laws.{Passed, passed-none, passed-more, passed-here, passed-all, and-right}
-use Rattle.layout.proofs.SectionLaws.{then-parts, holds}
+use Rattle.layout.proofs.Laws.{ItemsPass, items-none, items-more, items-here, items-all}
+use Rattle.layout.proofs.SectionLaws.{then-parts, accepted-holds}
 use Rattle.simulation.proofs.Finite.Sums.{sum-none, sum-more}
+use Rattle.simulation.proofs.Finite.Tests.{both-true}
 use Rattle.items.proofs.items.entries_of_refusal.Statement.{statement}
 use Rattle.items.proofs.items.entries_of_refusal.Tie as tie
 
 abbrev Inv-loop : tie.InvT-loop
-Inv-loop s n at size total₀ k₀ total k = Passed size (entry-refusal s n at) k × (k ≤ size) × (total ≡ sum k (weight-from s at)) × (total ≤ most-total)
+Inv-loop s n at size total₀ k₀ total k = ItemsPass size (entry-refusal s n at) k × (k ≤ size) × (total ≡ sum k (weight-from s at)) × (total ≤ most-total)
 
 abbrev μ-loop : tie.MeasureT-loop
 μ-loop s n at size total₀ k₀ total k = size - k
 
 loop-holds : tie.Need-loop-holds Inv-loop μ-loop
-loop-holds c = (passed-none _ _, omega arith, sum-none _, omega arith)
+loop-holds c = (items-none _ _, omega arith, sum-none _, omega arith)
 
 target-right-requires : tie.Need-target-right-requires Inv-loop μ-loop
 target-right-requires c κs = omega arith
@@ -53,7 +54,7 @@ judged c =
     ∙ ap₂ _then_ (u .refuse-unless .ensures ∙ ap (λ (t : Bool). refuse 9 unless t) (w .before .target-right .ensures)) (v .refuse-unless2 .ensures ∙ ap (λ (t : Bool). refuse 10 unless t) (w .weight-right .ensures))
 
 returns : tie.Need-returns Inv-loop μ-loop
-returns c = let l = c .before .before .before .before .before .before .before in passed-here _ _ (l .loop .k) (l .loop .inv .0) (omega arith) (judged (c .before)) (c .if1 .taken)
+returns c = let l = c .before .before .before .before .before .before .before in items-here _ _ (l .loop .k) (l .loop .inv .0) (omega arith) (judged (c .before)) (c .if1 .taken)
 
 mul-half-at : tie.Need-mul-half-at Inv-loop μ-loop
 mul-half-at c = omega arith
@@ -85,13 +86,13 @@ loop-again c =
     let k = b .loop .k in
     let f = weight-from (now (a .s)) (a .at) in
     let none : entry-refusal (now (a .s)) (a .n) (a .at) k ≡ 0 = sym (judged e) ∙ c .before .if1 .left in
-    let weight = holds 9 (weight-right (now (a .s)) (a .at) k) (then-parts (refuse 9 unless target-right (now (a .s)) (a .n) (a .at) k) _ none .1) in
+    let weight = accepted-holds 9 (weight-right (now (a .s)) (a .at) k) (then-parts (refuse 9 unless target-right (now (a .s)) (a .n) (a .at) k) _ none .1) in
     let more : b .loop .total + c .half-at .result ≡ sum (k + 1) f = ap (λ (w : ℕ). b .loop .total + w) (c .half-at .ensures .is) ∙ sum-more k f (b .loop .inv .2) in
-    let small : sum (k + 1) f ≤ most-total = leb-true _ _ (and-right (ltb 0 (f k)) _ weight) in
-    (passed-more _ _ _ (b .loop .inv .0) (omega arith) none, omega arith, more, omega arith)
+    let small : sum (k + 1) f ≤ most-total = leb-true _ _ (both-true (ltb 0 (f k)) _ weight .1) in
+    (items-more _ _ _ (b .loop .inv .0) (omega arith) none, omega arith, more, omega arith)
 
 returns-2 : tie.Need-returns-2 Inv-loop μ-loop
-returns-2 c = passed-all _ _ _ (c .before .loop .inv .0) (omega arith)
+returns-2 c = items-all _ _ _ (c .before .loop .inv .0) (omega arith)
 
 pub entries-of-refusal-spec : {M : Type 1} → statement M
 entries-of-refusal-spec =

@@ -7,13 +7,13 @@ use lib.ListN.{length}
 use denote.Ref.{now}
 use Rattle.simulation.specs.Sum.{sum}
 use Rattle.layout.specs.Bytes.{first, entry-refusal, size-from, run-refusal}
-use Rattle.layout.proofs.Laws.{Passed, passed-none, passed-more, passed-here, passed-all}
+use Rattle.layout.proofs.Laws.{ItemsPass, items-none, items-more, items-here, items-all}
 use Rattle.simulation.proofs.Finite.Sums.{sum-none, sum-more, sum-le}
 use Rattle.items.proofs.items.entries_refusal.Statement.{statement}
 use Rattle.items.proofs.items.entries_refusal.Tie as tie
 
 abbrev Inv-loop : tie.InvT-loop
-Inv-loop s n sizes m at start₀ j₀ start j = Passed m (run-refusal s n sizes at) j × (j ≤ m) × (start ≡ sum j (size-from s sizes))
+Inv-loop s n sizes m at start₀ j₀ start j = ItemsPass m (run-refusal s n sizes at) j × (j ≤ m) × (start ≡ sum j (size-from s sizes))
 
 abbrev μ-loop : tie.MeasureT-loop
 μ-loop s n sizes m at start₀ j₀ start j = m - j
@@ -36,7 +36,7 @@ here c =
     ∙ ap₂ (λ (size start : ℕ). first 0 size (entry-refusal (now (a .s)) (a .n) (a .at + 3 * start))) (c .before .byte-at .ensures .is) (b .loop .inv .2)
 
 loop-holds : tie.Need-loop-holds Inv-loop μ-loop
-loop-holds c = (passed-none _ _, omega arith, sum-none _)
+loop-holds c = (items-none _ _, omega arith, sum-none _)
 
 mul-byte-at : tie.Need-mul-byte-at Inv-loop μ-loop
 mul-byte-at c = omega arith
@@ -57,7 +57,7 @@ entries-of-refusal-requires : tie.Need-entries-of-refusal-requires Inv-loop μ-l
 entries-of-refusal-requires c κs = omega (arith, within c)
 
 returns : tie.Need-returns Inv-loop μ-loop
-returns c = let b = c .before .before .before .before in passed-here _ _ (b .loop .j) (b .loop .inv .0) (omega arith) (here (c .before)) (c .if1 .taken)
+returns c = let b = c .before .before .before .before in items-here _ _ (b .loop .j) (b .loop .inv .0) (omega arith) (here (c .before)) (c .if1 .taken)
 
 add-start : tie.Need-add-start Inv-loop μ-loop
 add-start c = omega (arith, within (c .before .before))
@@ -74,10 +74,10 @@ loop-again c =
     let a = b .before .before .args in
     let f = size-from (now (a .s)) (a .sizes) in
     let more = ap (λ (z : ℕ). b .loop .start + z) (c .before .before .byte-at .ensures .is) ∙ sum-more (b .loop .j) f (b .loop .inv .2) in
-    (passed-more _ _ (b .loop .j) (b .loop .inv .0) (omega arith) (sym (here (c .before)) ∙ c .if1 .left), omega arith, more)
+    (items-more _ _ (b .loop .j) (b .loop .inv .0) (omega arith) (sym (here (c .before)) ∙ c .if1 .left), omega arith, more)
 
 returns-2 : tie.Need-returns-2 Inv-loop μ-loop
-returns-2 c = passed-all _ _ _ (c .before .loop .inv .0) (omega arith)
+returns-2 c = items-all _ _ _ (c .before .loop .inv .0) (omega arith)
 
 pub entries-refusal-spec : {M : Type 1} → statement M
 entries-refusal-spec =

@@ -7,7 +7,7 @@ use lib.ListN.{getD, drop, length-take, length-drop}
 use Rattle.relation.specs.Mask.{Test}
 use Rattle.relation.specs.Ranks.{lasts}
 use Rattle.relation.specs.Words.{words}
-use Rattle.relation.proofs.Sets.{Filled, filled-start, filled-next, filled-all, slice-passing}
+use Rattle.relation.proofs.Sets.{PlacesFilled, places-start, places-next, places-all, slice-passing}
 use Rattle.relate.proofs.Laws.{indexed-take, indexed-drop}
 use borrow.Author.Needs.{needs}
 use Rattle.relate.proofs.between.row.Statement.{statement}
@@ -18,7 +18,7 @@ abbrev kept : List ℕ → (width r s : ℕ) → Test
 kept ranks width r s t = lasts r (getD ranks (s * width + t) 0)
 
 abbrev Inv-loop : tie.InvT-loop
-Inv-loop ranks width r s nt n row₀ w₀ row w = (w ≤ words) × Filled (kept ranks width r s) nt w (row .words)
+Inv-loop ranks width r s nt n row₀ w₀ row w = (w ≤ words) × PlacesFilled (kept ranks width r s) nt w (row .words)
 
 abbrev μ-loop : tie.MeasureT-loop
 μ-loop ranks width r s nt n row₀ w₀ row w = words - w
@@ -27,7 +27,7 @@ empty-requires : tie.Need-empty-requires Inv-loop μ-loop
 empty-requires c κs = search needs
 
 loop-holds : tie.Need-loop-holds Inv-loop μ-loop
-loop-holds c = let a = c .before .before .before .args in (omega arith, filled-start (kept (a .ranks .now) (a .width) (a .r) (a .s)) (a .nt .now) (search needs))
+loop-holds c = let a = c .before .before .before .args in (omega arith, places-start (kept (a .ranks .now) (a .width) (a .r) (a .s)) (a .nt .now) (search needs))
 
 start-requires : tie.Need-start-requires Inv-loop μ-loop
 start-requires c κs = search needs
@@ -80,14 +80,14 @@ loop-again c =
     let a = l .before .before .before .before .args in
     let F = kept (a .ranks .now) (a .width) (a .r) (a .s) in
     let w = l .loop .w in
-    (omega arith, filled-next F (a .nt .now) w (c .row-word .result) (omega arith) (l .loop .inv .1) (c .row-word .ensures ∙ slice-passing F (a .nt .now) w (s .start .ensures) (c .before .before .start2 .ensures)))
+    (omega arith, places-next F (a .nt .now) w (c .row-word .result) (omega arith) (l .loop .inv .1) (c .row-word .ensures ∙ slice-passing F (a .nt .now) w (s .start .ensures) (c .before .before .start2 .ensures)))
 
 returns : tie.Need-returns Inv-loop μ-loop
 returns c =
     let l = c .before in
     let g = l .before .before .before .before in
     let a = g .args in
-    filled-all (kept (a .ranks .now) (a .width) (a .r) (a .s)) (a .nt .now) (l .loop .row) (omega arith) (g .pre .0) (l .loop .inv .1)
+    places-all (kept (a .ranks .now) (a .width) (a .r) (a .s)) (a .nt .now) (l .loop .row) (omega arith) (g .pre .0) (l .loop .inv .1)
 
 pub row-spec : {M : Type 1} → statement M
 row-spec =

@@ -6,12 +6,12 @@ use lib.ListN.{length}
 use Rattle.relation.specs.Mask.{member, part}
 use Rattle.relation.proofs.Mask.{part-start, part-bit}
 use Rattle.simulation.proofs.Finite.Sums.{one-most}
-use Rattle.relate.specs.Rows.{row}
+use Rattle.relate.specs.Rows.{ranked-row}
 use Rattle.relate.proofs.between.row_word.Statement.{statement}
 use Rattle.relate.proofs.between.row_word.Tie as tie
 
 abbrev Inv-loop : tie.InvT-loop
-Inv-loop ranks width r s nt set₀ j₀ j-end set j = (j ≤ length nt) × (member set ≡ part j (row ranks width r s nt))
+Inv-loop ranks width r s nt set₀ j₀ j-end set j = (j ≤ length nt) × (member set ≡ part j (ranked-row ranks width r s nt))
 
 abbrev μ-loop : tie.MeasureT-loop
 μ-loop ranks width r s nt set₀ j₀ j-end set j = length nt - j
@@ -47,7 +47,7 @@ with-bit-requires : tie.Need-with-bit-requires Inv-loop μ-loop
 with-bit-requires c κs =
     let l = c .before .before .before .before in
     let a = l .before .before .before .args in
-    (omega arith, omega (arith, c .lasts .ensures, one-most (row (a .ranks .now) (a .width) (a .r) (a .s) (a .nt .now) (l .loop .j))))
+    (omega arith, omega (arith, c .lasts .ensures, one-most (ranked-row (a .ranks .now) (a .width) (a .r) (a .s) (a .nt .now) (l .loop .j))))
 
 add-j : tie.Need-add-j Inv-loop μ-loop
 add-j c = omega arith
@@ -58,11 +58,11 @@ loop-less c = omega arith
 loop-again : tie.Need-loop-again Inv-loop μ-loop
 loop-again c = let l = c .before .before .before .before .before in
     let a = l .before .before .before .args in
-    (omega arith, part-bit (row (a .ranks .now) (a .width) (a .r) (a .s) (a .nt .now)) (l .loop .j) (l .loop .set) (c .with-bit .result) (c .before .lasts .result) (l .loop .inv .1) (c .before .lasts .ensures) (c .with-bit .ensures))
+    (omega arith, part-bit (ranked-row (a .ranks .now) (a .width) (a .r) (a .s) (a .nt .now)) (l .loop .j) (l .loop .set) (c .with-bit .result) (c .before .lasts .result) (l .loop .inv .1) (c .before .lasts .ensures) (c .with-bit .ensures))
 
 returns : tie.Need-returns Inv-loop μ-loop
 returns c = let a = c .before .before .before .before .args in
-    c .before .loop .inv .1 ∙ ap (λ n. part n (row (a .ranks .now) (a .width) (a .r) (a .s) (a .nt .now))) (omega arith)
+    c .before .loop .inv .1 ∙ ap (λ n. part n (ranked-row (a .ranks .now) (a .width) (a .r) (a .s) (a .nt .now))) (omega arith)
 
 pub row-word-spec : {M : Type 1} → statement M
 row-word-spec = tie.close (tie.spec Inv-loop μ-loop loop-holds mul-t shared-slice-read-t cast-t mul-rank add-rank mul-rank-2 shared-slice-read-rank lasts-requires with-bit-requires add-j loop-less loop-again returns)

@@ -5,7 +5,7 @@ use native.Mathlib.Omega.{arith}
 use lib.ListN.{set, length-set}
 use denote.Ref.{now}
 use Rattle.relation.specs.Words.{words, word-of, put-row}
-use Rattle.relation.proofs.Words.{steps}
+use Rattle.relation.proofs.Words.{equation}
 use borrow.Author.Needs.{needs}
 use Rattle.relation.proofs.rows.put.Statement.{statement}
 use Rattle.relation.proofs.rows.put.Tie as tie
@@ -41,7 +41,7 @@ returns : tie.Need-returns
 unfolding put-row
 returns c =
     let a = c .before .before .args in
-    ap (λ (k : ℕ). set (set (now (a .rows)) k (word-of (a .t3) 0)) (a .s * words + 1) (word-of (a .t3) 1)) (steps (a .s * words) (a .s * words + 0) (omega arith))
+    ap (λ (k : ℕ). set (set (now (a .rows)) k (word-of (a .t3) 0)) (a .s * words + 1) (word-of (a .t3) 1)) (equation (a .s * words) (a .s * words + 0) (omega arith))
 
 pub put-spec : {M : Type 1} → statement M
 put-spec =

@@ -4,7 +4,7 @@ use Prim.Native.Nat.{_+_}
 use native.Mathlib.Omega.{arith}
 use Rattle.simulation.proofs.Finite.Sums.{members-most}
 use Rattle.relation.specs.Mask.{member}
-use Rattle.relation.specs.Words.{word-of}
+use Rattle.relation.specs.Words.{word-bits, word-of}
 use Rattle.relation.proofs.Sets.{count-is}
 use borrow.Author.Needs.{needs}
 use Rattle.relation.proofs.set.count.Statement.{statement}
@@ -25,7 +25,7 @@ count-requires-2 c κs = search needs
 add-result : tie.Need-add-result
 add-result c =
     let s = c .before .before .before .before .args .t1 in
-    omega (arith, c .before .before .count .ensures, c .count2 .ensures, members-most 64 (member (word-of s 0)), members-most 64 (member (word-of s 1)))
+    omega (arith, c .before .before .count .ensures, c .count2 .ensures, members-most word-bits (member (word-of s 0)), members-most word-bits (member (word-of s 1)))
 
 returns : tie.Need-returns
 returns c = ap₂ _+_ (c .before .before .count .ensures) (c .count2 .ensures) ∙ count-is (c .before .before .before .before .args .t1)

@@ -2,7 +2,7 @@
 use mir.Val.{Fits}
 use mir.Syntax.{w64}
 use Rattle.relation.specs.Words.{word-of}
-use Rattle.relation.proofs.Sets.{empty-is}
+use Rattle.relation.proofs.Sets.{words-empty}
 use borrow.Author.Needs.{needs}
 use Rattle.relation.proofs.set.is_empty.Statement.{statement}
 use Rattle.relation.proofs.set.is_empty.Tie as tie
@@ -18,7 +18,7 @@ returns c =
     let s = c .before .before .args .t1 in
     let a : Fits w64 (word-of s 0) = search needs in
     let b : Fits w64 (word-of s 1) = search needs in
-    empty-is s (a .fits) (b .fits)
+    words-empty s (a .fits) (b .fits)
 
 pub is-empty-spec : {M : Type 1} → statement M
 is-empty-spec = tie.close (tie.spec element-copy-out-result element-copy-out-result-2 returns)

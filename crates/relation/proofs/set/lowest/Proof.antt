@@ -4,9 +4,9 @@ use Prim.Native.Nat.{ℕ, _+_, _*_}
 use native.Mathlib.Nat.{not-suc-le-zero}
 use native.Mathlib.Omega.{arith}
 use Rattle.relation.specs.Mask.{member, Lowest}
-use Rattle.relation.specs.Words.{mask, word-of}
+use Rattle.relation.specs.Words.{word-bits, mask, word-of}
 use Rattle.relation.proofs.Sets.{lowest-is, high-word}
-use Rattle.relation.proofs.Words.{steps}
+use Rattle.relation.proofs.Words.{equation}
 use borrow.Author.Needs.{needs}
 use Rattle.relation.proofs.set.lowest.Statement.{statement}
 use Rattle.relation.proofs.set.lowest.Tie as tie
@@ -21,7 +21,7 @@ returns : tie.Need-returns
 returns c =
     let s = c .before .before .before .args .t1 in
     let r = c .lowest .result in
-    let e : 0 * 64 + r ≡ r = omega arith in
+    let e : 0 * word-bits + r ≡ r = omega arith in
     (omega (arith, c .lowest .ensures .0), subst (λ (n : ℕ). Lowest (member (mask s)) n) e (lowest-is s 0 r (omega arith) (c .lowest .ensures .0) (λ j lt. absurd (not-suc-le-zero lt)) (c .lowest .ensures .1)))
 
 element-copy-out-lowest : tie.Need-element-copy-out-lowest
@@ -37,7 +37,7 @@ returns-2 : tie.Need-returns-2
 returns-2 c =
     let s = c .before .before .before .before .args .t1 in
     let r = c .lowest2 .result in
-    (omega (arith, c .lowest2 .ensures .0), lowest-is s 1 r (omega arith) (c .lowest2 .ensures .0) (λ j lt. ap (word-of s) (steps j 0 (omega arith)) ∙ c .before .before .if1 .left) (c .lowest2 .ensures .1))
+    (omega (arith, c .lowest2 .ensures .0), lowest-is s 1 r (omega arith) (c .lowest2 .ensures .0) (λ j lt. ap (word-of s) (equation j 0 (omega arith)) ∙ c .before .before .if1 .left) (c .lowest2 .ensures .1))
 
 pub lowest-spec : {M : Type 1} → statement M
 lowest-spec =

@@ -5,10 +5,10 @@ use mir.Val.{Fits}
 use mir.Syntax.{w64}
 use native.Mathlib.Nat.{not-suc-le-zero}
 use native.Mathlib.Omega.{arith}
-use Rattle.relation.specs.Words.{word-of}
+use Rattle.relation.specs.Words.{word-bits, word-of}
 use Rattle.relation.proofs.Mask.{lowest-of}
-use Rattle.relation.proofs.Sets.{of-words, high-word, lowest-dropped, first, second}
-use Rattle.relation.proofs.Words.{steps}
+use Rattle.relation.proofs.Sets.{of-words, high-word, lowest-dropped, second-alone, second}
+use Rattle.relation.proofs.Words.{equation}
 use borrow.Author.Needs.{needs}
 use Rattle.relation.proofs.set.without_lowest.Statement.{statement}
 use Rattle.relation.proofs.set.without_lowest.Tie as tie
@@ -26,7 +26,7 @@ returns : tie.Need-returns
 returns c =
     let s = c .before .before .before .before .args .t1 in
     let h : Fits w64 (word-of s 0) = search needs in
-    let l = lowest-of 64 (word-of s 0) (h .fits) (omega arith) in
+    let l = lowest-of word-bits (word-of s 0) (h .fits) (omega arith) in
     lowest-dropped s 0 _ (omega arith) (l .0) (λ j lt. absurd (not-suc-le-zero lt)) (l .1) (of-words (c .without-lowest .result ∷ word-of s 1 ∷ []))
     (c .without-lowest .ensures .0 _ (l .1)) (second s (c .without-lowest .result))
 
@@ -38,9 +38,9 @@ returns-2 c =
     let s = c .before .before .before .before .args .t1 in
     let h : Fits w64 (word-of s 1) = search needs in
     let z = c .before .if1 .left in
-    let l = lowest-of 64 (word-of s 1) (h .fits) (high-word s (c .before .before .before .before .pre) z) in
-    lowest-dropped s 1 _ (omega arith) (l .0) (λ j lt. ap (word-of s) (steps j 0 (omega arith)) ∙ z) (l .1) (of-words (0 ∷ c .without-lowest2 .result ∷ []))
-    (c .without-lowest2 .ensures .0 _ (l .1)) (first s (c .without-lowest2 .result) z)
+    let l = lowest-of word-bits (word-of s 1) (h .fits) (high-word s (c .before .before .before .before .pre) z) in
+    lowest-dropped s 1 _ (omega arith) (l .0) (λ j lt. ap (word-of s) (equation j 0 (omega arith)) ∙ z) (l .1) (of-words (0 ∷ c .without-lowest2 .result ∷ []))
+    (c .without-lowest2 .ensures .0 _ (l .1)) (second-alone s (c .without-lowest2 .result) z)
 
 pub without-lowest-spec : {M : Type 1} → statement M
 without-lowest-spec =

@@ -1,4 +1,5 @@
 -- `relation::walk::without_lowest` meets its contract. Assumes nothing.
+use Rattle.relation.specs.Words.{word-bits}
 use Rattle.relation.proofs.Mask.{lowest-of}
 use Rattle.relation.proofs.Sets.{walk-drop}
 use borrow.Author.Needs.{needs}
@@ -11,7 +12,7 @@ without-lowest-requires c κs = search needs
 returns : tie.Need-returns
 returns c =
     let a = c .before .args in
-    let l = lowest-of 64 (a .left) (c .before .fits .left .fits) (c .before .pre .1) in
+    let l = lowest-of word-bits (a .left) (c .before .fits .left .fits) (c .before .pre .1) in
     (walk-drop (a .set) (a .w) (a .left) _ (c .before .pre .0) (l .0) (l .1) (c .without-lowest .result) (c .without-lowest .ensures .0 _ (l .1)), c .without-lowest .ensures .1)
 
 pub without-lowest-spec : {M : Type 1} → statement M

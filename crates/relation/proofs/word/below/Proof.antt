@@ -4,6 +4,7 @@ use native.Mathlib.Omega.{arith}
 use borrow.Author.Needs.{needs}
 use lib.Pow.{pow-pos}
 use Rattle.relation.specs.Mask.{up-to}
+use Rattle.relation.specs.Words.{word-bits}
 use Rattle.relation.proofs.Mask.{power-is, up-to-is, member-ones}
 use Rattle.relation.proofs.word.below.Statement.{statement}
 use Rattle.relation.proofs.word.below.Tie as tie
@@ -18,7 +19,7 @@ returns : tie.Need-returns
 returns c = up-to-is (c .before .args .n) (omega arith)
 
 returns-2 : tie.Need-returns-2
-returns-2 c = fun-ext (member-ones 64) ∙ ap up-to (omega arith)
+returns-2 c = fun-ext (member-ones word-bits) ∙ ap up-to (omega arith)
 
 pub below-spec : {M : Type 1} → statement M
 below-spec = tie.close (tie.spec shl-result sub-result returns returns-2)

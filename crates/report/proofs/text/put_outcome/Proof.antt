@@ -1,5 +1,5 @@
 -- `report::text::put_outcome` meets its contract. Assumes nothing.
-use Rattle.digits.proofs.Writing.{nothing}
+use Rattle.digits.proofs.Writing.{writes-nothing}
 use Rattle.report.specs.Text.{tree-text}
 use borrow.Author.Needs.{needs}
 use Rattle.report.proofs.text.put_outcome.Statement.{statement}
@@ -7,7 +7,7 @@ use Rattle.report.proofs.text.put_outcome.Tie as tie
 
 returns : tie.Need-returns
 unfolding tree-text
-returns c = let a = c .before .before .before .args in rw (c .if1 .taken) (nothing (a .at) (a .buf .now))
+returns c = let a = c .before .before .before .args in rw (c .if1 .taken) (writes-nothing (a .at) (a .buf .now))
 
 slice-aggregate-put-word : tie.Need-slice-aggregate-put-word
 slice-aggregate-put-word c = search needs

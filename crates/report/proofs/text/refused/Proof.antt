@@ -1,5 +1,5 @@
 -- `report::text::refused` meets its contract. Assumes nothing.
-use Rattle.digits.specs.Writes.{Room}
+use Rattle.digits.specs.Writes.{RoomFor}
 use Rattle.report.specs.Text.{refused-text}
 use Rattle.digits.proofs.Writing.{whole}
 use Rattle.report.proofs.Bounds.{refused-room}
@@ -8,7 +8,7 @@ use Rattle.report.proofs.text.refused.Statement.{statement}
 use Rattle.report.proofs.text.refused.Tie as tie
 
 -- the buffer holds the text
-room : (k : tie.Start) → Room (refused-text (k .args .table) (k .args .number)) 0 (k .args .buf .now)
+room : (k : tie.Start) → RoomFor (refused-text (k .args .table) (k .args .number)) 0 (k .args .buf .now)
 room k = refused-room (k .args .table) (k .args .number) (k .args .buf .now) (k .fits .table .fits) (k .fits .number .fits) (k .pre)
 
 slice-aggregate-put-pair : tie.Need-slice-aggregate-put-pair

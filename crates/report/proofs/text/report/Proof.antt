@@ -1,6 +1,6 @@
 -- `report::text::report` meets its contract. Assumes nothing.
 use native.Mathlib.Omega.{arith}
-use Rattle.digits.specs.Writes.{Room}
+use Rattle.digits.specs.Writes.{RoomFor}
 use Rattle.report.specs.Text.{report-text}
 use Rattle.digits.proofs.Writing.{whole}
 use Rattle.report.proofs.Bounds.{report-room}
@@ -9,7 +9,7 @@ use Rattle.report.proofs.text.report.Statement.{statement}
 use Rattle.report.proofs.text.report.Tie as tie
 
 -- the buffer holds the text
-room : (known : tie.After-shared-slice-known) → let a = known .before .args in Room (report-text (a .p) (a .q) (a .ranks .now) (a .long) (a .tree .now)) 0 (a .buf .now)
+room : (known : tie.After-shared-slice-known) → let a = known .before .args in RoomFor (report-text (a .p) (a .q) (a .ranks .now) (a .long) (a .tree .now)) 0 (a .buf .now)
 room known =
     let k = known .before in
     let a = k .args in

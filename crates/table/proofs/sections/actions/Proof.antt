@@ -11,7 +11,7 @@ use borrow.Author.Needs.{needs}
 use borrow.Author.Tests.{leb-true}
 use Rattle.layout.specs.Bytes.{first, actions, code-refusal, actions-refusal}
 use Rattle.table.specs.Stages.{with-actions}
-use Rattle.items.proofs.ReadLaws.{Told, byte-told, byte-ended, part-told, part-ended}
+use Rattle.items.proofs.ReadLaws.{ValueTold, byte-told, byte-ended, part-told, part-ended}
 use Rattle.table.proofs.StageLaws.{stage-refused, stage-fault, stage-at}
 use Rattle.layout.proofs.SectionLaws.{section-end, section-short, section-items}
 use Rattle.table.proofs.sections.actions.Statement.{statement}
@@ -30,10 +30,10 @@ at-count c = c .before .before .before .before
 abbrev at-part : tie.After-codes-refusal → tie.After-c
 at-part c = c .before .before
 
-counted : (c : tie.After-n) → let s = bytes (at-start c) in Told (leb 1 (length s)) (actions s) 1 (c .n .given .0 .0) (c .n .given .0 .1 .0)
+counted : (c : tie.After-n) → let s = bytes (at-start c) in ValueTold (leb 1 (length s)) (actions s) 1 (c .n .given .0 .0) (c .n .given .0 .1 .0)
 counted c = byte-told (bytes (at-start c)) 0 (at-start c .new .ensures) (c .before .before .byte .ensures) (c .n .given .1)
 
-whole : (c : tie.After-c) → let s = bytes (at-start (at-count c)) in Told (leb (1 + actions s) (length s)) 1 (1 + actions s) (c .c .given .0 .0) (c .c .given .0 .1 .0)
+whole : (c : tie.After-c) → let s = bytes (at-start (at-count c)) in ValueTold (leb (1 + actions s) (length s)) 1 (1 + actions s) (c .c .given .0 .0) (c .c .given .0 .1 .0)
 whole c =
     let n = counted (at-count c) in
     part-told (bytes (at-start (at-count c))) 1 (n .place) _ (n .value) (c .before .before .part .ensures) (c .c .given .1)

@@ -12,8 +12,8 @@ use denote.Ref.{now}
 use borrow.Author.Needs.{needs}
 use borrow.Author.Tests.{le-leb, lt-leb, eq-eqb, ne-eqb}
 use Rattle.layout.specs.Bytes.{refuse_unless_, section, half}
-use Rattle.layout.proofs.Laws.{refused, not-refused, both}
-use Rattle.items.proofs.ReadLaws.{Told, half-told, half-ended, part-told, part-ended}
+use Rattle.layout.proofs.Laws.{refused-unless, not-refused, both-hold}
+use Rattle.items.proofs.ReadLaws.{ValueTold, half-told, half-ended, part-told, part-ended}
 use Rattle.table.proofs.StageLaws.{items-fault, items-at}
 use Rattle.layout.proofs.SectionLaws.{section-end, section-rule, section-short, section-items}
 use Rattle.table.proofs.sections.counted.Statement.{statement}
@@ -38,7 +38,7 @@ at-limit c = c .before
 abbrev start-of : tie.Else2 → tie.Start
 start-of c = at-start (at-count (at-limit c))
 
-counted : (c : tie.After-n) → let d = at-start c in Told (leb (place d + 2) (length (bytes d))) (half (bytes d) (place d)) (place d + 2) (c .n .given .0 .0) (c .n .given .0 .1 .0)
+counted : (c : tie.After-n) → let d = at-start c in ValueTold (leb (place d + 2) (length (bytes d))) (half (bytes d) (place d)) (place d + 2) (c .n .given .0 .0) (c .n .given .0 .1 .0)
 counted c = half-told (bytes (at-start c)) (place (at-start c)) refl (c .before .before .half .ensures) (c .n .given .1)
 
 few : (c : tie.Else1) → let d = at-start (at-count c) in leb (half (bytes d) (place d)) (d .args .limit) ≡ true
@@ -51,7 +51,7 @@ rule : (c : tie.Else2) → let d = start-of c in let n = half (bytes d) (place d
 rule c =
     let d = start-of c in
     let n = counted (at-count (at-limit c)) .value in
-    not-refused (d .args .number) (both (few (at-limit c)) (eq-eqb (half (bytes d) (place d)) (d .args .total) (omega arith)))
+    not-refused (d .args .number) (both-hold (few (at-limit c)) (eq-eqb (half (bytes d) (place d)) (d .args .total) (omega arith)))
 
 -- the count's own rule refuses
 broken : (c : tie.After-n) → let d = at-start c in let n = half (bytes d) (place d) in leb n (d .args .limit) && eqb n (d .args .total) ≡ false
@@ -59,7 +59,7 @@ broken : (c : tie.After-n) → let d = at-start c in let n = half (bytes d) (pla
 broken c e w =
     let d = at-start c in
     let some : d .args .number ≡ suc (pred (d .args .number)) = omega arith in
-    section-rule _ _ _ _ _ (counted c .present) (refused (d .args .number) e ∙ some) ∙ sym some
+    section-rule _ _ _ _ _ (counted c .present) (refused-unless (d .args .number) e ∙ some) ∙ sym some
 
 half-requires : tie.Need-half-requires
 half-requires c κs = search needs

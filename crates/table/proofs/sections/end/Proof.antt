@@ -11,11 +11,11 @@ use borrow.Author.Needs.{needs}
 use borrow.Author.Tests.{eq-eqb, ne-eqb}
 use Rattle.layout.specs.Bytes.{refuse_unless_, _then_, end, actions-refusal, states-refusal, transitions-refusal, entries-refusal}
 use Rattle.table.specs.Stages.{layout}
-use Rattle.layout.proofs.Laws.{refused, not-refused}
+use Rattle.layout.proofs.Laws.{refused-unless, not-refused}
 use Rattle.layout.proofs.SectionLaws.{then-zero}
 use Rattle.layout.proofs.Bounds.{refusal-is}
-use Rattle.table.proofs.StageLaws.{Reached, reached}
-use Rattle.table.proofs.AnswerLaws.{refused as answer-refused, accepted, refused-told}
+use Rattle.table.proofs.StageLaws.{StageTold, stage-told}
+use Rattle.table.proofs.AnswerLaws.{answer-refused, answer-accepted, refused-told}
 use Rattle.table.proofs.sections.end.Statement.{statement}
 use Rattle.table.proofs.sections.end.Tie as tie
 
@@ -28,8 +28,8 @@ before s = actions-refusal s then states-refusal s then transitions-refusal s th
 abbrev last : List ℕ → ℕ
 last s = refuse 2 unless eqb (end s) (length s)
 
-reach : (c : tie.After-stage2) → let s = bytes (c .before .before) in Reached (before s) (layout s) (end s) (c .stage2 .given .0 .0) (c .stage2 .given .0 .1 .0)
-reach c = reached _ _ _ (c .before .before .pre) (c .stage2 .given .1)
+reach : (c : tie.After-stage2) → let s = bytes (c .before .before) in StageTold (before s) (layout s) (end s) (c .stage2 .given .0 .0) (c .stage2 .given .0 .1 .0)
+reach c = stage-told _ _ _ (c .before .before .pre) (c .stage2 .given .1)
 
 enum-known-stage : tie.Need-enum-known-stage
 enum-known-stage c = search needs
@@ -50,7 +50,7 @@ returns-2 c =
     let s = bytes (d .before .before) in
     let r = reach d in
     let all = eq-eqb (end s) (length s) (omega (arith, r .place)) in
-    accepted s (refusal-is s ∙ then-zero (last s) (r .passed) ∙ not-refused 2 all) (r .table)
+    answer-accepted s (refusal-is s ∙ then-zero (last s) (r .passed) ∙ not-refused 2 all) (r .table)
 
 returns-3 : tie.Need-returns-3
 returns-3 c =
@@ -58,7 +58,7 @@ returns-3 c =
     let s = bytes (d .before .before) in
     let r = reach d in
     let more = ne-eqb (end s) (length s) (λ e. omega (arith, r .place)) in
-    answer-refused s _ (refusal-is s ∙ then-zero (last s) (r .passed) ∙ refused 2 more) (λ z. omega arith)
+    answer-refused s _ (refusal-is s ∙ then-zero (last s) (r .passed) ∙ refused-unless 2 more) (λ z. omega arith)
 
 pub end-spec : {M : Type 1} → statement M
 end-spec = tie.close (tie.spec enum-known-stage enum-known-stage-2 returns returns-2 returns-3)

@@ -13,12 +13,12 @@ use borrow.Author.Tests.{leb-true, eqb-true}
 use Rattle.simulation.specs.Sum.{sum}
 use Rattle.table.specs.declared.parts.Layout.{Layout}
 use Rattle.simulation.specs.Limits.{most-entries}
+use Rattle.simulation.proofs.Finite.Tests.{both-true}
 use Rattle.layout.specs.Bytes.{_then_, first, half, transitions-at, transitions, size, size-from, entries-at, entries, end, run-refusal, actions-refusal, states-refusal, transitions-refusal, entries-refusal}
 use Rattle.table.specs.Answers.{count-refusal, items-read}
 use Rattle.table.specs.Stages.{with-entries, transitions-read}
-use Rattle.layout.proofs.Laws.{and-right}
-use Rattle.table.proofs.StageLaws.{Reached, reached, stage-fault, stage-at, stays, Counted, items-told, items-refused-told}
-use Rattle.layout.proofs.SectionLaws.{then-zero, then-parts, holds, section-whole, section-past, section-before}
+use Rattle.table.proofs.StageLaws.{StageTold, stage-told, stage-fault, stage-at, stays, ItemsTold, items-told, items-refused-told}
+use Rattle.layout.proofs.SectionLaws.{then-zero, then-parts, accepted-holds, section-whole, section-past, section-before}
 use Rattle.layout.proofs.Bounds.{Transitions, transitions-bounds}
 use Rattle.table.proofs.sections.entries.Statement.{statement}
 use Rattle.table.proofs.sections.entries.Tie as tie
@@ -43,8 +43,8 @@ before s = actions-refusal s then states-refusal s then transitions-refusal s
 abbrev own : List ℕ → ℕ
 own s = count-refusal s (entries-at s) most-entries (sum (transitions s) (size s)) 7 3
 
-reach : (c : tie.After-stage) → let s = bytes c in Reached (before s) (transitions-read s) (entries-at s) (c .stage .given .0 .0) (c .stage .given .0 .1 .0)
-reach c = reached _ _ _ (c .before .before .before .pre) (c .stage .given .1)
+reach : (c : tie.After-stage) → let s = bytes c in StageTold (before s) (transitions-read s) (entries-at s) (c .stage .given .0 .0) (c .stage .given .0 .1 .0)
+reach c = stage-told _ _ _ (c .before .before .before .pre) (c .stage .given .1)
 
 bounds : (c : tie.After-stage) → Transitions (bytes c)
 bounds c = transitions-bounds (bytes c) (then-parts _ _ (reach c .passed) .1)
@@ -67,7 +67,7 @@ counts : (c : tie.After-counted) → let s = bytes (at-stage c) in c .counted .r
 counts c = c .counted .ensures ∙ ap₂ (λ (p t : ℕ). items-read (bytes (at-stage c)) p most-entries t 7 3) (reach (at-stage c) .place) (summed c)
 
 told : (c : tie.After-items2) → let s = bytes (at-stage (at-count c)) in let p = entries-at s in
-    Counted (own s) (half s p) (p + 2) (p + 2 + 3 * half s p) (c .items2 .given .0 .0) (c .items2 .given .0 .1 .0) (c .items2 .given .0 .1 .1 .0)
+    ItemsTold (own s) (half s p) (p + 2) (p + 2 + 3 * half s p) (c .items2 .given .0 .0) (c .items2 .given .0 .1 .0) (c .items2 .given .0 .1 .1 .0)
 told c = items-told _ _ _ _ (counts (at-count c)) (c .items2 .given .1)
 
 items : (c : tie.After-entries-refusal) → c .entries-refusal .result ≡ entries-refusal (bytes (at-stage (at-count (at-items c))))
@@ -120,7 +120,7 @@ entries-refusal-requires c κs =
     let i = told (c .before) in
     let w = section-whole _ _ _ _ (i .passed) in
     let h = leb-true (entries-at s + 2 + 3 * n) (length s) (w .all-present) in
-    let same = eqb-true n all (and-right (leb n most-entries) (eqb n all) (holds 6 (leb n most-entries && eqb n all) (w .rule-kept))) in
+    let same = eqb-true n all (both-true (leb n most-entries) (eqb n all) (accepted-holds 6 (leb n most-entries && eqb n all) (w .rule-kept)) .1) in
     let b = bounds d in
     let m = many d in
     let q = sizes d in

@@ -13,9 +13,9 @@ use borrow.Author.Tests.{le-ltb, lt-ltb, le-leb, lt-leb}
 use Rattle.simulation.specs.Limits.{most-states}
 use Rattle.layout.specs.Bytes.{refuse_unless_, _then_, states-at, states, transitions-at, actions-refusal, states-refusal}
 use Rattle.table.specs.Stages.{with-states, actions-read}
-use Rattle.layout.proofs.Laws.{refused, not-refused, both}
-use Rattle.items.proofs.ReadLaws.{Told, byte-told, byte-ended, part-told, part-ended}
-use Rattle.table.proofs.StageLaws.{Reached, reached, stage-refused, stage-at, stays}
+use Rattle.layout.proofs.Laws.{refused-unless, not-refused, both-hold}
+use Rattle.items.proofs.ReadLaws.{ValueTold, byte-told, byte-ended, part-told, part-ended}
+use Rattle.table.proofs.StageLaws.{StageTold, stage-told, stage-refused, stage-at, stays}
 use Rattle.layout.proofs.SectionLaws.{then-zero, section-end, section-rule, section-short, section-items}
 use Rattle.table.proofs.sections.states.Statement.{statement}
 use Rattle.table.proofs.sections.states.Tie as tie
@@ -33,14 +33,14 @@ at-rule c = c .before .before .before
 abbrev at-part : tie.After-at → tie.Else2
 at-part c = c .before .before .before
 
-reach : (c : tie.After-stage) → let s = bytes c in Reached (actions-refusal s) (actions-read s) (states-at s) (c .stage .given .0 .0) (c .stage .given .0 .1 .0)
-reach c = reached _ _ _ (c .before .before .before .pre) (c .stage .given .1)
+reach : (c : tie.After-stage) → let s = bytes c in StageTold (actions-refusal s) (actions-read s) (states-at s) (c .stage .given .0 .0) (c .stage .given .0 .1 .0)
+reach c = stage-told _ _ _ (c .before .before .before .pre) (c .stage .given .1)
 
 -- where this section refuses with suc k
 refusal-here : (c : tie.After-stage) (k : ℕ) → let s = bytes c in states-refusal s ≡ suc k → actions-refusal s then states-refusal s ≡ suc k
 refusal-here c k e = then-zero _ (reach c .passed) ∙ e
 
-counted : (c : tie.After-n) → let s = bytes (at-count c) in Told (leb (states-at s + 1) (length s)) (states s) (states-at s + 1) (c .n .given .0 .0) (c .n .given .0 .1 .0)
+counted : (c : tie.After-n) → let s = bytes (at-count c) in ValueTold (leb (states-at s + 1) (length s)) (states s) (states-at s + 1) (c .n .given .0 .0) (c .n .given .0 .1 .0)
 unfolding states
 counted c = byte-told (bytes (at-count c)) _ (reach (at-count c) .place) (c .before .before .byte .ensures) (c .n .given .1)
 
@@ -48,9 +48,9 @@ rule : (c : tie.Else2) → let s = bytes (at-count (at-rule c)) in refuse 4 unle
 rule c =
     let n = states (bytes (at-count (at-rule c))) in
     let is = counted (at-rule c) .value in
-    not-refused 4 (both (lt-ltb 0 n (omega arith)) (le-leb n most-states (omega arith)))
+    not-refused 4 (both-hold (lt-ltb 0 n (omega arith)) (le-leb n most-states (omega arith)))
 
-whole : (c : tie.After-at) → let s = bytes (at-count (at-rule (at-part c))) in Told (leb (states-at s + 1 + states s) (length s)) (states-at s + 1) (states-at s + 1 + states s) (c .at .given .0 .0) (c .at .given .0 .1 .0)
+whole : (c : tie.After-at) → let s = bytes (at-count (at-rule (at-part c))) in ValueTold (leb (states-at s + 1 + states s) (length s)) (states-at s + 1) (states-at s + 1 + states s) (c .at .given .0 .0) (c .at .given .0 .1 .0)
 whole c =
     let n = counted (at-rule (at-part c)) in
     part-told (bytes (at-count (at-rule (at-part c)))) _ (n .place) _ (n .value) (c .before .before .part .ensures) (c .at .given .1)
@@ -83,7 +83,7 @@ returns-3 c =
     let d = c .before .before in
     let n = counted d in
     let none = le-ltb 0 (states (bytes (at-count d))) (omega (arith, n .value)) in
-    stage-refused _ 3 _ _ (refusal-here (at-count d) 3 (section-rule _ _ _ _ 3 (n .present) (refused 4 (rw none))))
+    stage-refused _ 3 _ _ (refusal-here (at-count d) 3 (section-rule _ _ _ _ 3 (n .present) (refused-unless 4 (rw none))))
 
 returns-4 : tie.Need-returns-4
 returns-4 c =
@@ -92,7 +92,7 @@ returns-4 c =
     let k = states (bytes (at-count d)) in
     let some = lt-ltb 0 k (omega (arith, n .value)) in
     let many = lt-leb k most-states (omega (arith, n .value)) in
-    stage-refused _ 3 _ _ (refusal-here (at-count d) 3 (section-rule _ _ _ _ 3 (n .present) (refused 4 (rw (some, many)))))
+    stage-refused _ 3 _ _ (refusal-here (at-count d) 3 (section-rule _ _ _ _ 3 (n .present) (refused-unless 4 (rw (some, many)))))
 
 part-requires : tie.Need-part-requires
 part-requires c κs = search needs

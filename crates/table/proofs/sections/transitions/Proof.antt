@@ -14,7 +14,7 @@ use Rattle.simulation.specs.Limits.{most-transitions}
 use Rattle.layout.specs.Bytes.{_then_, first, half, states, count, transitions-at, transitions, entries-at, transition-refusal, actions-refusal, states-refusal, transitions-refusal}
 use Rattle.table.specs.Answers.{count-refusal, items-read}
 use Rattle.table.specs.Stages.{with-transitions, states-read}
-use Rattle.table.proofs.StageLaws.{Reached, reached, stage-fault, stage-at, stays, Counted, items-told, items-refused-told}
+use Rattle.table.proofs.StageLaws.{StageTold, stage-told, stage-fault, stage-at, stays, ItemsTold, items-told, items-refused-told}
 use Rattle.layout.proofs.SectionLaws.{then-zero, then-parts, section-whole, section-past, section-before}
 use Rattle.layout.proofs.Bounds.{actions-bytes, states-bounds, sum-of-counts}
 use Rattle.table.proofs.sections.transitions.Statement.{statement}
@@ -40,8 +40,8 @@ before s = actions-refusal s then states-refusal s
 abbrev own : List ℕ → ℕ
 own s = count-refusal s (transitions-at s) most-transitions (sum (states s) (count s)) 5 2
 
-reach : (c : tie.After-stage) → let s = bytes c in Reached (before s) (states-read s) (transitions-at s) (c .stage .given .0 .0) (c .stage .given .0 .1 .0)
-reach c = reached _ _ _ (c .before .before .before .pre) (c .stage .given .1)
+reach : (c : tie.After-stage) → let s = bytes c in StageTold (before s) (states-read s) (transitions-at s) (c .stage .given .0 .0) (c .stage .given .0 .1 .0)
+reach c = stage-told _ _ _ (c .before .before .before .pre) (c .stage .given .1)
 
 summed : (c : tie.After-counted) → let s = bytes (at-stage c) in c .before .sum-of .result ≡ sum (states s) (count s)
 summed c =
@@ -53,7 +53,7 @@ counts : (c : tie.After-counted) → let s = bytes (at-stage c) in c .counted .r
 counts c = c .counted .ensures ∙ ap₂ (λ (p t : ℕ). items-read (bytes (at-stage c)) p most-transitions t 5 2) (reach (at-stage c) .place) (summed c)
 
 told : (c : tie.After-items2) → let s = bytes (at-stage (at-count c)) in let p = transitions-at s in
-    Counted (own s) (half s p) (p + 2) (p + 2 + 2 * half s p) (c .items2 .given .0 .0) (c .items2 .given .0 .1 .0) (c .items2 .given .0 .1 .1 .0)
+    ItemsTold (own s) (half s p) (p + 2) (p + 2 + 2 * half s p) (c .items2 .given .0 .0) (c .items2 .given .0 .1 .0) (c .items2 .given .0 .1 .1 .0)
 told c = items-told _ _ _ _ (counts (at-count c)) (c .items2 .given .1)
 
 items : (c : tie.After-transitions-refusal) → c .transitions-refusal .result ≡ transitions-refusal (bytes (at-stage (at-count (at-items c))))

@@ -16,17 +16,17 @@ add-end c = record { fits = omega (arith, root-short (c .before .before .before 
 slice-write-buf : tie.Need-slice-write-buf
 slice-write-buf c = search needs
 
-cast-part : tie.Need-cast-part
-cast-part c = search needs
+cast-out : tie.Need-cast-out
+cast-out c = search needs
 
-sub-part : tie.Need-sub-part
-sub-part c = search needs
+sub-out : tie.Need-sub-out
+sub-out c = search needs
 
-part-part-start : tie.Need-part-part-start
-part-part-start c = search needs
+part-out-start : tie.Need-part-out-start
+part-out-start c = search needs
 
-part-part-end : tie.Need-part-part-end
-part-part-end c = set-room (c .before .before .before .before .before .before .before .pre) _ (c .pair-length .ensures) _
+part-out-end : tie.Need-part-out-end
+part-out-end c = set-room (c .before .before .before .before .before .before .before .pre) _ (c .pair-length .ensures) _
 
 slice-aggregate-write-transition : tie.Need-slice-aggregate-write-transition
 slice-aggregate-write-transition c = search needs
@@ -63,10 +63,10 @@ tree-spec =
     pair-length-requires
     add-end
     slice-write-buf
-    cast-part
-    sub-part
-    part-part-start
-    part-part-end
+    cast-out
+    sub-out
+    part-out-start
+    part-out-end
     slice-aggregate-write-transition
     write-transition-requires
     same-length

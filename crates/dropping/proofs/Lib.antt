@@ -1,0 +1,5 @@
+-- Laws that the proofs cite.
+-- Assumes nothing.
+pub mod Dropping
+pub mod Keeping
+pub mod First

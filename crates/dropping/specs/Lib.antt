@@ -1,0 +1,4 @@
+-- The definitions, in reading order.
+-- Assumes nothing.
+pub mod Falling
+pub mod Dropping
