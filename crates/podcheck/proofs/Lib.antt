@@ -1,4 +1,3 @@
--- Laws of the definitions of specs/.
+-- Laws of bytes that are read.
 -- Assumes nothing.
-pub mod Printing
 pub mod Reading

@@ -17,3 +17,7 @@ first-of-input s = take (stated-length s) (drop 2 s)
 -- the same in what follows the first table
 abbrev pub second-of-input : List ℕ → List ℕ
 second-of-input s = first-of-input (drop (2 + stated-length s) s)
+
+-- so many bytes hold any two tables with their lengths
+abbrev pub most-input : ℕ
+most-input = 2 * (2 + 65535)

@@ -1,8 +1,8 @@
 -- `podcheck::run` meets its contract: the program's two ways to print have what they ask for. Assumes nothing.
 use native.Mathlib.Nat.{mul-le-mul-right}
 use native.Mathlib.Omega.{arith}
-use Rattle.podcheck.specs.Printed.{Counted}
-use Rattle.podcheck.proofs.Printing.{counted}
+use Rattle.printout.specs.Printed.{Counted}
+use Rattle.printout.proofs.Printing.{counted}
 use borrow.Author.Needs.{needs}
 use Rattle.podcheck.proofs.run.Statement.{statement}
 use Rattle.podcheck.proofs.run.Tie as tie

@@ -1,11 +1,11 @@
--- `podcheck::answer_short` meets its contract. Assumes nothing.
+-- `printout::answer_short` meets its contract. Assumes nothing.
 use native.Mathlib.Nat.{le-refl}
 use native.Mathlib.Omega.{arith}
 use Rattle.report.specs.Text.{short-tree}
 use Rattle.report.proofs.Bounds.{bound-short}
 use borrow.Author.Needs.{needs}
-use Rattle.podcheck.proofs.answer_short.Statement.{statement}
-use Rattle.podcheck.proofs.answer_short.Tie as tie
+use Rattle.printout.proofs.answer_short.Statement.{statement}
+use Rattle.printout.proofs.answer_short.Tie as tie
 
 slice-aggregate-answer : tie.Need-slice-aggregate-answer
 slice-aggregate-answer c = search needs
@@ -19,7 +19,7 @@ answer-requires c κs =
     let tree = slice-aggregate-answer-2 (c .before) in (
       k .pre .0,
       omega (arith, k .pre .1, slice-aggregate-answer (c .before .before)),
-      omega (arith, k .pre .2, tree, bound-short (k .args .p) (k .args .q) short-tree (k .pre .0 .first-few) (k .pre .1) (le-refl 1023)),
+      omega (arith, k .pre .2, tree, bound-short (k .args .p) (k .args .q) short-tree (k .pre .0 .first-few) (k .pre .1) (le-refl short-tree)),
     )
 
 same-length : tie.Need-same-length

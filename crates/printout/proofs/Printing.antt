@@ -18,7 +18,7 @@ use Rattle.report.specs.Input.{first-of-input, second-of-input}
 use Rattle.report.specs.Text.{answer-text}
 use Rattle.buffer.specs.Buffer.{Filled}
 use Rattle.report.proofs.Bounds.{some-text}
-use Rattle.podcheck.specs.Printed.{Counted, Printed, Answered}
+use Rattle.printout.specs.Printed.{Counted, Printed, Answered}
 
 module _ (input : List ℕ) {first second ranks₀ flow₀ tree₀ ranks flow tree : List ℕ} {a : Answer}
     (ef : first ≡ first-of-input input) (es : second ≡ second-of-input input)

@@ -1,12 +1,12 @@
--- `podcheck::answer_long` meets its contract: the largest buffers are never too short. Assumes nothing.
+-- `printout::answer_long` meets its contract: the largest buffers are never too short. Assumes nothing.
 use native.Mathlib.Nat.{le-refl, mul-le-mul-right}
 use native.Mathlib.Omega.{arith}
 use Rattle.simulation.specs.Limits.{most-tree-bytes}
 use Rattle.report.proofs.Bounds.{bound-longest}
-use Rattle.podcheck.proofs.Printing.{always}
+use Rattle.printout.proofs.Printing.{always}
 use borrow.Author.Needs.{needs}
-use Rattle.podcheck.proofs.answer_long.Statement.{statement}
-use Rattle.podcheck.proofs.answer_long.Tie as tie
+use Rattle.printout.proofs.answer_long.Statement.{statement}
+use Rattle.printout.proofs.answer_long.Tie as tie
 
 slice-aggregate-answer : tie.Need-slice-aggregate-answer
 slice-aggregate-answer c = search needs
@@ -21,7 +21,7 @@ answer-requires c κs =
     let tree = slice-aggregate-answer-2 (c .before) in (
       n,
       omega (arith, n .second-few, mul-le-mul-right (k .args .q) (n .first-few), slice-aggregate-answer (c .before .before)),
-      omega (arith, k .pre .1, tree, bound-longest (k .args .p) (k .args .q) most-tree-bytes (n .first-few) (n .second-few) (le-refl 65535)),
+      omega (arith, k .pre .1, tree, bound-longest (k .args .p) (k .args .q) most-tree-bytes (n .first-few) (n .second-few) (le-refl most-tree-bytes)),
     )
 
 same-length : tie.Need-same-length

@@ -1,9 +1,10 @@
--- What the program prints for its input: the text for the answer that the check gives to the two tables and the pair (0, 0).
+-- What is printed for an input: the text for the answer that the check gives to the two tables and the pair (0, 0).
 -- Assumes nothing.
 use mathlib.Core.Path.{_≡_}
 use mathlib.Core.List.{List}
 use mathlib.Core.Logic.{_≢_}
 use Prim.Native.Nat.{ℕ, _≤_}
+use lib.ListN.{length, take}
 use Rattle.simulation.specs.Limits.{most-states}
 use Rattle.answer.specs.declared.answer.Answer.{Answer}
 use Rattle.compare.specs.Outcome.{Buffers, lent, left}
@@ -47,3 +48,7 @@ pub record TreeLonger (input tree : List ℕ) : Type 0 where
 pub record Answered (input tree before : List ℕ) (written : ℕ) (after : List ℕ) : Type 0 where
   pub printed : written ≢ 0 → Printed input before written after
   pub short : written ≡ 0 → TreeLonger input tree
+
+-- the text lies in its buffer, as a part of it that begins at its start needs it
+abbrev pub Measured : ℕ → List ℕ → Type 0
+Measured written text = (written ≤ length text) × (written ≡ length (take written text))

@@ -1,12 +1,12 @@
--- `podcheck::answer` meets its contract. Assumes nothing.
+-- `printout::answer` meets its contract. Assumes nothing.
 use mathlib.Core.Path.{refl}
 use Prim.Native.Nat.{zero-le}
 use native.Mathlib.Omega.{arith}
 use Rattle.digits.proofs.Writing.{over-counts}
-use Rattle.podcheck.proofs.Printing.{without-room, with-text}
+use Rattle.printout.proofs.Printing.{without-room, with-text}
 use borrow.Author.Needs.{needs}
-use Rattle.podcheck.proofs.answer.Statement.{statement}
-use Rattle.podcheck.proofs.answer.Tie as tie
+use Rattle.printout.proofs.answer.Statement.{statement}
+use Rattle.printout.proofs.answer.Tie as tie
 
 first-table-requires : tie.Need-first-table-requires
 first-table-requires c κs = search needs

@@ -1,0 +1,3 @@
+-- Laws of the definitions of specs/.
+-- Assumes nothing.
+pub mod Printing
