@@ -362,13 +362,13 @@ unfolding apart
 apart-is R m ns i u = refl
 
 -- m fits none of the transitions of t before number k, and the sets hold what those add
-pub record Gathering (R : Relation) (m : Transition) (tables : List ℕ) (t k : ℕ) (sets : List ℕ) : Type 0 where
+pub record SetsGathering (R : Relation) (m : Transition) (tables : List ℕ) (t k : ℕ) (sets : List ℕ) : Type 0 where
   pub scan : Scan (second-form tables) t (fits-step R m) k
   pub gathered : (i : ℕ) → i < length (m .entries) → (u : ℕ)
       → member (row-of sets i) u ≡ any-of (λ n. apart-by R m i n u) (take (k - start-of (second-form tables) t) (steps (second-table tables) t))
 
 module _ (R : Relation) (m : Transition) (tables : List ℕ) (l : Loaded (second-form tables)) (t : ℕ) (b : t < states-of (second-table tables)) where
-  pub gathering-start : (sets : List ℕ) → ((i : ℕ) → i < length (m .entries) → row-of sets i ≡ 0) → Gathering R m tables t (start-of (second-form tables) t) sets
+  pub gathering-start : (sets : List ℕ) → ((i : ℕ) → i < length (m .entries) → row-of sets i ≡ 0) → SetsGathering R m tables t (start-of (second-form tables) t) sets
   gathering-start sets z =
       record {
         scan = scan-start (second-form tables) l t b (fits-step R m);
@@ -377,8 +377,8 @@ module _ (R : Relation) (m : Transition) (tables : List ℕ) (l : Loaded (second
             ∙ sym (ap (λ (c : ℕ). any-of (λ n. apart-by R m i n u) (take c (steps (second-table tables) t))) (sub-self (start-of (second-form tables) t)) ∙ any-of-nothing (λ n. apart-by R m i n u));
       }
 
-  pub gathering-next : {k : ℕ} {v : Bool} {sets sets′ : List ℕ} → Gathering R m tables t k sets → k < start-of (second-form tables) (t + 1)
-      → Parted R m (second-step tables k) v sets sets′ → v ≡ false → Gathering R m tables t (k + 1) sets′
+  pub gathering-next : {k : ℕ} {v : Bool} {sets sets′ : List ℕ} → SetsGathering R m tables t k sets → k < start-of (second-form tables) (t + 1)
+      → Parted R m (second-step tables k) v sets sets′ → v ≡ false → SetsGathering R m tables t (k + 1) sets′
   gathering-next {k} {v} {sets} {sets′} g h a f =
       let c = k - start-of (second-form tables) t in
       let e : k + 1 - start-of (second-form tables) t ≡ suc c = let q = g .scan .low in omega arith in
@@ -392,20 +392,20 @@ module _ (R : Relation) (m : Transition) (tables : List ℕ) (l : Loaded (second
       }
 
   -- those with another code add nothing
-  pub gathering-coded : {c k e r : ℕ} {sets : List ℕ} → c ≡ m .code → NextCoded tables c k e r → e ≡ start-of (second-form tables) (t + 1) → Gathering R m tables t k sets
-      → Gathering R m tables t r sets
+  pub gathering-coded : {c k e r : ℕ} {sets : List ℕ} → c ≡ m .code → NextCoded tables c k e r → e ≡ start-of (second-form tables) (t + 1) → SetsGathering R m tables t k sets
+      → SetsGathering R m tables t r sets
   gathering-coded {c} {k} {e} {r} {sets} code next end g = passed (r - k) r (omega (arith, next .from)) (omega arith)
     where
-      move : {q q′ : ℕ} → q ≡ q′ → Gathering R m tables t q sets → Gathering R m tables t q′ sets
-      move = subst (λ (q : ℕ). Gathering R m tables t q sets)
+      move : {q q′ : ℕ} → q ≡ q′ → SetsGathering R m tables t q sets → SetsGathering R m tables t q′ sets
+      move = subst (λ (q : ℕ). SetsGathering R m tables t q sets)
 
-      passed : (n q : ℕ) → q ≡ k + n → q ≤ r → Gathering R m tables t q sets
+      passed : (n q : ℕ) → q ≡ k + n → q ≤ r → SetsGathering R m tables t q sets
       passed zero q w le = move (omega arith) g
       passed (suc n) q w le =
           let other : m .code ≡ second-step tables (k + n) .code → ⊥ = λ d. eqb-false c (second-step tables (k + n) .code) (next .passed (k + n) (omega arith) (omega arith)) (code ∙ d) in
           move (omega arith) (gathering-next (passed n (k + n) refl (omega arith)) (omega (arith, next .to)) (parted-other R m (second-step tables (k + n)) other sets) refl)
 
-  pub gathering-end : {k : ℕ} {sets : List ℕ} → Gathering R m tables t k sets → start-of (second-form tables) (t + 1) ≤ k → (i : ℕ) → i < length (m .entries)
+  pub gathering-end : {k : ℕ} {sets : List ℕ} → SetsGathering R m tables t k sets → start-of (second-form tables) (t + 1) ≤ k → (i : ℕ) → i < length (m .entries)
       → member (row-of sets i) ≡ apart R m (steps (second-table tables) t) i
   gathering-end {k} g h i lt =
       fun-ext (λ u.

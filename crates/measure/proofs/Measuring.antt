@@ -31,7 +31,7 @@ use Rattle.counting.specs.Count.{longest}
 use Rattle.counting.specs.Pair.{number, row, column}
 use Rattle.counting.proofs.Pairs.{from-number, lost-place, lost-low, number-place}
 use Rattle.counting.proofs.Targets.{ChoiceGiven, targets-are, count-is, few-targets, state-low, state-row, set-at, child-lost, length-parts}
-use Rattle.passing.specs.Passing.{Found, Later, Above, Noted}
+use Rattle.passing.specs.Passing.{Found, Later, Above, PairNoted}
 use Rattle.order.specs.Order.{Ordered}
 use Rattle.measure.specs.Lengths.{set-length, SumGiven, Measured, most, children-length, most-children, ChildrenGiven, Holds, MeasureGiven, PairGiven, AllHold, TreeMeasured}
 
@@ -233,7 +233,7 @@ module _ {tables ranks order : List ℕ} {n : ℕ} {lengths₀ sets₀ amounts�
         }
 
     -- that pair can be measured
-    pub measure-pair : {choices : List ℕ} → Noted tables order n choices → (width : ℕ) → width ≡ states-of (second-table tables)
+    pub measure-pair : {choices : List ℕ} → PairNoted tables order n choices → (width : ℕ) → width ≡ states-of (second-table tables)
         → PairGiven tables ranks lengths sets amounts (p / width) (p % width) × Choice tables (p / width) (p % width) (getD choices p 0)
     measure-pair {choices} c width e =
         subst (λ (w : ℕ). PairGiven tables ranks lengths sets amounts (p / w) (p % w) × Choice tables (p / w) (p % w) (getD choices p 0)) (sym e) (here-given, c .at (i - 1) place)
@@ -294,7 +294,7 @@ module _ {tables order : List ℕ} {n : ℕ} (o : Ordered tables order n) where
       later : (k : ℕ) {p : ℕ} → Later order n k p → Later (take n order) (length (take n order)) k p
       later k q = let l : q .0 < length (take n order) = omega (arith, part-size, q .2) in (q .0, q .1, l, part-at (q .0) l ∙ q .3)
 
-  pub part-noted : {choices : List ℕ} → Noted tables order n choices → Noted tables (take n order) (length (take n order)) choices
+  pub part-noted : {choices : List ℕ} → PairNoted tables order n choices → PairNoted tables (take n order) (length (take n order)) choices
   part-noted {choices} c =
       record {
         at = λ k b. subst (λ (p : ℕ). Choice tables (row tables p) (column tables p) (getD choices p 0)) (sym (part-at k b)) (c .at k (omega (arith, part-size)));
@@ -336,7 +336,7 @@ child-short tables l s t p i v b h =
     when-holds true n h = refl
     when-holds false n h = absurd h
 
-module _ {tables ranks choices lengths order : List ℕ} {n : ℕ} (g : RanksRight tables ranks) (o : Ordered tables order n) (c : Noted tables order n choices)
+module _ {tables ranks choices lengths order : List ℕ} {n : ℕ} (g : RanksRight tables ranks) (o : Ordered tables order n) (c : PairNoted tables order n choices)
     (a : AllHold tables order lengths n) (s t : ℕ) (lost : Lost tables s t) (f : Found order n (number tables s t)) where
   abbrev size-at : ℕ → ℕ → ℕ
   size-at u v = getD lengths (number tables u v) 0

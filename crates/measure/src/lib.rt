@@ -25,7 +25,7 @@ ghost use Rattle.relate.specs.Ranked.{RanksRight};
 ghost use Rattle.choice.specs.Choice.{Lost, Choice};
 ghost use Rattle.counting.specs.Pair.{number};
 ghost use Rattle.counting.specs.Count.{longest};
-ghost use Rattle.passing.specs.Passing.{OrderGiven, Noted};
+ghost use Rattle.passing.specs.Passing.{OrderGiven, PairNoted};
 ghost use Rattle.order.specs.Order.{Ordered};
 ghost use Rattle.measure.specs.Lengths.{most, set-length, SumGiven, children-length, most-children, ChildrenGiven};
 ghost use Rattle.measure.specs.Lengths.{MeasureGiven, PairGiven, AllHold, TreeMeasured};
@@ -113,7 +113,7 @@ fn measure(
     amounts: &mut [u32],
 )
     requires { ⌜ MeasureGiven (now tables) (now ranks) (now lengths) (now sets) (now amounts)
-        × Ordered (now tables) (now order) (length (now order)) × Noted (now tables) (now order) (length (now order)) (now choices)
+        × Ordered (now tables) (now order) (length (now order)) × PairNoted (now tables) (now order) (length (now order)) (now choices)
         × (pairs (first-table (now tables)) (second-table (now tables)) ≤ length (now choices)) ⌝ }
     ensures { λ _. ⌜ AllHold (now (tables .entry)) (now (order .entry)) (now (lengths .exit)) (length (now (order .entry))) ⌝ }
 {
@@ -148,7 +148,7 @@ fn measure_all(
 )
     requires { ⌜ RanksRight (now tables) (now ranks) × (pairs (first-table (now tables)) (second-table (now tables)) ≤ length (now lengths))
         × (most-pairs ≤ length (now amounts)) × Ordered (now tables) (now order) (length (now order))
-        × Noted (now tables) (now order) (length (now order)) (now choices)
+        × PairNoted (now tables) (now order) (length (now order)) (now choices)
         × (pairs (first-table (now tables)) (second-table (now tables)) ≤ length (now choices)) ⌝ }
     ensures { λ _. ⌜ AllHold (now (tables .entry)) (now (order .entry)) (now (lengths .exit)) (length (now (order .entry))) ⌝ }
 {

@@ -25,7 +25,7 @@ use Rattle.passing.specs.declared.Walk.{Walk}
 use Rattle.passing.specs.Passing.{Trail, trail, walk-at, ToDo, todo-in, HasRoom, OrderGiven, Seen, Walking, RowPassed}
 use Rattle.order.specs.Order.{RankPassed, RanksPassed}
 use Rattle.passing.proofs.Parts.{todo-row}
-use Rattle.passing.proofs.Walks.{Held, held, held-next, still-given, none-in, Onward, onward-start, onward-at, onward-from, onward-next}
+use Rattle.passing.proofs.Walks.{Held, held-same, held-next, still-given, none-in, Onward, onward-start, onward-at, onward-from, onward-next}
 
 -- ---- the rows of a rank
 
@@ -85,7 +85,7 @@ pub record RanksAt (tables ranks : List ℕ) (L₀ : Trail) (w₀ : Walk) (L : T
 
 -- at first it is where it began
 pub ranks-start : {tables ranks : List ℕ} {L : Trail} {w : Walk} → Walking tables ranks L w → RanksAt tables ranks L w L w
-ranks-start g = record { walking = g; tallied = tallied-start (g .tally); stays = λ s t h. h; held = held }
+ranks-start g = record { walking = g; tallied = tallied-start (g .tally); stays = λ s t h. h; held = held-same }
 
 module _ {tables ranks : List ℕ} {L₀ : Trail} {w₀ : Walk} {L : Trail} {w : Walk} (o : RanksAt tables ranks L₀ w₀ L w) where
   -- a rank is passed

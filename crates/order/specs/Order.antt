@@ -11,7 +11,7 @@ use Rattle.form.specs.Tables.{first-table, second-table}
 use Rattle.counting.specs.Pair.{number}
 use Rattle.counting.specs.Count.{longest, Tallied}
 use Rattle.passing.specs.declared.Walk.{Walk}
-use Rattle.passing.specs.Passing.{Trail, ToDo, Later, Found, Above, Seen, Noted, Passed}
+use Rattle.passing.specs.Passing.{Trail, ToDo, Later, Found, Above, Seen, PairNoted, Passed}
 
 module _ (tables : List ℕ) where
   -- the first n places of the list hold pairs, each before all pairs below it
@@ -21,11 +21,11 @@ module _ (tables : List ℕ) where
     pub at : (k : ℕ) → k < n → Above tables (λ u v. Later order n k (number tables u v)) (getD order k 0)
 
   -- the pairs that the tree of (s, t) meets are listed and their transitions noted; none is if the tree is too long
-  pub record Listed (s t : ℕ) (order choices : List ℕ) (n : ℕ) : Type 0 where
+  pub record PairsListed (s t : ℕ) (order choices : List ℕ) (n : ℕ) : Type 0 where
     pub long : n ≡ 0 → longest < tree-length (first-table tables) (second-table tables) s t
     pub ordered : 0 < n → Ordered order n
     pub found : 0 < n → Found order n (number tables s t)
-    pub noted : 0 < n → Noted tables order n choices
+    pub noted : 0 < n → PairNoted tables order n choices
 
   -- all pairs of the walk's rank are passed
   pub record RankPassed (L : Trail) (w : Walk) (L′ : Trail) (v : Walk) : Type 0 where
@@ -37,4 +37,4 @@ module _ (tables : List ℕ) where
     pub tallied : Tallied tables (L .counts) (w .bytes) (L′ .counts) (v .bytes)
     pub ordered : v .bytes ≤ longest → Ordered (L′ .order) (v .count)
     pub found : v .bytes ≤ longest → (s t : ℕ) → Seen tables L w s t → Found (L′ .order) (v .count) (number tables s t)
-    pub noted : v .bytes ≤ longest → Noted tables (L′ .order) (v .count) (L′ .choices)
+    pub noted : v .bytes ≤ longest → PairNoted tables (L′ .order) (v .count) (L′ .choices)

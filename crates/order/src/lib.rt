@@ -22,7 +22,7 @@ ghost use Rattle.form.specs.Tables.{first-table, second-table, BothLoaded};
 ghost use Rattle.choice.specs.Choice.{Lost};
 ghost use Rattle.counting.specs.Count.{OneCounted};
 ghost use Rattle.passing.specs.Passing.{trail, OrderGiven, Walking};
-ghost use Rattle.order.specs.Order.{Listed, RankPassed, RanksPassed};
+ghost use Rattle.order.specs.Order.{PairsListed, RankPassed, RanksPassed};
 
 // The pairs of the walk's rank, where none of a higher rank is left.
 fn pass_rank(
@@ -106,7 +106,7 @@ pub fn list(
 ) -> usize
     requires { ⌜ OrderGiven (now tables) (now ranks) (now order) (now choices) (now amounts) × Lost (now tables) s t
         × (pairs (first-table (now tables)) (second-table (now tables)) ≤ length (now counts)) ⌝ }
-    ensures { λ n. ⌜ Listed (now (tables .entry)) s t (now (order .exit)) (now (choices .exit)) n ⌝ }
+    ensures { λ n. ⌜ PairsListed (now (tables .entry)) s t (now (order .exit)) (now (choices .exit)) n ⌝ }
 {
     let mut room: [Word; Room::WORDS] = [1; Room::WORDS];
     rows::clear(&mut room, Table::STATES);

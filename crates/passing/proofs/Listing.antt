@@ -19,7 +19,7 @@ use Rattle.relation.specs.Words.{mask, row-of, height, put-row}
 use Rattle.relation.specs.declared.set.Set.{Set}
 use Rattle.relation.proofs.Sets.{length-put, row-put, row-put-other}
 use Rattle.choice.proofs.Choosing.{eqb-flip}
-use Rattle.passing.specs.Passing.{todo-in, sets-in, HasRoom, Children, ChildrenAdded}
+use Rattle.passing.specs.Passing.{todo-in, sets-in, HasRoom, ChildrenLent, ChildrenAdded}
 use Rattle.passing.proofs.Parts.{todo-row, sets-row, todo-put, sets-put, todo-height}
 use Rattle.counting.specs.Count.{child}
 
@@ -53,7 +53,7 @@ children-start targets room rows =
       };
     }
 
-module _ {targets room₀ : List ℕ} {rows₀ : ℕ} {room : List ℕ} {rows i : ℕ} (g : Children targets room₀)
+module _ {targets room₀ : List ℕ} {rows₀ : ℕ} {room : List ℕ} {rows i : ℕ} (g : ChildrenLent targets room₀)
     (l : ChildrenLoop targets room₀ rows₀ room rows i) (lt : i < length targets) where
   abbrev sets : List ℕ
   sets = sets-in room₀

@@ -28,7 +28,7 @@ use Rattle.counting.proofs.Targets.{ChoiceGiven, targets-are, count-is, few-tar
 use Rattle.counting.specs.Count.{child, Tallied, HandGiven}
 use Rattle.counting.specs.Pair.{number, row, column}
 use Rattle.passing.specs.declared.Walk.{Walk}
-use Rattle.passing.specs.Passing.{Trail, ToDo, todo-in, sets-in, HasRoom, Children, ChildrenAdded, OrderGiven, Later, Found, Seen, Noted, Above, Passing, AtPair, PairPassed}
+use Rattle.passing.specs.Passing.{Trail, ToDo, todo-in, sets-in, HasRoom, ChildrenLent, ChildrenAdded, OrderGiven, Later, Found, Seen, PairNoted, Above, Passing, AtPair, PairPassed}
 use Rattle.passing.proofs.Parts.{PairRemoved, sets-height}
 use Rattle.passing.proofs.Listing.{fewer}
 
@@ -112,7 +112,7 @@ module _ {tables ranks : List ℕ} {L : Trail} {w : Walk} (p : AtPair tables ran
         at (no d) = let c : k < n = omega (arith, d) in subst (λ (q : ℕ). P k q) (sym (order-old k c)) (old k c)
 
     -- its transition is noted, and those of the pairs before it stay so
-    also-noted : {j : ℕ} {choices′ : List ℕ} → Choice tables s t j → choices′ ≡ set (L .choices) (number tables s t) j → Noted tables order′ (n + 1) choices′
+    also-noted : {j : ℕ} {choices′ : List ℕ} → Choice tables s t j → choices′ ≡ set (L .choices) (number tables s t) j → PairNoted tables order′ (n + 1) choices′
     also-noted {j} {choices′} c ec =
         record {
           at = by-place (λ k p. Choice tables (row tables p) (column tables p) (getD choices′ p 0))
@@ -160,7 +160,7 @@ module _ {tables ranks : List ℕ} {L : Trail} {w : Walk} (p : AtPair tables ran
 
     module _ {ts : List ℕ} (et : ts ≡ targets (first-step tables j)) where
       -- what adding the pairs below it rests on
-      pub step-children : Children ts room₁
+      pub step-children : ChildrenLent ts room₁
       step-children = record { few = few-targets step-choice et; rows = enough; low = state-low step-choice et }
 
       -- a pair below it is not kept either, and its rank is lower

@@ -32,8 +32,8 @@ pub record Held (L₀ L : Trail) : Type 0 where
   pub same-room : length (L .room) ≡ length (L₀ .room)
   pub same-amounts : length (L .amounts) ≡ length (L₀ .amounts)
 
-pub held : {L : Trail} → Held L L
-held = record { same-order = refl; same-choices = refl; same-counts = refl; same-room = refl; same-amounts = refl }
+pub held-same : {L : Trail} → Held L L
+held-same = record { same-order = refl; same-choices = refl; same-counts = refl; same-room = refl; same-amounts = refl }
 
 module _ {L₀ L : Trail} (h : Held L₀ L) where
   -- one step more
@@ -78,7 +78,7 @@ module _ {tables ranks : List ℕ} where
       record {
         given = g .given;
         passed = record { passing = g .passing; tallied = tallied-start (g .tally); old = λ s t h _. h; stays = λ s t h. h; same-rank = refl };
-        held = held;
+        held = held-same;
       }
 
   module _ {L₀ : Trail} {w₀ : Walk} {L : Trail} {w : Walk} (o : Onward tables ranks L₀ w₀ L w) where

@@ -32,7 +32,7 @@ abbrev pub HasRoom : List ℕ → Type 0
 HasRoom room = 3 * most-states * words ≤ length room
 
 -- what adding the pairs of targets and members of their sets rests on
-pub record Children (targets room : List ℕ) : Type 0 where
+pub record ChildrenLent (targets room : List ℕ) : Type 0 where
   pub few : length targets ≤ most-states
   pub rows : HasRoom room
   pub low : (i : ℕ) → i < length targets → getD targets i 0 < most-states
@@ -97,7 +97,7 @@ module _ (tables : List ℕ) where
         → passes (target-at (chosen (first-table tables) (second-table tables) (row tables p) (column tables p)) i) v
 
   -- the transitions chosen for the first n pairs of the list are noted
-  pub record Noted (order : List ℕ) (n : ℕ) (choices : List ℕ) : Type 0 where
+  pub record PairNoted (order : List ℕ) (n : ℕ) (choices : List ℕ) : Type 0 where
     pub at : (k : ℕ) → k < n → Choice tables (row tables (getD order k 0)) (column tables (getD order k 0)) (getD choices (getD order k 0) 0)
 
   -- the pair (s, t) is listed, or still to be passed
@@ -115,7 +115,7 @@ module _ (tables : List ℕ) where
     pub high : (k : ℕ) → k < n → r ≤ rank (first-table tables) (second-table tables) (row tables (getD (L .order) k 0)) (column tables (getD (L .order) k 0))
     pub gone : (k : ℕ) → k < n → ToDo L (row tables (getD (L .order) k 0)) (column tables (getD (L .order) k 0)) → ⊥
     pub once : (k l : ℕ) → k < l → l < n → getD (L .order) k 0 ≡ getD (L .order) l 0 → ⊥
-    pub noted : Noted (L .order) n (L .choices)
+    pub noted : PairNoted (L .order) n (L .choices)
 
   -- a walk can go on: its lists have room, the pairs that it has passed and those still to be passed are in order, and no pair is counted more often than there are bytes
   pub record Walking (ranks : List ℕ) (L : Trail) (w : Walk) : Type 0 where

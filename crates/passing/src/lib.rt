@@ -20,7 +20,7 @@ ghost use Rattle.simulation.specs.Limits.{most-states};
 ghost use Rattle.relation.specs.Mask.{member};
 ghost use Rattle.relation.specs.Words.{mask};
 ghost use Rattle.counting.specs.Pair.{number};
-ghost use Rattle.passing.specs.Passing.{todo-in, sets-in, trail, Children, ChildrenAdded, NoteGiven, Walking, AtPair, PairPassed, RowPassed};
+ghost use Rattle.passing.specs.Passing.{todo-in, sets-in, trail, ChildrenLent, ChildrenAdded, NoteGiven, Walking, AtPair, PairPassed, RowPassed};
 
 // Rows lent to work with: the pairs that are still to be passed, a row to a state, and after them the sets of a transition's targets, with room
 // for as many rows of a relation.
@@ -64,7 +64,7 @@ fn note(
 
 // The pairs of each target and the members of its set are to be passed.
 fn add_children(targets: &[u16], room: &mut [Word], rows: Set) -> Set
-    requires { ⌜ Children (now targets) (now room) ⌝ }
+    requires { ⌜ ChildrenLent (now targets) (now room) ⌝ }
     ensures { λ r. ⌜ ChildrenAdded (now (targets .entry)) (sets-in (now (room .entry))) (length (now (targets .entry)))
         (todo-in (now (room .entry))) (mask rows) (todo-in (now (room .exit))) (mask r) ⌝ }
 {

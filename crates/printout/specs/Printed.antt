@@ -50,5 +50,5 @@ pub record Answered (input tree before : List ℕ) (written : ℕ) (after : List
   pub short : written ≡ 0 → TreeLonger input tree
 
 -- the text lies in its buffer, as a part of it that begins at its start needs it
-abbrev pub Measured : ℕ → List ℕ → Type 0
-Measured written text = (written ≤ length text) × (written ≡ length (take written text))
+abbrev pub TextWithin : ℕ → List ℕ → Type 0
+TextWithin written text = (written ≤ length text) × (written ≡ length (take written text))

@@ -5,7 +5,7 @@ ghost use mathlib.Core.Path.{_≡_};
 ghost use mathlib.Core.Logic.{_≢_};
 ghost use Prim.Native.Nat.{_*_, _≤_};
 ghost use lib.ListN.{length};
-ghost use Rattle.printout.specs.Printed.{Counted, Printed, Answered, Measured};
+ghost use Rattle.printout.specs.Printed.{Counted, Printed, Answered, TextWithin};
 ghost use Rattle.simulation.specs.Limits.{few-pairs};
 ghost use Rattle.report.specs.Text.{text-bound, longest-text, short-text};
 
@@ -26,7 +26,7 @@ fn answer(
 ) -> usize
     requires { ⌜ Counted (now input) p q × (p * q ≤ length (now ranks)) × (text-bound p q (length (now tree)) ≤ length (now text)) ⌝ }
     ensures { λ r. ⌜ Answered (now (input .entry)) (now (tree .entry)) (now (text .entry)) r (now (text .exit)) ⌝ }
-    ensures { λ r. ⌜ Measured r (now (text .exit)) ⌝ }
+    ensures { λ r. ⌜ TextWithin r (now (text .exit)) ⌝ }
 {
     let first = report::first_table(input);
     let second = report::second_table(input);
@@ -43,7 +43,7 @@ fn answer(
 pub fn answer_short(input: &[u8], p: usize, q: usize, text: &mut [u8]) -> usize
     requires { ⌜ Counted (now input) p q × (p * q ≤ few-pairs) × (short-text ≤ length (now text)) ⌝ }
     ensures { λ r. ⌜ (r ≢ 0 → Printed (now (input .entry)) (now (text .entry)) r (now (text .exit))) ⌝ }
-    ensures { λ r. ⌜ Measured r (now (text .exit)) ⌝ }
+    ensures { λ r. ⌜ TextWithin r (now (text .exit)) ⌝ }
 {
     let mut ranks = [1u16; Table::FEW_PAIRS];
     let mut tree = [0u8; report::SHORT_TREE];
@@ -54,7 +54,7 @@ pub fn answer_short(input: &[u8], p: usize, q: usize, text: &mut [u8]) -> usize
 pub fn answer_long(input: &[u8], p: usize, q: usize, text: &mut [u8]) -> usize
     requires { ⌜ Counted (now input) p q × (longest-text ≤ length (now text)) ⌝ }
     ensures { λ r. ⌜ Printed (now (input .entry)) (now (text .entry)) r (now (text .exit)) ⌝ }
-    ensures { λ r. ⌜ Measured r (now (text .exit)) ⌝ }
+    ensures { λ r. ⌜ TextWithin r (now (text .exit)) ⌝ }
 {
     let mut ranks = [1u16; RANKS];
     let mut tree = [0u8; TREE];

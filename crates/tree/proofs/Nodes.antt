@@ -36,7 +36,7 @@ use Rattle.tree.specs.Parts.{At, nothing, Remains, Depth, node-of, step-
 use Rattle.tree.proofs.Bytes.{members-all, steps-lowest, no-steps, steps-bytes, node-is}
 use Rattle.tree.proofs.Lengths.{step-size}
 use Rattle.tree.proofs.Places.{at-self, at-is, at-front, at-back, piece, placed}
-use Rattle.tree.proofs.Slots.{Slot, slot-lent, slot-kept, PartLoop, Done, stand-begins, stand-next, stand-ends}
+use Rattle.tree.proofs.Slots.{Slot, slot-lent, slot-kept, PartLoop, PartsDone, stand-begins, stand-next, stand-ends}
 
 -- ---- a pair that is measured
 
@@ -216,12 +216,12 @@ left-all {tables} {s = s} {t = t} m len e now =
 
 step-done : {tables choices lengths : List ℕ} {step : Step} {hole : Rest} {old new : List ℕ} → Measured tables choices lengths (step .s) (step .t)
     → length old ≡ length (step-of tables (step .s) (step .t)) → StepWritten tables step hole old new
-    → Done tables choices lengths (step-of tables (step .s) (step .t)) (step .limit) hole new
+    → PartsDone tables choices lengths (step-of tables (step .s) (step .t)) (step .limit) hole new
 step-done {tables} {choices} {lengths} {step} {hole} {old} {new} m e w = by (below-or-not (step .limit) (length old))
   where
-    by : (step .limit < length old) ⊎ (length old ≤ step .limit) → Done tables choices lengths (step-of tables (step .s) (step .t)) (step .limit) hole new
+    by : (step .limit < length old) ⊎ (length old ≤ step .limit) → PartsDone tables choices lengths (step-of tables (step .s) (step .t)) (step .limit) hole new
     by (inl c) =
-        subst (λ (r : Rest). Done tables choices lengths (step-of tables (step .s) (step .t)) (step .limit) r new) (sym (w .long c))
+        subst (λ (r : Rest). PartsDone tables choices lengths (step-of tables (step .s) (step .t)) (step .limit) r new) (sym (w .long c))
         (record { whole = λ z. absurd (omega arith); part = λ _. left-all m (length old) e new; long = λ _. c })
     by (inr c) =
         let q = w .short c in
@@ -298,7 +298,7 @@ module _ {tables ranks choices lengths : List ℕ} {node : Node} {amounts₀ sta
     node-step = record { given = l .call .given; depth = l .call .depth; measured = node-measured t (next .low); size = slot-lent turn-slot }
 
     module _ {hole : Rest} {ys : List ℕ} (w : StepWritten tables step hole (piece at (at + r) buf) ys) where
-      done : Done tables choices lengths (step-of tables (node .s) t) (node .half) hole ys
+      done : PartsDone tables choices lengths (step-of tables (node .s) t) (node .half) hole ys
       done = step-done (node-measured t (next .low)) (slot-lent turn-slot) w
 
       pub node-joins : 0 < hole .len → at + hole .at < 2 ^ 64

@@ -113,13 +113,13 @@ stand-begins s t none first =
     })
 
 -- the part P is written, but for a part of it that is longer than half
-pub record Done (tables choices lengths P : List ℕ) (half : ℕ) (hole : Rest) (now : List ℕ) : Type 0 where
+pub record PartsDone (tables choices lengths P : List ℕ) (half : ℕ) (hole : Rest) (now : List ℕ) : Type 0 where
   pub whole : hole .len ≡ 0 → (k : ℕ) → k < length P → getD now k 0 ≡ getD P k 0
   pub part : 0 < hole .len → Left tables choices lengths P (length P) hole now
   pub long : 0 < hole .len → half < hole .len
 
 pub around-done : {tables choices lengths P : List ℕ} {half : ℕ} {hole : Rest} {now : List ℕ} → Around tables choices lengths P half hole now
-    → Done tables choices lengths P half hole now
+    → PartsDone tables choices lengths P half hole now
 around-done w = record { whole = left-none (w .left); part = λ _. w .left; long = w .long }
 
 -- a loop that is at the end has written all but what is left
@@ -139,7 +139,7 @@ module _ {tables choices lengths total : List ℕ} {half head a b : ℕ} {rest :
   stand-whole put = record { held = left-more slot ys same (l .held) put; tail = omega (arith, l .tail, slot .ordered); long = l .long }
 
   -- or all but a part of it is; two parts longer than half are too many
-  module _ (once : b ≤ 2 * half + 1) {hole : Rest} (w : Done tables choices lengths P half hole ys) where
+  module _ (once : b ≤ 2 * half + 1) {hole : Rest} (w : PartsDone tables choices lengths P half hole ys) where
     stand-part : 0 < hole .len → PartLoop tables choices lengths total half head b (offset hole a) (placed a b now ys)
     stand-part pos =
         record {

@@ -22,13 +22,13 @@ use Rattle.fit.proofs.Steps.{one-passes}
 use Rattle.fit.proofs.Partner.{search-begins}
 use Rattle.choice.specs.Choice.{Parted, Tested}
 use Rattle.choice.proofs.Choices.{choice-width}
-use Rattle.choice.proofs.Choosing.{LostPair, lost-compared, Gathering, number-of, scan-end, tested-one, gathering-start, gathering-next, gathering-coded, gathering-end}
+use Rattle.choice.proofs.Choosing.{LostPair, lost-compared, SetsGathering, number-of, scan-end, tested-one, gathering-start, gathering-next, gathering-coded, gathering-end}
 use Rattle.choice.proofs.find_sets.Statement.{statement}
 use Rattle.choice.proofs.find_sets.Tie as tie
 
 -- the walk over the transitions of t, from the lists sets₀ and amounts₀ on
 record Walk (tables : List ℕ) (t r j : ℕ) (sets₀ amounts₀ : List ℕ) (code end : ℕ) (sets amounts : List ℕ) (k : ℕ) : Type 0 where
-  gathering : Gathering (round (first-table tables) (second-table tables) (pred r)) (first-step tables j) tables t k sets
+  gathering : SetsGathering (round (first-table tables) (second-table tables) (pred r)) (first-step tables j) tables t k sets
   own : code ≡ first-step tables j .code
   ends : end ≡ start-of (second-form tables) (t + 1)
   coded : k < end → eqb code (second-step tables k .code) ≡ true
@@ -171,7 +171,7 @@ loop-holds c =
     record {
       gathering =
           gathering-coded R m tables (second p) (a .t) (p .pair .lost .right) (at-start .before .code .ensures) (c .next-coded .ensures) (c .before .start-of2 .ensures)
-          (subst (λ (n : ℕ). Gathering R m tables (a .t) n (at-clear .clear .last .0)) (sym (at-start .start-of .ensures))
+          (subst (λ (n : ℕ). SetsGathering R m tables (a .t) n (at-clear .clear .last .0)) (sym (at-start .start-of .ensures))
           (gathering-start R m tables (second p) (a .t) (p .pair .lost .right) (at-clear .clear .last .0) (λ i b. at-clear .clear .ensures i (omega (arith, count)))));
       own = at-start .before .code .ensures;
       ends = c .before .start-of2 .ensures;
