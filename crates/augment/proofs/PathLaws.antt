@@ -8,7 +8,7 @@ use Prim.Native.Nat.{ℕ, zero, suc, _+_, _^_, _≤_, _<_, min}
 use native.Mathlib.Omega.{arith}
 use lib.ListN.{getD}
 use Rattle.simulation.specs.Limits.{most-states}
-use Rattle.relation.specs.Mask.{Test}
+use Rattle.word.specs.Mask.{Test}
 use Rattle.relation.specs.Related.{holds}
 use Rattle.matrix.specs.Matrix.{cell, Outside, delta, row-sum, column-sum, Adds}
 use Rattle.matrix.specs.Masks.{MaskOf, Used}

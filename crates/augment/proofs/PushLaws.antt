@@ -7,10 +7,10 @@ use Prim.Native.Nat.{ℕ, _+_, _<_, _≤_, min}
 use native.Mathlib.Numerals.{add-one}
 use native.Mathlib.Omega.{arith}
 use lib.ListN.{length, getD}
-use Rattle.relation.specs.Mask.{Test, member, both, Lowest}
-use Rattle.relation.specs.Words.{row-of}
+use Rattle.word.specs.Mask.{Test, member, both, Lowest}
+use Rattle.relation.specs.Rows.{row-of}
 use Rattle.relation.specs.Related.{holds}
-use Rattle.relation.proofs.Sets.{both-of}
+use Rattle.set.proofs.Sets.{both-of}
 use Rattle.matrix.specs.Matrix.{AddsAt}
 use Rattle.matrix.specs.Masks.{with-nonzero, MaskOf}
 use Rattle.matrix.specs.Flow.{Flow, Partial, FlowIn}

@@ -5,7 +5,7 @@ use mathlib.Core.Bool.{true}
 use mathlib.Core.List.{List}
 use Prim.Native.Nat.{ℕ, zero, suc, _<_, min}
 use lib.ListN.{length, getD}
-use Rattle.relation.specs.Mask.{Test, member}
+use Rattle.word.specs.Mask.{Test, member}
 use Rattle.relation.specs.Related.{holds}
 use Rattle.matrix.specs.Matrix.{AddsAt}
 use Rattle.matrix.specs.Masks.{MaskOf}

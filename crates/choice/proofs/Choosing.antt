@@ -25,11 +25,12 @@ use Rattle.simulation.proofs.Trees.Choice.{Chosen, chosen-law, chosen-at}
 use Rattle.form.specs.Form.{Loaded, table-of, start-of, transitions-of, transition-at}
 use Rattle.form.specs.Tables.{first-form, second-form, first-table, second-table, first-step, second-step}
 use Rattle.form.proofs.FormLaws.{counts, start-bound, starts-ascend, transition-of, transition-numbered, weights-length}
-use Rattle.relation.specs.Mask.{Test, member, up-to, without-member, either, except, Lowest}
-use Rattle.relation.specs.Words.{mask as mask-of, words, row-of, height, rows-in, put-row}
-use Rattle.relation.specs.declared.set.Set.{Set}
-use Rattle.relation.proofs.Sets.{length-put, row-put, row-put-other}
-use Rattle.relation.proofs.Mask.{member-none, below-or-not}
+use Rattle.word.specs.Mask.{Test, member, up-to, without-member, either, except, Lowest}
+use Rattle.set.specs.Words.{mask as mask-of, words}
+use Rattle.relation.specs.Rows.{row-of, height, rows-in, put-row}
+use Rattle.set.specs.declared.Set.{Set}
+use Rattle.relation.proofs.RowLaws.{length-put, row-put, row-put-other}
+use Rattle.word.proofs.Mask.{member-none, below-or-not}
 use Rattle.relation.proofs.Parts.{part-row}
 use Rattle.matrix.proofs.MaskedLaws.{true-or-false, neither, except-at, either-at, either-left, either-right, drop-at, drop-out, no-members}
 use Rattle.buffer.specs.Buffer.{with-part}
@@ -37,7 +38,7 @@ use Rattle.buffer.proofs.Parts.{part-size, part-is, part-length, part-before}
 use Rattle.relate.specs.Ranked.{RanksRight}
 use Rattle.fit.specs.Partner.{NextCoded}
 use Rattle.fit.specs.Ranked.{InRound, Cut}
-use Rattle.fit.proofs.Fitting.{other-code}
+use Rattle.fit.proofs.Codes.{other-code}
 use Rattle.fit.proofs.Comparing.{cut-fits}
 use Rattle.fit.proofs.Steps.{upto-next, none-passes}
 use Rattle.choice.specs.Choice.{Names, SetsJoined, Parted, Lost, Choice, round-fits-some, Tested}

@@ -11,8 +11,8 @@ use Rattle.simulation.specs.Round.{Relation, fits-step, round, rank}
 use Rattle.simulation.specs.Tree.{apart-by, chosen, set-of}
 use Rattle.form.specs.Form.{start-of}
 use Rattle.form.specs.Tables.{first-form, second-form, first-table, second-table, first-step}
-use Rattle.relation.specs.Mask.{member}
-use Rattle.relation.specs.Words.{row-of}
+use Rattle.word.specs.Mask.{member}
+use Rattle.relation.specs.Rows.{row-of}
 
 -- what n adds to the set of each target of m
 pub record Added (R : Relation) (m n : Transition) (sets sets′ : List ℕ) : Type 0 where

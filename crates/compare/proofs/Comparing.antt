@@ -19,11 +19,11 @@ use Rattle.simulation.proofs.Finite.Tests.{or-cases, or-left, or-right}
 use Rattle.simulation.proofs.Simulation.RankList.{rank-list-length, rank-list-at}
 use Rattle.form.specs.Tables.{first-form, second-form, first-table, second-table, BothLoaded}
 use Rattle.simulation.specs.Limits.{most-pairs, most-states}
-use Rattle.witness.proofs.Showing.{count-small}
+use Rattle.pair_tree.proofs.Putting.{count-small}
 use Rattle.flows.specs.Flow.{Right, flow-bytes, flow-room}
 use Rattle.ranking.specs.Rows.{Open, RanksFilled}
-use Rattle.relation.specs.Mask.{Test}
-use Rattle.relation.specs.Words.{height}
+use Rattle.word.specs.Mask.{Test}
+use Rattle.relation.specs.Rows.{height}
 use Rattle.relation.specs.Related.{related, all-below}
 use Rattle.relation.specs.declared.Relation.{Relation}
 use Rattle.relate.specs.Ranked.{RanksRight}
@@ -34,7 +34,8 @@ use Rattle.buffer.specs.Buffer.{over}
 use Rattle.counting.specs.Count.{longest}
 use Rattle.counting.proofs.Pairs.{place-below}
 use Rattle.compare.specs.Outcome.{Buffers, Result, success, lent, left}
-use Rattle.witness.specs.Shown.{tree-bytes, FlowShown, TreeShown}
+use Rattle.simulation.specs.Tree.{tree-bytes}
+use Rattle.witness.specs.Shown.{FlowShown, TreeShown}
 use Rattle.answer.specs.Numbers.{refusal, with-written}
 use Rattle.compare.specs.Steps.{found-answer, Compared}
 use Rattle.compare.specs.Condition.{Inside, Ready, outside, flow-fits, tree-fits, Condition, short-ranks, short-flow, short-tree, long-tree, result-of}

@@ -12,7 +12,7 @@ use Rattle.answer.specs.Display.{filled-part}
 use Rattle.answer.proofs.Parts.{first-none, first-over, part-kept, part-other}
 use Rattle.buffer.specs.Buffer.{over}
 use Rattle.compare.specs.Outcome.{Buffers, Result, success}
-use Rattle.witness.specs.Shown.{tree-bytes}
+use Rattle.simulation.specs.Tree.{tree-bytes}
 use Rattle.compare.specs.Condition.{Condition, outside, short-ranks, short-flow, short-tree, long-tree, flow-fits, tree-fits, result-of}
 
 -- the part that the answer tells of

@@ -16,7 +16,7 @@ use Rattle.simulation.proofs.Finite.Tests.{is-true, is-false, or-cases, or-left
 use Rattle.flows.specs.Flow.{flow-room, flow-bytes}
 use Rattle.counting.specs.Count.{longest}
 use Rattle.compare.specs.Outcome.{Buffers, Result, success, with-flow, with-tree, kept-outcome, fallen-outcome, outcome, ranked}
-use Rattle.witness.specs.Shown.{tree-bytes}
+use Rattle.simulation.specs.Tree.{tree-bytes}
 use Rattle.answer.specs.Numbers.{refusal}
 use Rattle.compare.specs.Condition.{Inside, Condition, short-ranks, short-flow, short-tree, long-tree, result-of, Ready, outside, flow-fits, tree-fits}
 

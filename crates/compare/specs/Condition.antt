@@ -10,7 +10,7 @@ use Rattle.counting.specs.Count.{longest}
 use Rattle.flows.specs.Flow.{flow-bytes, flow-room}
 use Rattle.answer.specs.Numbers.{refusal}
 use Rattle.compare.specs.Outcome.{Buffers, Result, success, ranked, with-flow, with-tree}
-use Rattle.witness.specs.Shown.{tree-bytes}
+use Rattle.simulation.specs.Tree.{tree-bytes}
 
 module _ (M N : Table) (s t : ℕ) (b : Buffers) where
   abbrev pub Inside : Type 0

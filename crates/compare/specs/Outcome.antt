@@ -12,7 +12,7 @@ use Rattle.simulation.specs.Round.{pairs, rank, rank-list, maximum, zeros}
 use Rattle.counting.specs.Count.{longest}
 use Rattle.buffer.specs.Buffer.{over}
 use Rattle.flows.specs.Flow.{flow-bytes, flow-room}
-use Rattle.witness.specs.Shown.{tree-bytes}
+use Rattle.simulation.specs.Tree.{tree-bytes}
 use Rattle.answer.specs.declared.answer.Answer.{Answer}
 use Rattle.answer.specs.Numbers.{refusal}
 

@@ -16,7 +16,7 @@ use Rattle.simulation.specs.Sum.{when}
 use Rattle.simulation.specs.Fit.{weight, total, fits?, Positive}
 use Rattle.simulation.proofs.Finite.Sums.{one-same, when-most}
 use Rattle.simulation.proofs.Finite.Tests.{true-T}
-use Rattle.relation.proofs.Mask.{below-or-not}
+use Rattle.word.proofs.Mask.{below-or-not}
 use Rattle.greedy.proofs.StartLaws.{supply-fits, weight-le}
 use Rattle.corner.proofs.Overlap.{end-of, end-none, end-next, end-le, end-last, amount, row-within, column-within, shares-out}
 

@@ -2,8 +2,8 @@
 // It takes no memory and at most one step for each target. It shares two distributions out if it meets related pairs alone; near copies
 // mostly pass.
 use greedy::total_weight;
-use relation::Word;
 use relation::rows;
+use word::Word;
 ghost use mathlib.Core.Path.{_≡_};
 ghost use mathlib.Core.Bool.{true};
 ghost use Rattle.simulation.specs.Fit.{fits?};

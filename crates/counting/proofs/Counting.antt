@@ -19,9 +19,9 @@ use Rattle.simulation.specs.Round.{pairs}
 use Rattle.simulation.specs.Length.{pair-length}
 use Rattle.simulation.proofs.Finite.Sums.{sum-bound, sum-none, sum-more, when-most}
 use Rattle.form.proofs.FormLaws.{limits, pairs-bound}
-use Rattle.relation.specs.Mask.{Test, member, without-member, Lowest}
-use Rattle.relation.specs.Words.{row-of}
-use Rattle.relation.proofs.Mask.{member-none}
+use Rattle.word.specs.Mask.{Test, member, without-member, Lowest}
+use Rattle.relation.specs.Rows.{row-of}
+use Rattle.word.proofs.Mask.{member-none}
 use Rattle.choice.specs.Choice.{Lost}
 use Rattle.counting.proofs.Pairs.{same-pair, place-below, lost-place, member-holds, without-in}
 use Rattle.counting.proofs.Targets.{ChoiceGiven, few-targets, state-at, state-low, state-row, child-lost, length-parts}

@@ -14,8 +14,8 @@ use Rattle.simulation.specs.Table.{Table, states-of}
 use Rattle.simulation.specs.Round.{pairs}
 use Rattle.simulation.specs.Length.{pair-length}
 use Rattle.simulation.proofs.Finite.Sums.{sum-ext, sum-zero, sum-add, sum-mul, sum-change, sum-pick}
-use Rattle.relation.specs.Mask.{Test, member}
-use Rattle.relation.specs.Words.{row-of}
+use Rattle.word.specs.Mask.{Test, member}
+use Rattle.relation.specs.Rows.{row-of}
 use Rattle.counting.proofs.Pairs.{same-pair, place-below}
 use Rattle.counting.specs.Count.{owed, child}
 

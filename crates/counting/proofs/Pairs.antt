@@ -17,7 +17,7 @@ use Rattle.simulation.specs.Round.{pairs}
 use Rattle.simulation.proofs.Finite.Tests.{and-left}
 use Rattle.form.specs.Tables.{first-form, second-form, first-table, second-table, BothLoaded}
 use Rattle.form.proofs.FormLaws.{limits}
-use Rattle.relation.specs.Mask.{Test, member, without-member, Lowest}
+use Rattle.word.specs.Mask.{Test, member, without-member, Lowest}
 use Rattle.relate.specs.Ranked.{RanksRight}
 use Rattle.choice.specs.Choice.{Lost}
 use Rattle.choice.proofs.Choices.{pair-place}

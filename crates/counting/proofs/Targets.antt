@@ -18,8 +18,8 @@ use Rattle.simulation.proofs.Trees.Length.{pair-length-step}
 use Rattle.form.specs.Form.{transitions-of}
 use Rattle.form.specs.Tables.{first-form, first-table, second-table, first-step, BothLoaded}
 use Rattle.form.proofs.FormLaws.{sound}
-use Rattle.relation.specs.Mask.{Test, member}
-use Rattle.relation.specs.Words.{row-of}
+use Rattle.word.specs.Mask.{Test, member}
+use Rattle.relation.specs.Rows.{row-of}
 use Rattle.choice.specs.Choice.{Lost, Choice, SetsChosen}
 use Rattle.relate.proofs.Places.{targets-count, target-state, target-small, few-places}
 use Rattle.choice.proofs.Choices.{choice-number, choice-width, below-lost}

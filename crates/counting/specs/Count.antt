@@ -12,8 +12,8 @@ use Rattle.simulation.specs.Table.{Table, states-of}
 use Rattle.simulation.specs.Round.{pairs}
 use Rattle.simulation.specs.Length.{pair-length}
 use Rattle.form.specs.Tables.{first-table, second-table, BothLoaded}
-use Rattle.relation.specs.Mask.{member}
-use Rattle.relation.specs.Words.{row-of, height}
+use Rattle.word.specs.Mask.{member}
+use Rattle.relation.specs.Rows.{row-of, height}
 use Rattle.choice.specs.Choice.{Lost, Choice, SetsChosen}
 
 -- the bytes of the transitions that still have to be counted, each with all below it

@@ -2,16 +2,16 @@
 // The bytes counted are never more than the tree's, so one that is too long shows before all its pairs are looked at.
 use form::Form;
 use form::tables;
-use relation::Word;
 use relation::rows;
-use relation::set::Set;
-use relation::walk;
+use set::Set;
+use set::walk;
 use simulation::Table;
+use word::Word;
 ghost use mathlib.Core.Path.{_≡_};
 ghost use Prim.Native.Nat.{ℕ, _≤_, _<_};
 ghost use lib.ListN.{length, getD};
 ghost use Rattle.simulation.specs.Limits.{most-pairs};
-ghost use Rattle.relation.specs.Words.{mask};
+ghost use Rattle.set.specs.Words.{mask};
 ghost use Rattle.counting.specs.Count.{Within, RowAdded, CountsGiven, CountsAdded, HandGiven, Tallied};
 
 // The most bytes that a tree may have.

@@ -12,7 +12,7 @@ use lib.Dec.{T, T-not, not-T}
 use lib.ListN.{length}
 use Rattle.simulation.specs.Sum.{any, when}
 use Rattle.simulation.specs.Fit.{Set, Positive, weight, weight-of, total, touched, gain, largest-gain, fits?, cut}
-use Rattle.simulation.proofs.Finite.Tests.{either, both, and-left, and-right, by-contradiction, is-true, is-false, true-T, same-test, any-some, some-any, touched-some, some-touched}
+use Rattle.simulation.proofs.Finite.Tests.{true-or-not, and-both, and-left, and-right, by-contradiction, is-true, is-false, true-T, same-test, any-some, some-any, touched-some, some-touched}
 use Rattle.simulation.proofs.Finite.Sums.{sum-ext, sum-mono, sum-tight, when-mono}
 use Rattle.simulation.proofs.Fit.Gain.{gain-largest, largest-gained, gain-fits, cut-least, cut-all}
 use Rattle.simulation.proofs.Fit.Lemma1.{gain-excess}
@@ -69,12 +69,12 @@ module _ (R : ℕ → ℕ → Bool) (ws vs : List ℕ) (S H : Set)
       let r = any-some (length ws) (λ i. X i && not (S i)) t in
       inl (outside X (r .0) (r .1) (and-left (X (r .0)) (not (S (r .0))) (r .2)) (is-false (S (r .0)) (T-not (S (r .0)) (and-right (X (r .0)) (not (S (r .0))) (r .2))))))
       (λ f.
-      let inside : (i : ℕ) → i < length ws → T (X i) → T (S i) = λ i l t. by-contradiction (S i) (λ n. T-not (any (length ws) (λ i. X i && not (S i))) f (some-any (length ws) (λ i. X i && not (S i)) i l (both (X i) (not (S i)) t (not-T (S i) n)))) in
+      let inside : (i : ℕ) → i < length ws → T (X i) → T (S i) = λ i l t. by-contradiction (S i) (λ n. T-not (any (length ws) (λ i. X i && not (S i))) f (some-any (length ws) (λ i. X i && not (S i)) i l (and-both (X i) (not (S i)) t (not-T (S i) n)))) in
       ⊎-elim
       (λ t. let r = any-some (length ws) X t in inr (within X (r .0) (r .1) (r .2) inside))
       (λ g. inl (nothing X (λ i l. is-false (X i) (λ t. T-not (any (length ws) X) g (some-any (length ws) X i l t)))))
-      (either (any (length ws) X)))
-      (either (any (length ws) (λ i. X i && not (S i))))
+      (true-or-not (any (length ws) X)))
+      (true-or-not (any (length ws) (λ i. X i && not (S i))))
 
   lighter : (X : Set) → Within R ws vs S H X → (i : ℕ) → i < length ws → when (X i) (weight ws i) ≤ when (S i) (weight ws i)
   lighter X w i l = when-mono (X i) (S i) (weight ws i) (w .inside i l)
@@ -95,7 +95,7 @@ module _ (R : ℕ → ℕ → Bool) (ws vs : List ℕ) (S H : Set)
         (λ f.
         absurd
         (omega (arith, ap (λ (n : ℕ). total vs * n) (weight-none ws S (λ i l. is-false (S i) (λ t. T-not (any (length ws) S) f (some-any (length ws) S i l t)))))))
-        (either (any (length ws) S))
+        (true-or-not (any (length ws) S))
 
     -- a set that gains no less than S lies within it, and gains no more
     close : (X : Set) → gain R ws vs S ≤ gain R ws vs X → Within R ws vs S H X × (gain R ws vs X ≤ gain R ws vs S)

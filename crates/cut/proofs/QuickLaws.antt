@@ -14,9 +14,9 @@ use lib.ListN.{length}
 use Rattle.simulation.specs.Limits.{most-states}
 use Rattle.simulation.specs.Fit.{Positive, total, weight-of, fits?, cut}
 use Rattle.simulation.proofs.Fit.Quick.{weight-short, cut-products, cut-none, cut-some}
-use Rattle.relation.specs.Mask.{Test, member, up-to, with-member, both, either, except}
-use Rattle.relation.specs.Words.{row-of}
-use Rattle.relation.proofs.Mask.{member-none, below-or-not, no-member, some-member}
+use Rattle.word.specs.Mask.{Test, member, up-to, with-member, both, either, except}
+use Rattle.relation.specs.Rows.{row-of}
+use Rattle.word.proofs.Mask.{member-none, below-or-not, no-member, some-member}
 use Rattle.relation.specs.Related.{holds}
 use Rattle.cut.specs.Quick.{CutOf, Lacking, IsCut, heavier}
 use Rattle.cut.proofs.Alike.{alike-fits, alike-cut}

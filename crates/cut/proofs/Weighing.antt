@@ -13,7 +13,7 @@ use Rattle.simulation.specs.Sum.{when}
 use Rattle.simulation.specs.Fit.{weight, weight-of, total}
 use Rattle.simulation.proofs.Finite.Sums.{sum-change, sum-term, sum-bound, when-most}
 use Rattle.simulation.proofs.Fit.Quick.{weight-none, weight-most}
-use Rattle.relation.specs.Mask.{Test, member, without-member, Lowest}
+use Rattle.word.specs.Mask.{Test, member, without-member, Lowest}
 use Rattle.cut.specs.Quick.{heavier}
 use Rattle.greedy.proofs.StartLaws.{supply-fits}
 use Rattle.matrix.proofs.MaskedLaws.{no-members, drop-at}

@@ -7,7 +7,7 @@ use Prim.Native.Nat.{ℕ, _*_, _≤_, _<_}
 use lib.Dec.{eqb, ltb}
 use lib.ListN.{length}
 use Rattle.simulation.specs.Fit.{total, weight-of, fits?, cut}
-use Rattle.relation.specs.Mask.{member}
+use Rattle.word.specs.Mask.{member}
 use Rattle.relation.specs.Related.{holds}
 
 -- the mask r is 01's smallest of the sets with the largest excess, empty exactly if m fits n

@@ -1,19 +1,19 @@
 // The cut of two distributions, mostly without a flow: where the rows that lack a column have the same columns.
 use greedy::total_weight;
-use relation::Word;
 use relation::rows;
-use relation::set;
-use relation::set::Set;
-use relation::walk;
+use set::Set;
+use set::walk;
 use transport::maximum_flow;
+use word::Word;
 ghost use mathlib.Core.Path.{_≡_};
 ghost use mathlib.Core.Bool.{true};
 ghost use Prim.Native.Nat.{ℕ, _+_, _≤_, _<_};
 ghost use lib.ListN.{length};
 ghost use Rattle.simulation.specs.Limits.{most-states, most-total};
 ghost use Rattle.simulation.specs.Fit.{Positive, total, weight-of};
-ghost use Rattle.relation.specs.Mask.{member, «up-to»};
-ghost use Rattle.relation.specs.Words.{mask, height};
+ghost use Rattle.word.specs.Mask.{member, «up-to»};
+ghost use Rattle.set.specs.Words.{mask};
+ghost use Rattle.relation.specs.Rows.{height};
 ghost use Rattle.matrix.specs.Problem.{Given};
 ghost use Rattle.cut.specs.Quick.{CutOf, Lacking, IsCut, heavier};
 

@@ -10,32 +10,29 @@ use native.Mathlib.Decide.{ℕ-discrete, decLt}
 use borrow.Author.Tests.{eq-eqb, ne-eqb}
 use lib.Dec.{T, T-not, eqb}
 use lib.ListN.{length}
-use mir.Val.{boolByte}
 use Rattle.simulation.specs.Limits.{most-states}
 use Rattle.simulation.specs.Sum.{when}
 use Rattle.simulation.specs.Table.{Table, states-of}
 use Rattle.simulation.specs.Round.{Relation, related, survives}
-use Rattle.simulation.proofs.Finite.Sums.{one-most}
-use Rattle.simulation.proofs.Finite.Tests.{both as both-of, and-left, and-right, is-false}
+use Rattle.simulation.proofs.Finite.Tests.{and-both, and-left, and-right, is-false}
 use Rattle.simulation.proofs.Simulation.Relation.{relation-at, relation-right}
-use Rattle.relation.specs.Mask.{Test, member, with-member, without-member, except, Lowest}
-use Rattle.relation.specs.Words.{mask, row-of, height, put-row}
-use Rattle.relation.specs.declared.set.Set.{Set}
-use Rattle.relation.proofs.Sets.{mask-lt, length-put, row-put, row-put-other}
+use Rattle.word.specs.Mask.{Test, member, with-member, without-member, except, Lowest}
+use Rattle.set.specs.Words.{mask}
+use Rattle.relation.specs.Rows.{row-of, height, put-row}
+use Rattle.set.specs.declared.Set.{Set}
+use Rattle.set.proofs.Sets.{mask-lt}
+use Rattle.relation.proofs.RowLaws.{length-put, row-put, row-put-other}
 use Rattle.relation.proofs.Parts.{part-height, part-put, part-put-before, part-put-after}
-use Rattle.relation.proofs.Mask.{member-none, no-member, flag-is, one-is, some-member}
+use Rattle.word.proofs.Mask.{member-none, no-member, one-is, some-member}
 use Rattle.relation.specs.Related.{holds}
 use Rattle.form.specs.Tables.{first-table, second-table}
-use Rattle.fit.specs.Held.{held, relation-of, matched}
+use Rattle.decision.specs.Fitting.{held, relation-of}
+use Rattle.fit.specs.Held.{matched}
 use Rattle.dropping.specs.Falling.{falls, Doubtless, Judged, Fallen, StatesOnly, Falling, DoubtsKnown}
 use Rattle.dropping.specs.Dropping.{Dropping}
 use Rattle.links.specs.Places.{HasMarks, doubt-in, lost-in}
 use Rattle.links.specs.Links.{Empty}
 use Rattle.links.proofs.Walks.{left-self, left-other, left-member}
-
--- a flag is a bit
-pub flag-few : (b : Bool) → boolByte b < 2
-flag-few b = omega (arith, flag-is b, one-most b)
 
 -- the test's outcome decides
 judged-by : {pass outcome : Bool} {t x y : ℕ} → pass ≡ outcome → ((k : ℕ) → member y k ≡ ((eqb k t && not outcome) || member x k)) → Judged pass t x y
@@ -223,7 +220,7 @@ waiting-start {tables} {sets} {rows} {marks} {doubtful} none d =
         let lives = survives (first-table tables) (second-table tables) R s t in
         let x : T (related R s t) = and-left (related R s t) (not lives) h in
         T-not lives (and-right (related R s t) (not lives) h)
-        (both-of (related R s t) (matched (first-table tables) (second-table tables) R s t) x (ready .sure s a t (ap (λ (b : Bool). b && holds (doubt-in marks) s t) m) x))
+        (and-both (related R s t) (matched (first-table tables) (second-table tables) R s t) x (ready .sure s a t (ap (λ (b : Bool). b && holds (doubt-in marks) s t) m) x))
 
 -- one row more is judged: its doubts are settled, and the pairs that fall are lost
 pub waiting-next : {tables rows marks marks₁ marks₂ : List ℕ} {left rest s fell : ℕ} (z row fell′ : Set) → s < most-states

@@ -10,12 +10,13 @@ use Rattle.simulation.specs.Sum.{any-of}
 use Rattle.simulation.specs.Table.{Transition, Table, states-of, steps}
 use Rattle.simulation.specs.Round.{fits-step}
 use Rattle.simulation.proofs.Finite.Tests.{is-true, true-T, is-false, same-test, both-true}
-use Rattle.relation.specs.Mask.{Test, member, both, except}
-use Rattle.relation.specs.Words.{row-of}
+use Rattle.word.specs.Mask.{Test, member, both, except}
+use Rattle.relation.specs.Rows.{row-of}
 use Rattle.relation.specs.Related.{holds}
 use Rattle.form.specs.Form.{Loaded, start-of}
 use Rattle.form.specs.Tables.{first-form, first-table, second-table}
-use Rattle.fit.specs.Held.{relation-of, matched, answered}
+use Rattle.decision.specs.Fitting.{relation-of}
+use Rattle.fit.specs.Held.{matched, answered}
 use Rattle.fit.proofs.Steps.{upto-next, one-fails, all-pass}
 use Rattle.dropping.specs.Falling.{falls, Doubtless, StatesOnly}
 use Rattle.dropping.proofs.Dropping.{with-both, related-row, falls-is}

@@ -3,9 +3,9 @@
 use mathlib.Core.List.{List}
 use Prim.Native.Nat.{ℕ, _≤_}
 use Rattle.simulation.specs.Limits.{most-states}
-use Rattle.relation.specs.Words.{height}
+use Rattle.relation.specs.Rows.{height}
 use Rattle.form.specs.Tables.{second-form, first-table, second-table}
-use Rattle.fit.specs.Held.{relation-of}
+use Rattle.decision.specs.Fitting.{relation-of}
 use Rattle.fit.specs.Known.{TargetSets, Tried}
 use Rattle.links.specs.Places.{HasMarks, doubt-in, lost-in}
 use Rattle.links.specs.Links.{Empty}

@@ -5,13 +5,14 @@ use mathlib.Core.Bool.{Bool, true, false, not, _&&_}
 use mathlib.Core.List.{List}
 use mathlib.Core.Logic.{_≢_}
 use Prim.Native.Nat.{ℕ, _<_}
-use lib.Dec.{T, ltb}
-use Rattle.relation.specs.Words.{row-of}
-use Rattle.relation.specs.Mask.{Test, member, with-bit}
+use lib.Dec.{T}
+use Rattle.relation.specs.Rows.{row-of}
+use Rattle.word.specs.Mask.{Test, member, with-bit}
 use Rattle.relation.specs.Related.{holds}
-use Rattle.fit.specs.Held.{held, matched, coded}
-use Rattle.simulation.specs.Sum.{when, all-of}
-use Rattle.simulation.specs.Table.{Transition, Table, states-of, steps}
+use Rattle.decision.specs.Fitting.{held}
+use Rattle.fit.specs.Held.{matched}
+use Rattle.simulation.specs.Sum.{when}
+use Rattle.simulation.specs.Table.{Table, states-of}
 use Rattle.simulation.specs.Round.{Relation, related, survives}
 
 -- the pair (s, t) of R is not kept by the round after R
@@ -31,14 +32,6 @@ pub record Fallen (M N : Table) (R : Relation) (lost : List ℕ) (fell : ℕ) : 
 -- t joins a set unless the test passes
 pub record Judged (pass : Bool) (t x y : ℕ) : Type 0 where
   pub joins : member y ≡ with-bit t (when (not pass) 1) (member x)
-
--- the states of a table that lack a code
-abbrev pub lacks : Table → ℕ → Test
-lacks N c t = ltb t (states-of N) && not (coded c (steps N t))
-
--- those that lack a code of the state s of another table
-abbrev pub lacks-one : Table → Table → ℕ → Test
-lacks-one M N s t = ltb t (states-of N) && not (all-of (λ (m : Transition). coded (m .code) (steps N t)) (steps M s))
 
 -- a row has states of the second table only
 abbrev pub StatesOnly : Table → ℕ → Type 0

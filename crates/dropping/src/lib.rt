@@ -2,29 +2,29 @@
 use form::Form;
 use form::tables;
 use links::Marks;
-use relation::Word;
 use relation::rows;
-use relation::set;
-use relation::set::Set;
-use relation::walk;
-use relation::word;
+use set::Set;
+use set::walk;
+use word::Word;
 ghost use mathlib.Core.Path.{_≡_};
 ghost use mathlib.Core.Bool.{not, _&&_};
-ghost use Prim.Native.Nat.{ℕ, _+_, _*_, _<_, _≤_};
+ghost use Prim.Native.Nat.{ℕ, _<_, _≤_};
 ghost use lib.Dec.{eqb};
 ghost use lib.ListN.{length};
 ghost use Rattle.simulation.specs.Limits.{most-pairs, most-states};
 ghost use Rattle.simulation.specs.Table.{states-of};
 ghost use Rattle.simulation.specs.Round.{round};
-ghost use Rattle.relation.specs.Mask.{member, part};
-ghost use Rattle.relation.specs.Words.{word-bits, words, mask, row-of};
+ghost use Rattle.word.specs.Mask.{member};
+ghost use Rattle.set.specs.Words.{mask};
+ghost use Rattle.relation.specs.Rows.{row-of};
 ghost use Rattle.form.specs.Form.{transitions-of};
 ghost use Rattle.form.specs.Tables.{first-form, first-table, second-table, BothLoaded};
-ghost use Rattle.fit.specs.Held.{relation-of, answered};
+ghost use Rattle.decision.specs.Fitting.{relation-of};
+ghost use Rattle.fit.specs.Held.{answered};
 ghost use Rattle.fit.specs.Known.{Lent, Tried};
 ghost use Rattle.links.specs.Links.{Empty};
 ghost use Rattle.links.specs.Places.{HasMarks, lost-in};
-ghost use Rattle.dropping.specs.Falling.{falls, lacks, lacks-one, Doubtless, Judged, StatesOnly, Fallen};
+ghost use Rattle.dropping.specs.Falling.{falls, Doubtless, Judged, StatesOnly, Fallen};
 ghost use Rattle.dropping.specs.Dropping.{Dropping, Dropped};
 
 // t joins the set unless it passes.
@@ -135,54 +135,6 @@ pub fn drop_rows(
     fell
 }
 
-// Word w of the states of the second table that lack the code.
-fn lacking_word(tables: &[u16], code: u16, w: usize) -> Word
-    requires { ⌜ BothLoaded (now tables) × (w < words) ⌝ }
-    ensures { λ r. ⌜ member r ≡ part word-bits (λ u. lacks (second-table (now (tables .entry))) code (w * word-bits + u)) ⌝ }
-{
-    let q = tables::states(tables, Form::SECOND);
-    let start = set::start(w, q);
-    let n = set::start(w + 1, q) - start;
-    let mut without: Word = 0;
-    let mut u = 0;
-    while u < n {
-        let has = fit::has_code(tables, start + u, code);
-        without = word::with_bit(without, u, !has as Word);
-        u += 1;
-    }
-    without
-}
-
-// The states of the second table that lack the code, word by word: a set that grows by one place after the other goes through memory each time.
-fn lacking(tables: &[u16], code: u16) -> Set
-    requires { ⌜ BothLoaded (now tables) ⌝ }
-    ensures { λ r. ⌜ member (mask r) ≡ lacks (second-table (now (tables .entry))) code ⌝ }
-{
-    let mut without = set::empty();
-    for w in 0..Set::WORDS {
-        without.words[w] = lacking_word(tables, code, w);
-    }
-    without
-}
-
-// The states of the second table that lack a code of the state s.
-fn lacking_one(tables: &[u16], s: usize) -> Set
-    requires { ⌜ BothLoaded (now tables) × (s < states-of (first-table (now tables))) ⌝ }
-    ensures { λ r. ⌜ member (mask r) ≡ lacks-one (first-table (now (tables .entry))) (second-table (now (tables .entry))) s ⌝ }
-{
-    let end = tables::start_of(tables, Form::FIRST, s + 1);
-    let mut without = set::empty();
-    let mut j = tables::start_of(tables, Form::FIRST, s);
-    while j < end {
-        without = set::union(
-            without,
-            lacking(tables, tables::code(tables, Form::FIRST, j)),
-        );
-        j += 1;
-    }
-    without
-}
-
 // The first round: all pairs are related, so that transitions with the same code fit. Returns the rows that lose a pair.
 pub fn first_round(tables: &[u16], marks: &mut [Word]) -> Set
     requires { ⌜ BothLoaded (now tables) × HasMarks (now marks) × Empty (lost-in (now marks)) ⌝ }
@@ -193,7 +145,7 @@ pub fn first_round(tables: &[u16], marks: &mut [Word]) -> Set
     let mut fell = set::empty();
     let mut s = 0;
     while s < p {
-        let row = lacking_one(tables, s);
+        let row = lacking::lacking_one(tables, s);
         rows::put(marks, Marks::LOST + s, row);
         fell = with_row(fell, s, row);
         s += 1;

@@ -16,7 +16,7 @@ use Rattle.simulation.specs.Fit.{weight, total}
 use Rattle.simulation.proofs.Finite.Tests.{same?}
 use Rattle.simulation.proofs.Finite.Sums.{sum-ext, sum-mul, sum-swap, sum-pick, sum-le, sum-none, sum-mono, sum-when, when-most, when-zero}
 use Rattle.matrix.proofs.MatrixLaws.{running}
-use Rattle.relation.specs.Mask.{Test, member, part}
+use Rattle.word.specs.Mask.{Test, member, part}
 use Rattle.excess.specs.Excess.{set-count, within, under, set-of, NoSums, BySets}
 use Rattle.excess.proofs.Sets.{set-small, set-is}
 

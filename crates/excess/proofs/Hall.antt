@@ -16,7 +16,7 @@ use Rattle.simulation.proofs.Finite.Sums.{sum-ext, sum-mul, when-mul}
 use Rattle.simulation.proofs.Fit.Gain.{weight-split, gain-is, gain-ext, fits-gain, gain-fits}
 use Rattle.simulation.proofs.Fit.Hall.{fits?→Fits, Fits→fits?}
 use Rattle.greedy.proofs.StartLaws.{supply-fits}
-use Rattle.relation.specs.Mask.{member}
+use Rattle.word.specs.Mask.{member}
 use Rattle.excess.specs.Excess.{few, set-count, under, Carries, set-of, related-to, NoSums, BySets}
 use Rattle.excess.proofs.Sets.{set-small, member-at, outside, within-is}
 use Rattle.excess.proofs.Gathering.{under-is, all-is, sum-weights}

@@ -13,8 +13,8 @@ use Rattle.simulation.specs.Sum.{sum, when}
 use Rattle.simulation.specs.Fit.{Set, weight, weight-of, total}
 use Rattle.simulation.proofs.Finite.Tests.{last-or-below}
 use Rattle.simulation.proofs.Finite.Sums.{sum-mul, when-mul, when-zero}
-use Rattle.relation.specs.Mask.{member}
-use Rattle.relation.proofs.Mask.{below-or-not}
+use Rattle.word.specs.Mask.{member}
+use Rattle.word.proofs.Mask.{below-or-not}
 use Rattle.greedy.proofs.StartLaws.{weight-le}
 use Rattle.excess.specs.Excess.{few, parts, Summed, AtMost, Carries}
 

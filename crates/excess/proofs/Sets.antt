@@ -10,10 +10,10 @@ use lib.Dec.{T, eqb, ltb, ltb→lt, leb·suc-suc, lit<}
 use lib.Arith.{digits-div, digits-mod}
 use Rattle.simulation.specs.Sum.{any, when}
 use Rattle.simulation.specs.Fit.{Set, touched}
-use Rattle.simulation.proofs.Finite.Tests.{same-test, any-some, some-any, touched-some, some-touched, both, and-left, and-right}
+use Rattle.simulation.proofs.Finite.Tests.{same-test, any-some, some-any, touched-some, some-touched, and-both, and-left, and-right}
 use Rattle.simulation.proofs.Finite.Sums.{one-most}
-use Rattle.relation.specs.Mask.{member, part}
-use Rattle.relation.proofs.Mask.{member-none, mask-by-members, one-is}
+use Rattle.word.specs.Mask.{member, part}
+use Rattle.word.proofs.Mask.{member-none, mask-by-members, one-is}
 use Rattle.excess.specs.Excess.{few, set-count, within, set-of, related-to}
 
 one-below : (c : Bool) → when c 1 < 2
@@ -76,7 +76,7 @@ module _ (p : ℕ) (R : ℕ → ℕ → Bool) (small : p ≤ few) (k j : ℕ) wh
   leaves t =
       let w = touched-some p R (outside k) j t in
       some-any few lost (w .0) (omega (arith, w .1))
-      (both (member (related-to p R j) (w .0)) (outside k (w .0)) (subst T (sym (member-at p (λ i. R i j) (w .0) (w .1))) (w .3)) (w .2))
+      (and-both (member (related-to p R j) (w .0)) (outside k (w .0)) (subst T (sym (member-at p (λ i. R i j) (w .0) (w .1))) (w .3)) (w .2))
 
   pub within-is : within (related-to p R j) k ≡ not (touched p R (outside k) j)
   unfolding within

@@ -14,8 +14,8 @@ use lib.Seq.{getD-set-same, getD-set-other}
 use Rattle.simulation.specs.Sum.{sum, any, when}
 use Rattle.simulation.proofs.Finite.Tests.{is-true, last-or-below, same?}
 use Rattle.simulation.proofs.Finite.Sums.{sum-mono, when-most, when-same}
-use Rattle.relation.specs.Mask.{member}
-use Rattle.relation.proofs.Mask.{member-high, below-or-not}
+use Rattle.word.specs.Mask.{member}
+use Rattle.word.proofs.Mask.{member-high, below-or-not}
 use Rattle.excess.specs.Excess.{few, set-count, within, under, joined, Joined, Summed}
 
 -- what holds of every number below n, one after the other

@@ -5,7 +5,7 @@ use mathlib.Core.Bool.{true, false, not}
 use mathlib.Core.List.{List, [], _∷_, map}
 use Prim.Native.Nat.{ℕ}
 use lib.Dec.{eqb}
-use Rattle.relation.specs.Mask.{member}
+use Rattle.word.specs.Mask.{member}
 use Rattle.excess.specs.Excess.{within, under, parts, set-of}
 
 -- {0} in {0, 1}, {1} not in {0}, {0, 3} in all, the empty set in itself

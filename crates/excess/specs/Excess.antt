@@ -9,8 +9,8 @@ use lib.ListN.{length, getD}
 use Rattle.simulation.specs.Limits.{most-states}
 use Rattle.simulation.specs.Sum.{sum, any, when}
 use Rattle.simulation.specs.Fit.{total, weight-of}
-use Rattle.relation.specs.Mask.{member}
-use Rattle.relation.specs.Words.{height}
+use Rattle.word.specs.Mask.{member}
+use Rattle.relation.specs.Rows.{height}
 
 -- the most places, and how many sets they have
 abbrev pub few : ℕ

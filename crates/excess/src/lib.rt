@@ -2,21 +2,18 @@
 // A set of places is a number, and place i is a member if bit i is one.
 use gather::row_word;
 use greedy::total_weight;
-use relation::Word;
 use relation::rows;
-use relation::word;
+use word::Word;
 ghost use mathlib.Core.Path.{_≡_};
 ghost use Prim.Native.Nat.{ℕ, _+_, _-_, _*_, _^_, _≤_, _<_};
 ghost use lib.ListN.{length, getD, set};
 ghost use Rattle.simulation.specs.Limits.{most-states};
 ghost use Rattle.simulation.specs.Sum.{sum, when};
 ghost use Rattle.simulation.specs.Fit.{fits?, total, weight};
-ghost use Rattle.relation.specs.Mask.{member, part};
-ghost use Rattle.relation.specs.Words.{word-bits};
+ghost use Rattle.word.specs.Mask.{member, part, word-bits};
 ghost use Rattle.relation.specs.Related.{holds};
 ghost use Rattle.matrix.specs.Problem.{Sides, joins};
-ghost use Rattle.excess.specs.Excess.{few, set-count, joined, Joined, Summed, parts, AtMost, Carries};
-ghost use Rattle.excess.specs.Excess.{«set-of», «related-to», HasRows, AreStates, NoSums, BySets};
+ghost use Rattle.excess.specs.Excess.{few, set-count, joined, Joined, Summed, parts, AtMost, Carries, «set-of», «related-to», HasRows, AreStates, NoSums, BySets};
 
 pub struct Few {}
 

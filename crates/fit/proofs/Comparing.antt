@@ -16,7 +16,7 @@ use Rattle.relate.specs.Rows.{Rows}
 use Rattle.relate.proofs.Relating.{related-round}
 use Rattle.cut.specs.Quick.{CutOf}
 use Rattle.fit.specs.Ranked.{InRound, Cut}
-use Rattle.fit.proofs.Fitting.{same-code}
+use Rattle.fit.proofs.Codes.{same-code}
 
 -- the cut of the rows that were asked for
 pub cut-found : {tables ranks : List ℕ} {r j k : ℕ} {amounts rel rel′ ws vs : List ℕ} {mask : ℕ} → InRound tables ranks r j k amounts

@@ -1,8 +1,7 @@
 -- Laws that the proofs cite.
 -- Assumes nothing.
 pub mod Sets
-pub mod Covering
-pub mod Fitting
+pub mod Codes
 pub mod Steps
 pub mod Trying
 pub mod Partner

@@ -12,14 +12,14 @@ use lib.Dec.{T, eqb, ltb}
 use lib.ListN.{length, getD}
 use Rattle.simulation.specs.Table.{Transition, states-of, steps, no-transition, transition}
 use Rattle.simulation.specs.Round.{Relation, fits-step}
-use Rattle.relation.proofs.Mask.{below-or-not}
+use Rattle.word.proofs.Mask.{below-or-not}
 use Rattle.matrix.specs.Matrix.{cell}
 use Rattle.form.specs.Form.{start-of, transitions-of}
 use Rattle.form.specs.Tables.{second-form, second-table, first-step, BothLoaded}
 use Rattle.form.proofs.FormLaws.{counts, starts-ascend, start-bound, transition-of, transition-numbered}
-use Rattle.fit.specs.Held.{relation-of, fits-step-at, coded}
-use Rattle.fit.specs.Known.{Asked}
-use Rattle.fit.specs.Partner.{NextCoded, place, SharesIn, SharedOut, Sought, FirstFit}
+use Rattle.decision.specs.Fitting.{relation-of, Asked, SharesIn, SharedOut}
+use Rattle.fit.specs.Held.{fits-step-at, coded}
+use Rattle.fit.specs.Partner.{NextCoded, place, Sought, FirstFit}
 use Rattle.fit.proofs.Steps.{one-passes, none-passes}
 use Rattle.fit.proofs.Trying.{Unfitted}
 

@@ -19,11 +19,12 @@ use Rattle.simulation.proofs.Fit.Quick.{fits-step-less}
 use Rattle.form.specs.Form.{Loaded, start-of, transitions-of, table-of}
 use Rattle.form.specs.Tables.{first-form, second-form, second-table, first-step, second-step, BothLoaded}
 use Rattle.form.proofs.FormLaws.{limits, start-bound}
-use Rattle.relation.proofs.Mask.{below-or-not}
-use Rattle.fit.specs.Held.{relation-of, fitting, fits-step-at}
-use Rattle.fit.specs.Known.{Asked, Lent, Tried}
+use Rattle.word.proofs.Mask.{below-or-not}
+use Rattle.decision.specs.Fitting.{relation-of, fitting, Asked}
+use Rattle.fit.specs.Held.{fits-step-at}
+use Rattle.fit.specs.Known.{Lent, Tried}
 use Rattle.fit.specs.Partner.{NextCoded}
-use Rattle.fit.proofs.Fitting.{other-code, same-code}
+use Rattle.fit.proofs.Codes.{other-code, same-code}
 
 -- lengths are all that is asked of what is lent for work
 pub lent-all : {tables sets rows amounts rows′ amounts′ : List ℕ} → Lent tables sets rows amounts → length rows′ ≡ length rows → length amounts′ ≡ length amounts → Lent tables sets rows′ amounts′

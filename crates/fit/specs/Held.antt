@@ -1,30 +1,16 @@
--- Relations held as rows of masks, and the matching of transitions in them.
+-- The matching of transitions in a relation held as rows of masks.
 -- Assumes nothing.
 use mathlib.Core.Bool.{Bool}
 use mathlib.Core.List.{List}
 use Prim.Native.Nat.{ℕ}
 use lib.Dec.{eqb}
-use Rattle.relation.specs.Related.{holds}
-use Rattle.form.specs.Tables.{first-table, second-table, first-step, second-step}
+use Rattle.form.specs.Tables.{second-table, first-step, second-step}
 use Rattle.simulation.specs.Sum.{all-of, any-of}
-use Rattle.simulation.specs.Fit.{fits?}
-use Rattle.simulation.specs.Table.{Transition, Table, weights, states-of, steps}
-use Rattle.simulation.specs.Round.{Relation, between, relation, fits-step}
+use Rattle.simulation.specs.Table.{Transition, Table, steps}
+use Rattle.simulation.specs.Round.{Relation, fits-step}
+use Rattle.decision.specs.Fitting.{relation-of}
 
--- the relation that the rows hold between the states of two tables
-abbrev pub held : Table → Table → List ℕ → Relation
-held M N rows = relation (states-of M) (states-of N) (holds rows)
-
--- the same for the two tables of a list
-abbrev pub relation-of : (tables rows : List ℕ) → Relation
-relation-of tables rows = held (first-table tables) (second-table tables) rows
-
--- transition j of the first table fits transition l of the second in the relation of the rows, whatever their codes
-abbrev pub fitting : (tables rows : List ℕ) (j l : ℕ) → Bool
-fitting tables rows j l =
-    fits? (between (relation-of tables rows) (first-step tables j) (second-step tables l)) (weights (first-step tables j)) (weights (second-step tables l))
-
--- and they have the same code
+-- transition j of the first table fits transition l of the second in the relation of the rows, and they have the same code
 abbrev pub fits-step-at : (tables rows : List ℕ) (j l : ℕ) → Bool
 fits-step-at tables rows j l = fits-step (relation-of tables rows) (first-step tables j) (second-step tables l)
 

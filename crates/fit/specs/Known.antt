@@ -6,8 +6,8 @@ use mathlib.Core.List.{List}
 use Prim.Native.Nat.{ℕ, _+_, _*_, _≤_, _<_}
 use lib.ListN.{length, getD}
 use Rattle.simulation.specs.Limits.{most-pairs, most-states, most-transitions}
-use Rattle.relation.specs.Mask.{member}
-use Rattle.relation.specs.Words.{row-of, height}
+use Rattle.word.specs.Mask.{member}
+use Rattle.relation.specs.Rows.{row-of, height}
 use Rattle.form.specs.Form.{start-of, transitions-of, transition-at}
 use Rattle.form.specs.Tables.{first-form, second-form, second-table, BothLoaded}
 use Rattle.simulation.specs.Table.{targets, states-of}
@@ -18,19 +18,6 @@ pub record TargetSets (g sets : List ℕ) : Type 0 where
   pub room : most-transitions ≤ height sets
   pub has : (l i : ℕ) → l < transitions-of g → i < length (targets (transition-at g l)) → member (row-of sets l) (getD (targets (transition-at g l)) i 0) ≡ true
   pub only : (l u : ℕ) → l < transitions-of g → member (row-of sets l) u ≡ true → (i : ℕ) × (i < length (targets (transition-at g l))) × (getD (targets (transition-at g l)) i 0 ≡ u)
-
--- a mask has the first n numbers of a list, and no others
-pub record SetOf (ts : List ℕ) (n : ℕ) (mask : ℕ) : Type 0 where
-  pub has : (i : ℕ) → i < n → member mask (getD ts i 0) ≡ true
-  pub only : (u : ℕ) → member mask u ≡ true → (i : ℕ) × (i < n) × (getD ts i 0 ≡ u)
-
--- two tables, a row for each state, room for a flow, and a transition of each table by its number
-pub record Asked (tables rows amounts : List ℕ) (j l : ℕ) : Type 0 where
-  pub loaded : BothLoaded tables
-  pub rows-room : most-states ≤ height rows
-  pub amounts-room : most-pairs ≤ length amounts
-  pub from-first : j < transitions-of (first-form tables)
-  pub from-second : l < transitions-of (second-form tables)
 
 -- two tables, the target sets of the second, a row for each state, and room for a flow
 pub record Lent (tables sets rows amounts : List ℕ) : Type 0 where

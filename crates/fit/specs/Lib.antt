@@ -2,6 +2,5 @@
 -- Assumes nothing.
 pub mod Held
 pub mod Known
-pub mod Quick
 pub mod Partner
 pub mod Ranked

@@ -1,20 +1,19 @@
 -- The first transition of a state that a transition fits, and the amounts that share it out.
 -- Assumes nothing.
 use mathlib.Core.Path.{_≡_}
-use mathlib.Core.Bool.{Bool, true, false, cond}
+use mathlib.Core.Bool.{true, false, cond}
 use mathlib.Core.List.{List, [], _∷_}
 use Prim.Native.Nat.{ℕ, suc, _≤_, _<_}
 use lib.Dec.{T, eqb}
 use lib.ListN.{length}
 use Rattle.simulation.specs.Limits.{most-pairs, most-states}
-use Rattle.simulation.specs.Fit.{Amounts, Shares}
-use Rattle.simulation.specs.Table.{Transition, weights, states-of, steps, transition}
-use Rattle.simulation.specs.Round.{Relation, between, fits-step}
-use Rattle.relation.specs.Words.{height}
+use Rattle.simulation.specs.Table.{Transition, states-of, steps, transition}
+use Rattle.simulation.specs.Round.{Relation, fits-step}
+use Rattle.relation.specs.Rows.{height}
 use Rattle.matrix.specs.Matrix.{cell}
 use Rattle.form.specs.Form.{transitions-of}
 use Rattle.form.specs.Tables.{first-form, second-table, first-step, second-step, BothLoaded}
-use Rattle.fit.specs.Held.{relation-of, fitting}
+use Rattle.decision.specs.Fitting.{relation-of, SharesIn}
 
 -- r is the first transition of the second table that has the code c, from l on and before the end; the end if there is none
 pub record NextCoded (tables : List ℕ) (c l end r : ℕ) : Type 0 where
@@ -28,15 +27,6 @@ unfoldable pub place : Relation → Transition → List Transition → ℕ
 unfolding fits-step
 place R m [] = 0
 place R m (n ∷ ns) = cond (fits-step R m n) 0 (suc (place R m ns))
-
--- right amounts for m and n in R
-abbrev pub SharesIn : Relation → (m n : Transition) → Amounts → Type 0
-SharesIn R m n x = Shares (λ i j. T (between R m n i j)) (weights m) (weights n) x
-
--- r says whether transition j of the first table fits transition l of the second, whatever their codes; if it does, the amounts are right
-pub record SharedOut (tables rows : List ℕ) (j l : ℕ) (r : Bool) (amounts : List ℕ) : Type 0 where
-  pub answer : r ≡ fitting tables rows j l
-  pub shares : r ≡ true → SharesIn (relation-of tables rows) (first-step tables j) (second-step tables l) (cell amounts)
 
 -- a transition of the first table, and a state of the second that has one that it fits
 pub record Sought (tables rows amounts : List ℕ) (j t : ℕ) : Type 0 where

@@ -11,8 +11,8 @@ use Rattle.simulation.specs.Fit.{fits?}
 use Rattle.simulation.specs.Table.{Transition, weights}
 use Rattle.simulation.specs.Round.{Relation, between}
 use Rattle.simulation.specs.Tree.{cut-of}
-use Rattle.relation.specs.Mask.{member}
-use Rattle.relation.specs.Words.{row-of}
+use Rattle.word.specs.Mask.{member}
+use Rattle.relation.specs.Rows.{row-of}
 use Rattle.form.specs.Form.{transitions-of}
 use Rattle.form.specs.Tables.{first-form, second-form}
 use Rattle.relate.specs.Ranked.{RanksRight}

@@ -1,14 +1,14 @@
 // The same questions in the relation of a round, out of the ranks of all pairs: trees are told by them, when the rounds are over.
 use form::Form;
 use form::tables;
-use relation::Word;
-use relation::set;
-use relation::set::Set;
+use set::Set;
+use word::Word;
 ghost use mathlib.Core.Path.{_≡_};
 ghost use Prim.Native.Nat.{pred, _≤_};
 ghost use lib.ListN.{length};
 ghost use Rattle.simulation.specs.Round.{fits-step, round};
-ghost use Rattle.relation.specs.Words.{mask, height};
+ghost use Rattle.set.specs.Words.{mask};
+ghost use Rattle.relation.specs.Rows.{height};
 ghost use Rattle.form.specs.Tables.{first-table, second-table, first-step, second-step};
 ghost use Rattle.fit.specs.Ranked.{InRound, Cut};
 

@@ -8,7 +8,7 @@ use Rattle.simulation.specs.Fit.{Amounts, Fits}
 use Rattle.simulation.specs.Table.{Table, weights, states-of, steps, transition}
 use Rattle.simulation.specs.Round.{between, fits-step, pairs}
 use Rattle.simulation.specs.Demands.{Kept}
-use Rattle.fit.specs.Partner.{SharesIn}
+use Rattle.decision.specs.Fitting.{SharesIn}
 use Rattle.fit.proofs.Partner.{place-fits}
 use Rattle.flows.specs.Flow.{kept-relation, place-of, partner, Right}
 use Rattle.simulation.proofs.Fit.Hall.{fits?→Fits}

@@ -13,7 +13,8 @@ use Rattle.form.proofs.Sound.{few-targets}
 use Rattle.form.proofs.FormLaws.{states-count, limits, limited-at, targets-length, distribution-at, transition-number, transition-of}
 use Rattle.matrix.specs.Matrix.{cell}
 use Rattle.buffer.specs.Buffer.{Filled}
-use Rattle.fit.specs.Partner.{place, SharesIn, Sought, FirstFit}
+use Rattle.decision.specs.Fitting.{SharesIn}
+use Rattle.fit.specs.Partner.{place, Sought, FirstFit}
 use Rattle.flows.specs.Flow.{kept-relation, flow-of, step-room}
 use Rattle.flows.specs.FlowSteps.{Records, KeptIn, Shown}
 

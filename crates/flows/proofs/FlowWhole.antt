@@ -19,8 +19,8 @@ use Rattle.simulation.proofs.Simulation.Greatest.{kept-in}
 use Rattle.form.specs.Form.{table-of, start-of, transitions-of, transition-at}
 use Rattle.form.specs.Tables.{first-form, second-form, first-step}
 use Rattle.form.proofs.FormLaws.{limits, counts, transition-number, transition-of}
-use Rattle.fit.specs.Held.{relation-of}
-use Rattle.fit.specs.Partner.{SharesIn, Sought}
+use Rattle.decision.specs.Fitting.{relation-of, SharesIn}
+use Rattle.fit.specs.Partner.{Sought}
 use Rattle.matrix.specs.Matrix.{cell}
 use Rattle.buffer.specs.Buffer.{Filled}
 use Rattle.flows.specs.Flow.{kept-relation, one-flow, place-of, partner, step-room, Right, flow-bytes, flow-room}

@@ -9,9 +9,9 @@ use Rattle.simulation.specs.Fit.{Amounts}
 use Rattle.simulation.specs.Table.{Transition, Table, states-of, steps, transition}
 use Rattle.simulation.specs.Demands.{Kept}
 use Rattle.form.specs.Tables.{first-table, second-table, BothLoaded}
-use Rattle.relation.specs.Words.{height}
-use Rattle.fit.specs.Held.{relation-of}
-use Rattle.fit.specs.Partner.{place, SharesIn}
+use Rattle.relation.specs.Rows.{height}
+use Rattle.decision.specs.Fitting.{relation-of, SharesIn}
+use Rattle.fit.specs.Partner.{place}
 use Rattle.matrix.specs.Matrix.{cell}
 use Rattle.buffer.specs.Buffer.{Filled}
 use Rattle.flows.specs.Flow.{kept-relation, one-flow, Right, flow-bytes}

@@ -12,12 +12,13 @@ use lib.Dec.{T, T-not, ltb, ltb→lt}
 use lib.ListN.{length, getD, take, drop, length-take, length-drop}
 use lib.Seq.{getD-take, getD-drop}
 use Rattle.simulation.proofs.Finite.Sums.{one-most}
-use Rattle.simulation.proofs.Finite.Tests.{either, is-false, last-or-below}
-use Rattle.relation.specs.Mask.{Test, member, part, both, up-to, bit, with-bit}
-use Rattle.relation.specs.Words.{word-bits, mask, row-of, height, put-row}
-use Rattle.relation.specs.declared.set.Set.{Set}
-use Rattle.relation.proofs.Mask.{part-start, part-bit}
-use Rattle.relation.proofs.Sets.{row-put, row-put-other}
+use Rattle.simulation.proofs.Finite.Tests.{true-or-not, is-false, last-or-below}
+use Rattle.word.specs.Mask.{Test, member, part, both, up-to, bit, with-bit, word-bits}
+use Rattle.set.specs.Words.{mask}
+use Rattle.relation.specs.Rows.{row-of, height, put-row}
+use Rattle.set.specs.declared.Set.{Set}
+use Rattle.word.proofs.Mask.{part-start, part-bit}
+use Rattle.relation.proofs.RowLaws.{row-put, row-put-other}
 use Rattle.relation.specs.Related.{holds}
 use Rattle.gather.specs.Places.{Places, Ascending, row-at, Gathered}
 
@@ -86,7 +87,7 @@ module _ (ts : List ℕ) (up : Ascending ts) where
       omega (arith, apart k i (omega arith), ap (λ (m : ℕ). getD ts m 0) end, apart i 0 (omega arith), ap (λ (m : ℕ). getD ts m 0) (zero-add i))
 
   pub dense-row : (row : ℕ) {n : ℕ} → n ≡ length ts → 0 < n → getD ts (n - 1) 0 + 1 ≡ n → both (member row) (up-to n) ≡ part (length ts) (row-at row ts)
-  dense-row row {n} e pos last = fun-ext (λ k. at k (either (ltb k n)) ∙ ap (λ (m : ℕ). part m (row-at row ts) k) e)
+  dense-row row {n} e pos last = fun-ext (λ k. at k (true-or-not (ltb k n)) ∙ ap (λ (m : ℕ). part m (row-at row ts) k) e)
     where
       at : (k : ℕ) → T (ltb k n) ⊎ T (not (ltb k n)) → both (member row) (up-to n) k ≡ part n (row-at row ts) k
       at k (inl t) = and-comm (member row k) (ltb k n) ∙ ap (λ (m : ℕ). ltb k n && member row m) (sym (dense-at e pos last k (ltb→lt k n t)))

@@ -5,7 +5,7 @@ use mathlib.Core.List.{List}
 use Prim.Native.Nat.{ℕ, _+_, _≤_, _<_}
 use lib.ListN.{length, getD}
 use Rattle.simulation.specs.Limits.{most-states}
-use Rattle.relation.specs.Mask.{Test, member}
+use Rattle.word.specs.Mask.{Test, member}
 use Rattle.relation.specs.Related.{holds}
 
 -- places of targets: few, and each a state below n

@@ -1,15 +1,14 @@
 // Rows of a relation by the positions of targets: what a flow between two transitions works on.
-use relation::Word;
 use relation::rows;
-use relation::set;
-use relation::set::Set;
-use relation::word;
+use set::Set;
+use word::Word;
 ghost use mathlib.Core.Path.{_≡_};
 ghost use Prim.Native.Nat.{_<_, _≤_, _+_, _*_};
 ghost use lib.ListN.{length};
 ghost use Rattle.simulation.specs.Limits.{most-states};
-ghost use Rattle.relation.specs.Mask.{member, part};
-ghost use Rattle.relation.specs.Words.{word-bits, words, mask, row-of, height};
+ghost use Rattle.word.specs.Mask.{member, part, word-bits};
+ghost use Rattle.set.specs.Words.{words, mask};
+ghost use Rattle.relation.specs.Rows.{row-of, height};
 ghost use Rattle.gather.specs.Places.{Places, Ascending, row-at, Gathered};
 
 // Row s by positions, at most as many as a word has bits: bit j is that of the state at place j.

@@ -12,9 +12,9 @@ use lib.ListN.{length, getD}
 use borrow.Author.Tests.{eq-eqb, ne-eqb}
 use Rattle.simulation.specs.Limits.{most-pairs, most-states}
 use Rattle.simulation.specs.Sum.{sum, when}
-use Rattle.relation.specs.Mask.{Test, member, without-member, both, Lowest}
-use Rattle.relation.specs.Words.{row-of, height}
-use Rattle.relation.proofs.Mask.{member-none, below-or-not}
+use Rattle.word.specs.Mask.{Test, member, without-member, both, Lowest}
+use Rattle.relation.specs.Rows.{row-of, height}
+use Rattle.word.proofs.Mask.{member-none, below-or-not}
 use Rattle.relation.specs.Related.{holds}
 use Rattle.matrix.specs.Matrix.{cell, delta, row-sum, column-sum, AddsAt, Adds}
 use Rattle.matrix.specs.Masks.{with-nonzero, MaskOf, Noted}

@@ -11,7 +11,7 @@ use lib.Seq.{getD-set-same, getD-set-other}
 use Rattle.simulation.specs.Limits.{most-states, most-total}
 use Rattle.simulation.specs.Fit.{weight, total}
 use Rattle.simulation.proofs.Finite.Sums.{sum-mono, sum-mul, sum-term}
-use Rattle.relation.specs.Words.{row-of, height}
+use Rattle.relation.specs.Rows.{row-of, height}
 use Rattle.matrix.specs.Matrix.{cell, row-sum, column-sum}
 use Rattle.matrix.specs.Problem.{Given}
 use Rattle.matrix.specs.Flow.{missing, Flow, Preserves}

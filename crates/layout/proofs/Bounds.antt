@@ -44,12 +44,12 @@ module _ (s : List ℕ) where
   pub actions-bytes : actions-refusal s ≡ 0 → 1 + actions s ≤ length s
   actions-bytes e = leb-true (1 + actions s) (length s) (section-whole _ _ _ _ e .all-present)
 
-  pub record States : Type 0 where
+  pub record StatesBound : Type 0 where
     pub some : 0 < states s
     pub few : states s ≤ most-states
     pub bytes : states-at s + 1 + states s ≤ length s
 
-  pub states-bounds : states-refusal s ≡ 0 → States
+  pub states-bounds : states-refusal s ≡ 0 → StatesBound
   states-bounds e =
       let w = section-whole _ _ _ _ e in
       let rule = accepted-holds 3 (ltb 0 (states s) && leb (states s) most-states) (w .rule-kept) in
@@ -123,7 +123,7 @@ module _ (s : List ℕ) where
 
   -- the counts and places of an accepted table
   pub record AcceptedBounds : Type 0 where
-    pub of-states : States
+    pub of-states : StatesBound
     pub of-transitions : Transitions
     pub of-entries : Entries
 

@@ -10,12 +10,13 @@ use native.Mathlib.Decide.{ℕ-discrete}
 use lib.ListN.{length}
 use Rattle.simulation.specs.Limits.{most-states}
 use Rattle.simulation.proofs.Finite.Tests.{is-true, is-false, either-true}
-use Rattle.relation.specs.Mask.{Test, member, without-member, either}
-use Rattle.relation.specs.Words.{mask, row-of, height, put-row}
+use Rattle.word.specs.Mask.{Test, member, without-member, either}
+use Rattle.set.specs.Words.{mask}
+use Rattle.relation.specs.Rows.{row-of, height, put-row}
 use Rattle.relation.specs.Related.{holds}
-use Rattle.relation.specs.declared.set.Set.{Set}
-use Rattle.relation.proofs.Mask.{member-none}
-use Rattle.relation.proofs.Sets.{length-put, row-put, row-put-other}
+use Rattle.set.specs.declared.Set.{Set}
+use Rattle.word.proofs.Mask.{member-none}
+use Rattle.relation.proofs.RowLaws.{length-put, row-put, row-put-other}
 use Rattle.relation.proofs.Parts.{part-height, part-row, part-put, part-put-before, part-put-after}
 use Rattle.links.specs.Places.{before-in, behind-in, doubt-in, lost-in, HasMarks}
 use Rattle.links.specs.Links.{Covered, RowsBelow, RowsGrown, DoubtsAdded, Doubted}

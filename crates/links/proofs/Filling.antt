@@ -9,9 +9,10 @@ use lib.ListN.{length, getD, take, drop}
 use Rattle.simulation.specs.Limits.{most-states, most-transitions}
 use Rattle.buffer.specs.Buffer.{with-part}
 use Rattle.buffer.proofs.Parts.{part-size, part-is, part-length, part-before, part-after}
-use Rattle.relation.specs.Mask.{member}
-use Rattle.relation.specs.Words.{words, rows-in}
-use Rattle.relation.proofs.Mask.{member-none, below-or-not}
+use Rattle.word.specs.Mask.{member}
+use Rattle.set.specs.Words.{words}
+use Rattle.relation.specs.Rows.{rows-in}
+use Rattle.word.proofs.Mask.{member-none, below-or-not}
 use Rattle.relation.proofs.Parts.{part-row, part-past}
 use Rattle.relation.proofs.Relations.{zero-row}
 use Rattle.links.specs.Places.{HasSets, before-in, behind-in, targets-in}

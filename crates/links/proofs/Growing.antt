@@ -13,10 +13,11 @@ use lib.ListN.{length, getD}
 use Rattle.simulation.proofs.Finite.Tests.{last-or-below, left-true, right-true}
 use Rattle.simulation.specs.Table.{targets}
 use Rattle.form.specs.Form.{transition-at}
-use Rattle.relation.specs.Mask.{Test, member, with-member, either}
-use Rattle.relation.specs.Words.{mask, row-of, height, put-row}
-use Rattle.relation.specs.declared.set.Set.{Set}
-use Rattle.relation.proofs.Sets.{row-put, row-put-other}
+use Rattle.word.specs.Mask.{Test, member, with-member, either}
+use Rattle.set.specs.Words.{mask}
+use Rattle.relation.specs.Rows.{row-of, height, put-row}
+use Rattle.set.specs.declared.Set.{Set}
+use Rattle.relation.proofs.RowLaws.{row-put, row-put-other}
 use Rattle.relation.specs.Related.{holds}
 use Rattle.links.specs.Links.{RowsBelow, RowsGrown, Joins}
 

@@ -8,11 +8,11 @@ use native.Mathlib.Decide.{ℕ-discrete}
 use borrow.Author.Tests.{eq-eqb, ne-eqb}
 use lib.Dec.{eqb}
 use Rattle.simulation.proofs.Finite.Tests.{both-true}
-use Rattle.relation.specs.Mask.{Test, member, without-member}
-use Rattle.relation.specs.Words.{words, word-of, mask, after, rest}
-use Rattle.relation.specs.declared.set.Set.{Set}
-use Rattle.relation.proofs.Mask.{member-none}
-use Rattle.relation.proofs.Sets.{walk-begin, walk-into, walk-on, walk-done}
+use Rattle.word.specs.Mask.{Test, member, without-member}
+use Rattle.set.specs.Words.{words, word-of, mask, after, rest}
+use Rattle.set.specs.declared.Set.{Set}
+use Rattle.word.proofs.Mask.{member-none}
+use Rattle.set.proofs.Sets.{walk-begin, walk-into, walk-on, walk-done}
 
 -- what is left of a set without one of its members
 module _ (x y t : ℕ) (rest : member y ≡ without-member t (member x)) where

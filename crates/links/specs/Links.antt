@@ -6,8 +6,8 @@ use mathlib.Core.List.{List}
 use Prim.Native.Nat.{ℕ, _+_, _≤_, _<_}
 use lib.ListN.{length, getD}
 use Rattle.simulation.specs.Limits.{most-states}
-use Rattle.relation.specs.Words.{height}
-use Rattle.relation.specs.Mask.{member}
+use Rattle.relation.specs.Rows.{height}
+use Rattle.word.specs.Mask.{member}
 use Rattle.form.specs.Form.{start-of, transition-at, table-of}
 use Rattle.relation.specs.Related.{holds}
 use Rattle.simulation.specs.Table.{targets, states-of}

@@ -4,7 +4,8 @@ use mathlib.Core.List.{List}
 use Prim.Native.Nat.{ℕ, _+_, _*_, _≤_}
 use lib.ListN.{length}
 use Rattle.simulation.specs.Limits.{most-states, most-transitions}
-use Rattle.relation.specs.Words.{words, rows-in}
+use Rattle.set.specs.Words.{words}
+use Rattle.relation.specs.Rows.{rows-in}
 
 -- known before the rounds: for each state of the first table those that lead to it, the same for the second, the targets of each transition of the second
 abbrev pub before-in : List ℕ → List ℕ

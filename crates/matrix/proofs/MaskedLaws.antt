@@ -11,11 +11,12 @@ use lib.Dec.{eqb, ltb}
 use borrow.Author.Tests.{eq-eqb, ne-eqb, eqb-true, eqb-false, lt-ltb, ltb-true}
 use Rattle.simulation.specs.Limits.{most-states}
 use Rattle.simulation.proofs.Finite.Tests.{both-true, either-true, left-true, right-true}
-use Rattle.relation.specs.Mask.{Test, member, part, with-member, without-member, both, except, either}
-use Rattle.relation.specs.Words.{mask, row-of, height, put-row}
-use Rattle.relation.specs.declared.set.Set.{Set}
-use Rattle.relation.proofs.Mask.{member-none, below-or-not}
-use Rattle.relation.proofs.Sets.{row-put, row-put-other}
+use Rattle.word.specs.Mask.{Test, member, part, with-member, without-member, both, except, either}
+use Rattle.set.specs.Words.{mask}
+use Rattle.relation.specs.Rows.{row-of, height, put-row}
+use Rattle.set.specs.declared.Set.{Set}
+use Rattle.word.proofs.Mask.{member-none, below-or-not}
+use Rattle.relation.proofs.RowLaws.{row-put, row-put-other}
 use Rattle.relation.specs.Related.{holds}
 use Rattle.matrix.specs.Matrix.{cell, Adds}
 use Rattle.matrix.specs.Masks.{nonzero, with-nonzero, MaskOf, Used, Noted}

@@ -9,7 +9,7 @@ use Prim.Native.Nat.{ℕ, _+_, _≤_, _<_, _^_}
 use lib.ListN.{length, getD}
 use Rattle.simulation.specs.Limits.{most-pairs, most-states}
 use Rattle.simulation.specs.Sum.{sum}
-use Rattle.relation.specs.Words.{height}
+use Rattle.relation.specs.Rows.{height}
 use Rattle.relation.specs.Related.{holds}
 use Rattle.matrix.specs.Matrix.{cell, Outside, delta, row-sum, column-sum}
 use Rattle.matrix.specs.Masks.{Used}

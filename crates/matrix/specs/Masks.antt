@@ -6,8 +6,8 @@ use mathlib.Core.List.{List}
 use mathlib.Core.Logic.{_≢_}
 use Prim.Native.Nat.{ℕ, _≤_, _<_}
 use lib.Dec.{eqb}
-use Rattle.relation.specs.Mask.{Test, member}
-use Rattle.relation.specs.Words.{row-of}
+use Rattle.word.specs.Mask.{Test, member}
+use Rattle.relation.specs.Rows.{row-of}
 use Rattle.matrix.specs.Matrix.{cell}
 
 abbrev pub nonzero : ℕ → Bool

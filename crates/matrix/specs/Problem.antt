@@ -9,7 +9,7 @@ use lib.ListN.{length, getD}
 use Rattle.simulation.specs.Limits.{most-pairs, most-states, most-total}
 use Rattle.simulation.specs.Fit.{total, Positive}
 use Rattle.relation.specs.Related.{holds}
-use Rattle.relation.specs.Words.{height}
+use Rattle.relation.specs.Rows.{height}
 
 -- at most most-states targets on each side, totals within their limit, a mask for each row and room for the amounts
 pub record Given (ws vs rel x : List ℕ) : Type 0 where

@@ -1,16 +1,15 @@
 // One cell of the matrix of amounts and the senders of its column: the rows that have an amount in it.
-use relation::Word;
 use relation::rows;
-use relation::set;
-use relation::set::Set;
-use relation::word;
+use set::Set;
 use simulation::Table;
+use word::Word;
 ghost use mathlib.Core.Path.{_≡_};
 ghost use Prim.Native.Nat.{_+_, _^_, _≤_, _<_, min};
 ghost use lib.ListN.{length, getD};
 ghost use Rattle.simulation.specs.Limits.{most-pairs, most-states};
-ghost use Rattle.relation.specs.Mask.{member, part};
-ghost use Rattle.relation.specs.Words.{word-bits, mask, height};
+ghost use Rattle.word.specs.Mask.{member, part, word-bits};
+ghost use Rattle.set.specs.Words.{mask};
+ghost use Rattle.relation.specs.Rows.{height};
 ghost use Rattle.matrix.specs.Matrix.{cell, Put, AddsAt, Adds};
 ghost use Rattle.matrix.specs.Masks.{nonzero, with-nonzero, MaskOf, Noted};
 

@@ -18,12 +18,12 @@ use Rattle.simulation.specs.Round.{pairs}
 use Rattle.simulation.specs.Tree.{chosen, set-of}
 use Rattle.simulation.specs.Length.{one-length, pair-length, tree-length}
 use Rattle.simulation.proofs.Finite.Sums.{sum-bound, sum-term, sum-none, sum-more, when-most}
-use Rattle.simulation.proofs.Finite.Tests.{and-left, and-right, both, same-eqb, any-some, some-any}
+use Rattle.simulation.proofs.Finite.Tests.{and-left, and-right, and-both, same-eqb, any-some, some-any}
 use Rattle.simulation.proofs.Trees.Length.{pair-length-step}
 use Rattle.form.specs.Tables.{first-form, second-form, first-table, second-table, first-step, BothLoaded}
 use Rattle.form.proofs.FormLaws.{limits, sound, pairs-bound}
-use Rattle.relation.specs.Mask.{Test, member}
-use Rattle.relation.specs.Words.{row-of}
+use Rattle.word.specs.Mask.{Test, member}
+use Rattle.relation.specs.Rows.{row-of}
 use Rattle.relate.specs.Ranked.{RanksRight}
 use Rattle.choice.specs.Choice.{Lost, Choice, SetsChosen}
 use Rattle.choice.proofs.Choices.{below-lost}
@@ -378,9 +378,9 @@ module _ {tables ranks choices lengths order : List ℕ} {n : ℕ} (g : RanksRig
   is-met : (u v : ℕ) → Met u v → T (met u v)
   unfolding met
   is-met u v m =
-      both (any n (λ k. eqb (getD order k 0) (number tables u v))) _
+      and-both (any n (λ k. eqb (getD order k 0) (number tables u v))) _
       (some-any n (λ k. eqb (getD order k 0) (number tables u v)) (m .place) (m .listed) (same-eqb (m .is)))
-      (both (ltb v (states-of (second-table tables))) _ (lt→ltb v (states-of (second-table tables)) (m .right)) (lt→ltb (size-at u v) longest (m .short)))
+      (and-both (ltb v (states-of (second-table tables))) _ (lt→ltb v (states-of (second-table tables)) (m .right)) (lt→ltb (size-at u v) longest (m .short)))
 
   measured : size-at s t < longest → Measured tables choices lengths s t
   measured short =

@@ -12,8 +12,8 @@ use Rattle.simulation.specs.Sum.{sum, when}
 use Rattle.simulation.specs.Table.{states-of}
 use Rattle.simulation.proofs.Finite.Sums.{sum-ext, sum-zero, sum-change}
 use Rattle.form.specs.Tables.{second-table}
-use Rattle.relation.specs.Mask.{Test, member, without-member, Lowest}
-use Rattle.relation.proofs.Mask.{member-none}
+use Rattle.word.specs.Mask.{Test, member, without-member, Lowest}
+use Rattle.word.proofs.Mask.{member-none}
 use Rattle.counting.proofs.Pairs.{member-holds, without-in}
 use Rattle.measure.specs.Lengths.{set-length, SumGiven}
 

@@ -13,8 +13,8 @@ use Rattle.simulation.specs.Round.{pairs}
 use Rattle.simulation.specs.Tree.{chosen, set-of}
 use Rattle.simulation.specs.Length.{pair-length, tree-length}
 use Rattle.form.specs.Tables.{first-table, second-table, BothLoaded}
-use Rattle.relation.specs.Mask.{member}
-use Rattle.relation.specs.Words.{row-of, height}
+use Rattle.word.specs.Mask.{member}
+use Rattle.relation.specs.Rows.{row-of, height}
 use Rattle.relate.specs.Ranked.{RanksRight}
 use Rattle.choice.specs.Choice.{Lost, Choice}
 use Rattle.counting.specs.Count.{longest}

@@ -12,10 +12,12 @@ use Rattle.simulation.specs.Limits.{most-states}
 use Rattle.form.specs.Tables.{first-table, second-table}
 use Rattle.simulation.specs.Round.{rank}
 use Rattle.simulation.proofs.Finite.Tests.{same-eqb}
-use Rattle.relation.specs.Mask.{Test, member, only, without-member}
-use Rattle.relation.specs.Words.{word-of, mask, row-of, put-row, after, rest}
-use Rattle.relation.specs.declared.set.Set.{Set}
-use Rattle.relation.proofs.Sets.{length-put, row-put, row-put-other, walk-begin, walk-into, walk-on}
+use Rattle.word.specs.Mask.{Test, member, only, without-member}
+use Rattle.set.specs.Words.{word-of, mask, after, rest}
+use Rattle.relation.specs.Rows.{row-of, put-row}
+use Rattle.set.specs.declared.Set.{Set}
+use Rattle.set.proofs.Sets.{walk-begin, walk-into, walk-on}
+use Rattle.relation.proofs.RowLaws.{length-put, row-put, row-put-other}
 use Rattle.relation.proofs.Parts.{part-past}
 use Rattle.choice.specs.Choice.{Lost}
 use Rattle.counting.specs.Count.{longest, Tally, Tallied}

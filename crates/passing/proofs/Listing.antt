@@ -14,10 +14,11 @@ use Rattle.simulation.specs.Limits.{most-states}
 use Rattle.simulation.specs.Sum.{sum, any, when}
 use Rattle.simulation.proofs.Finite.Sums.{sum-ext, sum-one, sum-zero, sum-swap, sum-pick, sum-strict, one-most}
 use Rattle.simulation.proofs.Finite.Tests.{any-none}
-use Rattle.relation.specs.Mask.{Test, member, with-member, either}
-use Rattle.relation.specs.Words.{mask, row-of, height, put-row}
-use Rattle.relation.specs.declared.set.Set.{Set}
-use Rattle.relation.proofs.Sets.{length-put, row-put, row-put-other}
+use Rattle.word.specs.Mask.{Test, member, with-member, either}
+use Rattle.set.specs.Words.{mask}
+use Rattle.relation.specs.Rows.{row-of, height, put-row}
+use Rattle.set.specs.declared.Set.{Set}
+use Rattle.relation.proofs.RowLaws.{length-put, row-put, row-put-other}
 use Rattle.choice.proofs.Choosing.{eqb-flip}
 use Rattle.passing.specs.Passing.{todo-in, sets-in, HasRoom, ChildrenLent, ChildrenAdded}
 use Rattle.passing.proofs.Parts.{todo-row, sets-row, todo-put, sets-put, todo-height}

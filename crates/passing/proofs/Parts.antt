@@ -13,10 +13,11 @@ use lib.ListN.{length}
 use Rattle.simulation.specs.Limits.{most-states}
 use Rattle.buffer.specs.Buffer.{with-part}
 use Rattle.buffer.proofs.Parts.{part-size, part-is, part-before, part-length}
-use Rattle.relation.specs.Mask.{Test, member, without-member}
-use Rattle.relation.specs.Words.{words, mask, row-of, height, put-row}
-use Rattle.relation.specs.declared.set.Set.{Set}
-use Rattle.relation.proofs.Sets.{length-put, row-put, row-put-other}
+use Rattle.word.specs.Mask.{Test, member, without-member}
+use Rattle.set.specs.Words.{words, mask}
+use Rattle.relation.specs.Rows.{row-of, height, put-row}
+use Rattle.set.specs.declared.Set.{Set}
+use Rattle.relation.proofs.RowLaws.{length-put, row-put, row-put-other}
 use Rattle.relation.proofs.Parts.{part-height, part-row, part-put, part-put-before}
 use Rattle.passing.specs.Passing.{todo-in, sets-in, HasRoom}
 

@@ -17,11 +17,12 @@ use Rattle.simulation.specs.Sum.{any}
 use Rattle.simulation.specs.Table.{Table, targets, target-at}
 use Rattle.simulation.specs.Round.{pairs, rank}
 use Rattle.simulation.specs.Tree.{chosen, set-of}
-use Rattle.simulation.proofs.Finite.Tests.{or-cases, or-left, or-right, and-left, and-right, both, same-eqb, any-some, some-any}
+use Rattle.simulation.proofs.Finite.Tests.{or-cases, or-left, or-right, and-left, and-right, and-both, same-eqb, any-some, some-any}
 use Rattle.form.proofs.FormLaws.{pairs-bound}
-use Rattle.relation.specs.Mask.{Test, member}
-use Rattle.relation.specs.Words.{mask, row-of, height}
-use Rattle.relation.specs.declared.set.Set.{Set}
+use Rattle.word.specs.Mask.{Test, member}
+use Rattle.set.specs.Words.{mask}
+use Rattle.relation.specs.Rows.{row-of, height}
+use Rattle.set.specs.declared.Set.{Set}
 use Rattle.choice.specs.Choice.{Lost, Choice, SetsChosen}
 use Rattle.counting.proofs.Pairs.{at-number, lost-place, lost-low, number-place}
 use Rattle.counting.proofs.Targets.{ChoiceGiven, targets-are, count-is, few-targets, state-low, set-at, child-lost}
@@ -175,13 +176,13 @@ module _ {tables ranks : List ℕ} {L : Trail} {w : Walk} (p : AtPair tables ran
       rest-in u v h =
           let q = subst T (f .removed .todo u v) h in (
             and-left (member (row-of (todo-in (L .room)) u) v) _ q,
-            λ e. T-not (eqb u s && eqb v t) (and-right (member (row-of (todo-in (L .room)) u) v) _ q) (both (eqb u s) (eqb v t) (same-eqb (e .0)) (same-eqb (e .1))),
+            λ e. T-not (eqb u s && eqb v t) (and-right (member (row-of (todo-in (L .room)) u) v) _ q) (and-both (eqb u s) (eqb v t) (same-eqb (e .0)) (same-eqb (e .1))),
           )
 
       rest-keeps : (u v : ℕ) → ToDo L u v → ((u ≡ s) × (v ≡ t) → ⊥) → T (member (row-of todo₁ u) v)
       rest-keeps u v h d =
           subst T (sym (f .removed .todo u v))
-          (both (member (row-of (todo-in (L .room)) u) v) _ h (not-T (eqb u s && eqb v t) (λ q. d (eqb→eq u s (and-left (eqb u s) (eqb v t) q), eqb→eq v t (and-right (eqb u s) (eqb v t) q)))))
+          (and-both (member (row-of (todo-in (L .room)) u) v) _ h (not-T (eqb u s && eqb v t) (λ q. d (eqb→eq u s (and-left (eqb u s) (eqb v t) q), eqb→eq v t (and-right (eqb u s) (eqb v t) q)))))
 
       module _ (L′ : Trail) (rows′ : Set) (eo : L′ .order ≡ set order n (number tables s t)) (ec : L′ .choices ≡ set (L .choices) (number tables s t) j)
           (a : ChildrenAdded ts sets (length ts) todo₁ (mask (w .rows)) (todo-in (L′ .room)) (mask rows′)) where
@@ -223,7 +224,7 @@ module _ {tables ranks : List ℕ} {L : Trail} {w : Walk} (p : AtPair tables ran
                   inl (subst T (sym (a .listed (target-at (chosen M N s t) i) v))
                   (or-left (any (length ts) (child ts sets (target-at (chosen M N s t) i) v)) _
                   (some-any (length ts) (child ts sets (target-at (chosen M N s t) i) v) i c
-                  (both (eqb (getD ts i 0) (target-at (chosen M N s t) i)) (member (row-of sets i) v) (same-eqb (targets-are step-choice et i)) (subst (λ (X : Test). T (X v)) (sym (set-at step-choice et told i c)) h))))));
+                  (and-both (eqb (getD ts i 0) (target-at (chosen M N s t) i)) (member (row-of sets i) v) (same-eqb (targets-are step-choice et i)) (subst (λ (X : Test). T (X v)) (sym (set-at step-choice et told i c)) h))))));
             }
 
         -- the pair is passed: it is listed, and the pairs below it are to be passed

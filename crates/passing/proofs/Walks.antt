@@ -10,11 +10,12 @@ use Rattle.simulation.specs.Limits.{most-states}
 use Rattle.simulation.specs.Round.{rank}
 use Rattle.form.specs.Tables.{first-table, second-table}
 use Rattle.simulation.proofs.Finite.Tests.{and-right, same-eqb}
-use Rattle.relation.specs.Mask.{Test, member, without-member, Lowest}
-use Rattle.relation.specs.Words.{word-of, mask, row-of, after, rest}
-use Rattle.relation.specs.declared.set.Set.{Set}
-use Rattle.relation.proofs.Sets.{walk-begin, walk-into, walk-on}
-use Rattle.relation.proofs.Mask.{member-none}
+use Rattle.word.specs.Mask.{Test, member, without-member, Lowest}
+use Rattle.set.specs.Words.{word-of, mask, after, rest}
+use Rattle.relation.specs.Rows.{row-of}
+use Rattle.set.specs.declared.Set.{Set}
+use Rattle.set.proofs.Sets.{walk-begin, walk-into, walk-on}
+use Rattle.word.proofs.Mask.{member-none}
 use Rattle.choice.specs.Choice.{Lost}
 use Rattle.counting.specs.Pair.{number}
 use Rattle.counting.proofs.Pairs.{member-holds, without-in, without-other}

@@ -13,8 +13,9 @@ use Rattle.simulation.specs.Table.{target-at}
 use Rattle.simulation.specs.Round.{pairs, rank}
 use Rattle.simulation.specs.Tree.{chosen, set-of}
 use Rattle.form.specs.Tables.{first-table, second-table, BothLoaded}
-use Rattle.relation.specs.Mask.{member}
-use Rattle.relation.specs.Words.{words, mask, row-of, rows-in}
+use Rattle.word.specs.Mask.{member}
+use Rattle.set.specs.Words.{words, mask}
+use Rattle.relation.specs.Rows.{row-of, rows-in}
 use Rattle.counting.specs.Pair.{number, row, column}
 use Rattle.counting.specs.Count.{child, Tally, Tallied}
 use Rattle.relate.specs.Ranked.{RanksRight}

@@ -20,7 +20,7 @@ use Rattle.layout.proofs.Accepted.{accepted-sound}
 use Rattle.flows.specs.Flow.{Right, flow-bytes}
 use Rattle.buffer.specs.Buffer.{over}
 use Rattle.compare.specs.Outcome.{Buffers, Result, success, outcome}
-use Rattle.witness.specs.Shown.{tree-bytes}
+use Rattle.simulation.specs.Tree.{tree-bytes}
 use Rattle.pod.specs.Check.{checked, RightFor, Checked}
 use Rattle.compare.specs.Condition.{Condition, short-ranks, short-flow, short-tree, long-tree, result-of, Ready, outside, flow-fits, tree-fits}
 use Rattle.pod.specs.Demands.{Call, first-refused, second-refused, both-accepted, call-result, Demand1, Demand2, Demand3, rank-at}

@@ -14,7 +14,7 @@ use Rattle.layout.specs.Bytes.{refused, accepted, decode}
 use Rattle.flows.specs.Flow.{Right, flow-bytes}
 use Rattle.buffer.specs.Buffer.{over}
 use Rattle.compare.specs.Outcome.{Buffers, Result}
-use Rattle.witness.specs.Shown.{tree-bytes}
+use Rattle.simulation.specs.Tree.{tree-bytes}
 use Rattle.answer.specs.Numbers.{refusal}
 use Rattle.compare.specs.Condition.{Condition, result-of}
 

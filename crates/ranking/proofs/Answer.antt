@@ -11,7 +11,7 @@ use lib.Dec.{eqb}
 use lib.ListN.{length, getD, drop, length-append, length-drop, List·getD-append}
 use lib.Seq.{ext-getD, getD-append-add, getD-drop}
 use Rattle.simulation.specs.Limits.{most-states}
-use Rattle.relation.specs.Mask.{size}
+use Rattle.word.specs.Mask.{size}
 use Rattle.simulation.specs.Sum.{sum, when}
 use Rattle.simulation.specs.Table.{Table, states-of}
 use Rattle.simulation.specs.Round.{related, round, pairs, rank, rank-list, zeros}
@@ -22,7 +22,7 @@ use Rattle.simulation.proofs.Simulation.Ranks.{rank-law}
 use Rattle.simulation.proofs.Simulation.RankList.{rank-list-length, rank-list-at, kept-count}
 use Rattle.buffer.specs.Buffer.{over}
 use Rattle.relation.specs.Related.{holds, pairs-of}
-use Rattle.fit.specs.Held.{held}
+use Rattle.decision.specs.Fitting.{held}
 use Rattle.rounds.proofs.RoundLaws.{held-round, kept-at}
 
 -- a place of a list of p rows of q numbers is a row and a column

@@ -12,7 +12,7 @@ use lib.ListN.{length, getD}
 use Rattle.simulation.specs.Limits.{most-pairs, most-states}
 use Rattle.simulation.specs.Table.{Table, states-of}
 use Rattle.simulation.specs.Round.{pairs}
-use Rattle.relation.specs.Mask.{both, up-to}
+use Rattle.word.specs.Mask.{both, up-to}
 use Rattle.relation.specs.Related.{holds, pairs-of}
 use Rattle.relation.proofs.Relations.{pairs-most}
 use Rattle.form.specs.Tables.{first-table, second-table}

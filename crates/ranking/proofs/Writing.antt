@@ -8,11 +8,12 @@ use native.Mathlib.Omega.{arith}
 use lib.ListN.{length, getD, set}
 use lib.Seq.{getD-set-same, getD-set-other}
 use Rattle.simulation.proofs.Finite.Tests.{last-or-below}
-use Rattle.relation.specs.Mask.{Test, member}
-use Rattle.relation.specs.Words.{mask, row-of, height, put-row}
+use Rattle.word.specs.Mask.{Test, member}
+use Rattle.set.specs.Words.{mask}
+use Rattle.relation.specs.Rows.{row-of, height, put-row}
 use Rattle.relation.specs.Related.{holds}
-use Rattle.relation.specs.declared.set.Set.{Set}
-use Rattle.relation.proofs.Sets.{row-put, row-put-other}
+use Rattle.set.specs.declared.Set.{Set}
+use Rattle.relation.proofs.RowLaws.{row-put, row-put-other}
 use Rattle.ranking.specs.Rows.{Zeroed}
 
 -- one row more

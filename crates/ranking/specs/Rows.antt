@@ -8,11 +8,11 @@ use lib.ListN.{length, getD}
 use Rattle.simulation.specs.Limits.{most-pairs, most-states}
 use Rattle.simulation.specs.Round.{pairs, round, rank-list, maximum, zeros}
 use Rattle.buffer.specs.Buffer.{over}
-use Rattle.relation.specs.Words.{height}
+use Rattle.relation.specs.Rows.{height}
 use Rattle.relation.specs.Related.{holds}
 use Rattle.form.specs.Form.{transitions-of}
 use Rattle.form.specs.Tables.{first-form, first-table, second-table, BothLoaded}
-use Rattle.fit.specs.Held.{relation-of}
+use Rattle.decision.specs.Fitting.{relation-of}
 use Rattle.links.specs.Places.{HasSets, HasMarks}
 use Rattle.rounds.specs.Turns.{Work}
 

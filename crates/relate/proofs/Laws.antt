@@ -16,10 +16,11 @@ use Rattle.simulation.specs.Table.{Table, states-of}
 use Rattle.simulation.specs.Round.{related, round, rank, pairs}
 use Rattle.simulation.proofs.Finite.Tests.{same-test, or-left, or-right, or-cases, same-eqb}
 use Rattle.simulation.proofs.Simulation.Ranks.{rank-law}
-use Rattle.relation.specs.Mask.{member, part}
-use Rattle.relation.specs.Words.{mask, row-of, height, put-row}
-use Rattle.relation.specs.declared.set.Set.{Set}
-use Rattle.relation.proofs.Sets.{length-put, row-put, row-put-other}
+use Rattle.word.specs.Mask.{member, part}
+use Rattle.set.specs.Words.{mask}
+use Rattle.relation.specs.Rows.{row-of, height, put-row}
+use Rattle.set.specs.declared.Set.{Set}
+use Rattle.relation.proofs.RowLaws.{length-put, row-put, row-put-other}
 use Rattle.relation.specs.Ranks.{lasts}
 use Rattle.relate.specs.Rows.{ranked-row, Indexed, Rows}
 

@@ -6,7 +6,7 @@ use Prim.Native.Nat.{ℕ, suc, pred, _≤_, _<_}
 use native.Mathlib.Omega.{arith}
 use lib.ListN.{length, getD}
 use Rattle.simulation.specs.Limits.{most-pairs, most-states}
-use Rattle.relation.specs.Words.{height}
+use Rattle.relation.specs.Rows.{height}
 use Rattle.simulation.specs.Fit.{Positive, total}
 use Rattle.simulation.specs.Table.{Transition, Table, weights, targets, states-of}
 use Rattle.simulation.specs.Round.{between, round}

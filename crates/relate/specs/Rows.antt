@@ -4,8 +4,8 @@ use mathlib.Core.Path.{_≡_}
 use mathlib.Core.List.{List}
 use Prim.Native.Nat.{ℕ, _+_, _*_, _<_, _≤_}
 use lib.ListN.{length, getD}
-use Rattle.relation.specs.Mask.{Test, member, part}
-use Rattle.relation.specs.Words.{row-of}
+use Rattle.word.specs.Mask.{Test, member, part}
+use Rattle.relation.specs.Rows.{row-of}
 use Rattle.relation.specs.Ranks.{lasts}
 
 -- the state s is related to the target at position j

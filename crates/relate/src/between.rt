@@ -1,16 +1,15 @@
 // The relation of a round between the targets of two transitions, a set to a target, out of the ranks of all pairs.
-use relation::Word;
 use relation::ranks::lasts;
 use relation::rows;
-use relation::set;
-use relation::set::Set;
-use relation::word;
+use set::Set;
+use word::Word;
 ghost use mathlib.Core.Path.{_≡_};
 ghost use Prim.Native.Nat.{ℕ, _+_, _*_, _<_, _≤_};
 ghost use lib.ListN.{length, getD};
 ghost use Rattle.simulation.specs.Limits.{most-states};
-ghost use Rattle.relation.specs.Mask.{member, part};
-ghost use Rattle.relation.specs.Words.{word-bits, mask, height};
+ghost use Rattle.word.specs.Mask.{member, part, word-bits};
+ghost use Rattle.set.specs.Words.{mask};
+ghost use Rattle.relation.specs.Rows.{height};
 ghost use Rattle.relate.specs.Rows.{ranked-row, Indexed, Rows};
 
 // The targets of nt, at most as many as a word has bits, that the state s is related to, by position.

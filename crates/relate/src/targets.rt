@@ -2,10 +2,10 @@
 use crate::between;
 use form::Form;
 use form::tables;
-use relation::Word;
+use word::Word;
 ghost use Prim.Native.Nat.{_≤_, _<_};
 ghost use lib.ListN.{length};
-ghost use Rattle.relation.specs.Words.{height};
+ghost use Rattle.relation.specs.Rows.{height};
 ghost use Rattle.simulation.specs.Table.{targets, states-of};
 ghost use Rattle.form.specs.Form.{transitions-of};
 ghost use Rattle.form.specs.Tables.{first-form, second-form, second-table, first-step, second-step};

@@ -7,9 +7,10 @@ use native.Mathlib.Nat.{not-suc-le-zero}
 use native.Mathlib.Omega.{arith}
 use native.Mathlib.Decide.{ℕ-discrete}
 use lib.ListN.{length}
-use Rattle.relation.specs.Words.{mask, row-of, height, put-row}
-use Rattle.relation.specs.declared.set.Set.{Set}
-use Rattle.relation.proofs.Sets.{length-put, row-put, row-put-other}
+use Rattle.set.specs.Words.{mask}
+use Rattle.relation.specs.Rows.{row-of, height, put-row}
+use Rattle.set.specs.declared.Set.{Set}
+use Rattle.relation.proofs.RowLaws.{length-put, row-put, row-put-other}
 
 pub record Clearing (n : ℕ) (l₀ l : List ℕ) (i : ℕ) : Type 0 where
   pub inside : i ≤ n

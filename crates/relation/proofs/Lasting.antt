@@ -10,7 +10,7 @@ use lib.Dec.{eqb, leb}
 use borrow.Author.Tests.{le-leb, lt-leb, eq-eqb, ne-eqb}
 use Rattle.simulation.specs.Sum.{when}
 use Rattle.relation.specs.Ranks.{lasts}
-use Rattle.relation.proofs.Mask.{below-or-not}
+use Rattle.word.proofs.Mask.{below-or-not}
 
 -- a rank of 0 alone leaves the digit 16
 pub kept-digit : (rank : ℕ) → rank < 65536 → (65536 - rank) / 2 ^ 16 % 2 ≡ when (eqb rank 0) 1

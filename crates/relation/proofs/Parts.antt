@@ -6,9 +6,10 @@ use Prim.Native.Nat.{ℕ, zero, suc, _+_, _-_, _*_, _≤_, _<_}
 use native.Mathlib.Omega.{arith}
 use lib.ListN.{getD, set, take, drop, length-take, length-drop, List·getD-eq-default}
 use lib.Seq.{getD-take, getD-drop, take-set-le, take-set-lt, drop-set-lt, drop-set-add}
-use Rattle.relation.specs.Words.{words, word-of, row-of, height, rows-in, put-words, put-row}
-use Rattle.relation.specs.declared.set.Set.{Set}
-use Rattle.relation.proofs.Words.{equation, number-ext, number-none}
+use Rattle.set.specs.Words.{words, word-of}
+use Rattle.relation.specs.Rows.{row-of, height, rows-in, put-words, put-row}
+use Rattle.set.specs.declared.Set.{Set}
+use Rattle.set.proofs.Words.{equation, number-ext, number-none}
 
 -- words written into a list of which only the first k, or all after the first k, are wanted
 module _ (k : ℕ) (l : List ℕ) (at : ℕ) (f : ℕ → ℕ) where

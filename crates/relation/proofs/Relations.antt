@@ -16,13 +16,14 @@ use Rattle.simulation.specs.Limits.{most-states}
 use Rattle.simulation.specs.Sum.{sum}
 use Rattle.simulation.proofs.Finite.Sums.{sum-bound, members-most}
 use Rattle.simulation.proofs.Finite.Lists.{zeros-at}
-use Rattle.relation.specs.Mask.{Test, member, up-to, without-member, size}
-use Rattle.relation.specs.Words.{word-bits, words, row-of}
+use Rattle.word.specs.Mask.{Test, member, up-to, without-member, size, word-bits}
+use Rattle.set.specs.Words.{words}
+use Rattle.relation.specs.Rows.{row-of}
 use Rattle.relation.specs.Related.{related, none, all-below, without, pairs-of}
 use Rattle.relation.specs.declared.Relation.{Relation}
-use Rattle.relation.proofs.Mask.{member-none, member-ones, below-or-not}
-use Rattle.relation.proofs.Words.{words-are, number-ext, number-none, word-put}
-use Rattle.relation.proofs.Sets.{place-of}
+use Rattle.word.proofs.Mask.{member-none, member-ones, below-or-not}
+use Rattle.set.proofs.Words.{words-are, number-ext, number-none, word-put}
+use Rattle.set.proofs.Sets.{place-of}
 
 abbrev of-rows : List ℕ → Relation
 of-rows l = record { rows = l }

@@ -1,12 +1,10 @@
--- Sets and rows of words, computed: members in either word, a row that is read and one that is written, some of the rows, and what a walk has left.
+-- Rows of words, computed: a row that is read and one that is written, and some of the rows.
 -- Assumes nothing.
 use mathlib.Core.Path.{_≡_, refl}
-use mathlib.Core.Bool.{true, false}
-use mathlib.Core.List.{List, [], _∷_, map}
-use Prim.Native.Nat.{ℕ, _+_, _^_}
-use Rattle.relation.specs.declared.set.Set.{Set}
-use Rattle.relation.specs.Mask.{member}
-use Rattle.relation.specs.Words.{words, mask, row-of, height, rows-in, put-words, put-row, rest, after}
+use mathlib.Core.List.{List, [], _∷_}
+use Prim.Native.Nat.{ℕ, _^_}
+use Rattle.set.specs.declared.Set.{Set}
+use Rattle.relation.specs.Rows.{row-of, height, rows-in, put-words, put-row}
 
 -- the states 0, 2 and 64
 abbrev some : Set
@@ -18,10 +16,6 @@ rows = 1 ∷ 0 ∷ 0 ∷ 2 ^ 63 ∷ []
 
 abbrev three : List ℕ
 three = 1 ∷ 2 ∷ 3 ∷ 4 ∷ 5 ∷ 6 ∷ []
-
-pub set-example : (words ≡ 2) × (mask some ≡ 2 ^ 64 + 5) × (map (member (mask some)) (0 ∷ 1 ∷ 2 ∷ 63 ∷ 64 ∷ 65 ∷ []) ≡ true ∷ false ∷ true ∷ false ∷ true ∷ false ∷ [])
-unfolding mask member
-set-example = (refl, refl, refl)
 
 pub rows-example : (height rows ≡ 2) × (row-of rows 0 ≡ 1) × (row-of rows 1 ≡ 2 ^ 127) × (put-row rows 1 some ≡ 1 ∷ 0 ∷ 5 ∷ 1 ∷ [])
 unfolding row-of put-row
@@ -35,8 +29,3 @@ put-example = (refl, refl)
 -- of three rows the one in the middle, the last two, and none
 pub part-example : (rows-in 1 1 three ≡ 3 ∷ 4 ∷ []) × (rows-in 1 2 three ≡ 3 ∷ 4 ∷ 5 ∷ 6 ∷ []) × (rows-in 1 0 three ≡ [])
 part-example = (refl, refl, refl)
-
--- before the second word, within the first after state 0, and at the end
-pub walk-example : (after 1 some ≡ 2 ^ 64) × (rest 0 4 some ≡ 2 ^ 64 + 4) × (after words some ≡ 0)
-unfolding rest after
-walk-example = (refl, refl, refl)

@@ -1,7 +1,6 @@
 -- The definitions, in reading order.
 -- Assumes nothing.
-pub mod Mask
-pub mod Words
+pub mod Rows
 pub mod Related
 pub mod Ranks
 pub mod Examples

@@ -6,8 +6,8 @@ use Prim.Native.Nat.{ℕ}
 use lib.Dec.{eqb, ltb}
 use Rattle.simulation.specs.Limits.{most-states}
 use Rattle.simulation.specs.Sum.{sum}
-use Rattle.relation.specs.Mask.{Test, member, size}
-use Rattle.relation.specs.Words.{row-of}
+use Rattle.word.specs.Mask.{Test, member, size}
+use Rattle.relation.specs.Rows.{row-of}
 use Rattle.relation.specs.declared.Relation.{Relation}
 
 -- the rows have the pair (s, t)

@@ -1,14 +1,11 @@
-// Sets of states as words, and relations between the states of two tables, a set to a row. Whether a pair is related is a number,
+// Relations between the states of two tables, a set of states to a row. Whether a pair is related is a number,
 // 1 or 0, so that no caller has to branch on it.
 pub mod ranks;
 pub mod rows;
-pub mod set;
-pub mod walk;
-pub mod word;
 
-use crate::set::Set;
-pub use crate::word::Word;
+use set::Set;
 use simulation::Table;
+use word::Word;
 ghost use mathlib.Core.Path.{_≡_};
 ghost use Rattle.simulation.specs.Limits.{most-states};
 ghost use Rattle.relation.specs.Related.{related, none, «all-below»};

@@ -1,5 +1,5 @@
 // The relation of a round out of ranks: the rank of a pair is the first round that lacks it, 0 where none does.
-use crate::word::Word;
+use word::Word;
 ghost use mathlib.Core.Path.{_≡_};
 ghost use lib.Dec.{eqb};
 ghost use Rattle.simulation.specs.Sum.{when};

@@ -1,14 +1,13 @@
 // The rows of a relation in a lent slice of words: row s from word s * Set::WORDS on.
-use crate::set;
-use crate::set::Set;
-use crate::word;
-use crate::word::Word;
+use set::Set;
+use word::Word;
 ghost use mathlib.Core.Path.{_≡_};
 ghost use Prim.Native.Nat.{ℕ, _≤_, _<_};
 ghost use Rattle.simulation.specs.Limits.{most-states};
-ghost use Rattle.relation.specs.Mask.{member, bit};
+ghost use Rattle.word.specs.Mask.{member, bit};
 ghost use Rattle.relation.specs.Related.{holds, «pairs-of»};
-ghost use Rattle.relation.specs.Words.{mask, «row-of», height, «put-row»};
+ghost use Rattle.set.specs.Words.{mask};
+ghost use Rattle.relation.specs.Rows.{«row-of», height, «put-row»};
 
 pub fn get(rows: &[Word], s: usize) -> Set
     requires { ⌜ s < height (now rows) ⌝ }

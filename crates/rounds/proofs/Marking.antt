@@ -11,8 +11,8 @@ use borrow.Author.Tests.{le-leb, lt-leb}
 use lib.Dec.{leb}
 use lib.ListN.{length, getD, set}
 use lib.Seq.{getD-set-same, getD-set-other}
-use Rattle.relation.specs.Mask.{Test, member, without-member, except}
-use Rattle.relation.proofs.Mask.{member-none}
+use Rattle.word.specs.Mask.{Test, member, without-member, except}
+use Rattle.word.proofs.Mask.{member-none}
 use Rattle.links.proofs.Walks.{left-self, left-other}
 use Rattle.rounds.specs.Rounds.{marked}
 

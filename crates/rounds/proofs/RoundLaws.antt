@@ -13,13 +13,14 @@ use lib.Dec.{T, T-not, not-T, eqb, ltb, eqb→eq}
 use lib.ListN.{getD}
 use Rattle.simulation.specs.Table.{Table, states-of}
 use Rattle.simulation.specs.Round.{Relation, related, relation, survives, next, round, pairs, rank, rank-list, maximum}
-use Rattle.simulation.proofs.Finite.Tests.{either, both, and-left, and-right, is-false, same-test}
+use Rattle.simulation.proofs.Finite.Tests.{true-or-not, and-both, and-left, and-right, is-false, same-test}
 use Rattle.simulation.proofs.Simulation.Relation.{relation-at, relation-ext}
 use Rattle.simulation.proofs.Simulation.Rounds.{In, in-left, in-right, round-falls, stays}
 use Rattle.simulation.proofs.Simulation.Ranks.{rank-law}
 use Rattle.simulation.proofs.Simulation.RankList.{rounds-above, rounds-least}
 use Rattle.relation.specs.Related.{holds}
-use Rattle.fit.specs.Held.{held, matched}
+use Rattle.decision.specs.Fitting.{held}
+use Rattle.fit.specs.Held.{matched}
 use Rattle.dropping.specs.Falling.{falls, Falling}
 use Rattle.dropping.proofs.First.{all-pairs}
 use Rattle.rounds.specs.Rounds.{shown, After}
@@ -123,7 +124,7 @@ module _ (M N : Table) where
     rank-lost : (s t : ℕ) → s < states-of M → t < states-of N → rank M N s t ≡ suc k → T (holds lost s t)
     rank-lost s t a b e =
         let x : In M N k s t × ¬ In M N (suc k) s t = rank-law M N s t a b .above k .0 e in
-        subst T (sym (lost-is s t a)) (both (related (round M N k) s t) (not (related (round M N (suc k)) s t)) (x .0) (not-T (related (round M N (suc k)) s t) (x .1)))
+        subst T (sym (lost-is s t a)) (and-both (related (round M N k) s t) (not (related (round M N (suc k)) s t)) (x .0) (not-T (related (round M N (suc k)) s t) (x .1)))
 
     -- a pair falls, so a rank reaches k + 1
     pub more : (s t : ℕ) → s < states-of M → T (holds lost s t) → (suc k ≤ pairs M N) × (suc k ≤ maximum (rank-list M N))
@@ -143,7 +144,7 @@ module _ (M N : Table) where
               f s t a
               ∙ ap₂ (λ (b c : Bool). b && not c) (after .rows-are s t a) (lost-is s t a)
               ∙ kept-of (related (round M N k) s t) (related (round M N (suc k)) s t) (round-falls M N k s t);
-          ranks-are = λ s t a b. at s t a b (either (holds lost s t));
+          ranks-are = λ s t a b. at s t a b (true-or-not (holds lost s t));
           reached = more s₀ t₀ a₀ h₀ .1;
         }
       where
@@ -158,14 +159,14 @@ module _ (M N : Table) where
 
     -- a pair that is not lost is in the next round
     pub kept-unless : (s t : ℕ) → In M N k s t → ¬ T (holds lost s t) → In M N (suc k) s t
-    kept-unless s t h n = go (either (related (round M N (suc k)) s t))
+    kept-unless s t h n = go (true-or-not (related (round M N (suc k)) s t))
       where
         a : s < states-of M
         a = in-left M N k s t h
 
         go : T (related (round M N (suc k)) s t) ⊎ T (not (related (round M N (suc k)) s t)) → In M N (suc k) s t
         go (inl x) = x
-        go (inr x) = absurd (n (subst T (sym (lost-is s t a)) (both (related (round M N k) s t) (not (related (round M N (suc k)) s t)) h x)))
+        go (inr x) = absurd (n (subst T (sym (lost-is s t a)) (and-both (related (round M N k) s t) (not (related (round M N (suc k)) s t)) h x)))
 
     -- where no pair falls, every later round is this one
     module _ (none : (s t : ℕ) → s < states-of M → ¬ T (holds lost s t)) where

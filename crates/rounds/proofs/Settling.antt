@@ -12,11 +12,12 @@ use borrow.Author.Tests.{le-leb, lt-leb}
 use lib.Dec.{T, T-not}
 use lib.ListN.{getD}
 use Rattle.simulation.proofs.Finite.Tests.{and-left, and-right, is-true, is-false}
-use Rattle.relation.specs.Mask.{Test, member, without-member, except}
-use Rattle.relation.specs.Words.{mask, height, put-row}
-use Rattle.relation.specs.declared.set.Set.{Set}
-use Rattle.relation.proofs.Mask.{member-none}
-use Rattle.relation.proofs.Sets.{row-put, row-put-other}
+use Rattle.word.specs.Mask.{Test, member, without-member, except}
+use Rattle.set.specs.Words.{mask}
+use Rattle.relation.specs.Rows.{height, put-row}
+use Rattle.set.specs.declared.Set.{Set}
+use Rattle.word.proofs.Mask.{member-none}
+use Rattle.relation.proofs.RowLaws.{row-put, row-put-other}
 use Rattle.relation.specs.Related.{holds}
 use Rattle.rounds.specs.Rounds.{marked, Settled}
 use Rattle.links.specs.Links.{Covered}

@@ -14,14 +14,15 @@ use Rattle.simulation.specs.Round.{Relation, related, round, pairs}
 use Rattle.simulation.proofs.Finite.Tests.{and-left, is-true, is-false, same-test}
 use Rattle.simulation.proofs.Simulation.Relation.{relation-at, relation-left, relation-right}
 use Rattle.simulation.proofs.Simulation.Rounds.{in-right, round-falls}
-use Rattle.relation.specs.Mask.{Test, member}
-use Rattle.relation.proofs.Mask.{member-none}
+use Rattle.word.specs.Mask.{Test, member}
+use Rattle.word.proofs.Mask.{member-none}
 use Rattle.form.specs.Form.{Loaded, start-of, transition-at, table-of}
 use Rattle.form.specs.Tables.{first-form, second-form, first-table, second-table}
 use Rattle.form.proofs.FormLaws.{counts, transition-of, state-of, weights-length, targets-length}
 use Rattle.relation.specs.Related.{holds}
-use Rattle.fit.specs.Held.{held, matched}
-use Rattle.relation.specs.Words.{row-of}
+use Rattle.decision.specs.Fitting.{held}
+use Rattle.fit.specs.Held.{matched}
+use Rattle.relation.specs.Rows.{row-of}
 use Rattle.links.specs.Places.{before-in, behind-in, doubt-in, lost-in}
 use Rattle.links.specs.Links.{Linked, Doubted}
 use Rattle.fit.specs.Known.{Tried}

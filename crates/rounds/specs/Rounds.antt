@@ -7,7 +7,7 @@ use mathlib.Core.Logic.{_≢_}
 use Prim.Native.Nat.{ℕ, _+_, _-_, _*_, _≤_, _<_}
 use lib.Dec.{leb}
 use lib.ListN.{getD}
-use Rattle.relation.specs.Mask.{Test}
+use Rattle.word.specs.Mask.{Test}
 use Rattle.relation.specs.Related.{holds}
 use Rattle.simulation.specs.Sum.{when}
 use Rattle.simulation.specs.Table.{Table, states-of}

@@ -9,10 +9,10 @@ use lib.ListN.{length, getD}
 use Rattle.simulation.specs.Limits.{most-pairs, most-states}
 use Rattle.simulation.specs.Table.{Table, states-of}
 use Rattle.simulation.specs.Round.{rank, rank-list, maximum, pairs}
-use Rattle.relation.specs.Words.{height}
+use Rattle.relation.specs.Rows.{height}
 use Rattle.relation.specs.Related.{holds}
 use Rattle.form.specs.Tables.{first-table, second-table, BothLoaded}
-use Rattle.fit.specs.Held.{held}
+use Rattle.decision.specs.Fitting.{held}
 use Rattle.fit.specs.Known.{Tried}
 use Rattle.links.specs.Places.{HasMarks, lost-in}
 use Rattle.links.specs.Links.{Empty, SetsKnown}

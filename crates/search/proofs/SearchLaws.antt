@@ -15,10 +15,10 @@ use Rattle.simulation.specs.Limits.{most-states}
 use Rattle.simulation.specs.Sum.{sum, when}
 use Rattle.simulation.proofs.Finite.Tests.{is-true, true-T, false-T}
 use Rattle.simulation.proofs.Finite.Sums.{sum-mono, sum-strict, when-not, one-less, members-most}
-use Rattle.relation.specs.Mask.{Test, member, without-member, both, except, either, Lowest}
-use Rattle.relation.specs.Words.{row-of, height}
+use Rattle.word.specs.Mask.{Test, member, without-member, both, except, either, Lowest}
+use Rattle.relation.specs.Rows.{row-of, height}
 use Rattle.relation.specs.Related.{holds}
-use Rattle.relation.proofs.Mask.{member-none, member-below, below-or-not, some-member}
+use Rattle.word.proofs.Mask.{member-none, member-below, below-or-not, some-member}
 use Rattle.search.specs.Links.{HasLinks, from, via}
 use Rattle.search.specs.Search.{SearchRoom, RowsLinked, Grows, ColumnsFollowed, Closed, Levelled, Hit, HitOf, Forest, RowWalk, SearchOf}
 use Rattle.matrix.proofs.MaskedLaws.{true-or-false, neither, both-at, both-out, except-at, except-out, either-at, either-left, either-right, drop-at, drop-out, no-members}

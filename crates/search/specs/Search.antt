@@ -7,8 +7,8 @@ use mathlib.Core.List.{List}
 use Prim.Native.Nat.{ℕ, zero, suc, _≤_, _<_}
 use lib.ListN.{getD}
 use Rattle.simulation.specs.Limits.{most-states}
-use Rattle.relation.specs.Mask.{Test, member}
-use Rattle.relation.specs.Words.{height}
+use Rattle.word.specs.Mask.{Test, member}
+use Rattle.relation.specs.Rows.{height}
 use Rattle.relation.specs.Related.{holds}
 use Rattle.matrix.specs.Masks.{MaskOf}
 use Rattle.search.specs.Links.{HasLinks}

@@ -1,16 +1,16 @@
 // The search for a path, level by level over sets, from the short rows to a row with a free column.
-use relation::Word;
 use relation::rows;
-use relation::set;
-use relation::set::Set;
-use relation::walk;
+use set::Set;
+use set::walk;
 use simulation::Table;
+use word::Word;
 ghost use mathlib.Core.Path.{_≡_};
 ghost use mathlib.Core.Bool.{true};
 ghost use Prim.Native.Nat.{ℕ, _≤_, _<_};
 ghost use Rattle.simulation.specs.Limits.{most-states};
-ghost use Rattle.relation.specs.Mask.{member};
-ghost use Rattle.relation.specs.Words.{mask, height};
+ghost use Rattle.word.specs.Mask.{member};
+ghost use Rattle.set.specs.Words.{mask};
+ghost use Rattle.relation.specs.Rows.{height};
 ghost use Rattle.search.specs.Links.{HasLinks, from, via};
 ghost use Rattle.search.specs.Search.{SearchRoom, RowsLinked, ColumnsFollowed, Closed, Levelled, HitOf, SearchOf};
 

@@ -9,7 +9,7 @@ use lib.Dec.{T, T-not}
 use Rattle.simulation.specs.Table.{Table, weights, target-at, states-of, transition}
 use Rattle.simulation.specs.Round.{related, between, round, rank}
 use Rattle.simulation.specs.Demands.{Sound}
-use Rattle.simulation.proofs.Finite.Tests.{either}
+use Rattle.simulation.proofs.Finite.Tests.{true-or-not}
 use Rattle.simulation.proofs.Fit.Compose.{fits?-compose}
 use Rattle.simulation.proofs.Simulation.Rounds.{In, in-zero, in-left, in-right, round-falls, in-matched, in-next}
 use Rattle.simulation.proofs.Simulation.Ranks.{rank-law}
@@ -36,7 +36,7 @@ module _ (A B C : Table) (sound : Sound B) where
 
   pub chain : (a b c : ℕ) → a < states-of A → b < states-of B → c < states-of C → 0 < rank A C a c
       → ((0 < rank A B a b) × (rank A B a b ≤ rank A C a c)) ⊎ ((0 < rank B C b c) × (rank B C b c ≤ rank A C a c))
-  chain a b c x y z pos = go (either (related (round A B r) a b)) (either (related (round B C r) b c))
+  chain a b c x y z pos = go (true-or-not (related (round A B r) a b)) (true-or-not (related (round B C r) b c))
     where
       r : ℕ
       r = rank A C a c

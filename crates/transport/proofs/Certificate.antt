@@ -19,8 +19,8 @@ use Rattle.simulation.proofs.Flow.Partial.{Reach, row, tight-from}
 use Rattle.simulation.proofs.Fit.Gain.{supply, demand, all-supply}
 use Rattle.simulation.proofs.Fit.Hall.{PartialFlow, Certified, sent-all, full-shares}
 use Rattle.simulation.proofs.Fit.Cut.{Reached, largest-gain-sent, fits-sent, sent-fits, cut-certified}
-use Rattle.relation.specs.Mask.{Test, member}
-use Rattle.relation.proofs.Mask.{lowest-of, member-none, member-high, below-power}
+use Rattle.word.specs.Mask.{Test, member}
+use Rattle.word.proofs.Mask.{lowest-of, member-none, member-high, below-power}
 use Rattle.relation.specs.Related.{holds}
 use Rattle.matrix.specs.Matrix.{cell, Outside, row-sum, column-sum}
 use Rattle.transport.specs.Answer.{MaximumFlow}

@@ -6,7 +6,7 @@ use Prim.Native.Nat.{ℕ, _+_, _^_, _≤_, _<_}
 use native.Mathlib.Omega.{arith}
 use lib.ListN.{length}
 use Rattle.simulation.specs.Limits.{most-states}
-use Rattle.relation.specs.Mask.{Test, member}
+use Rattle.word.specs.Mask.{Test, member}
 use Rattle.matrix.specs.Flow.{missing, Partial, FlowIn, ImprovedIn}
 use Rattle.matrix.proofs.FlowLaws.{improves-refl, improves-on}
 use Rattle.search.specs.Search.{SearchOf}

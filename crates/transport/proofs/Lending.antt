@@ -7,8 +7,8 @@ use native.Mathlib.Omega.{arith}
 use lib.ListN.{length, getD, take}
 use lib.Seq.{length-take-le, getD-take}
 use Rattle.simulation.specs.Limits.{most-states}
-use Rattle.relation.specs.Mask.{member}
-use Rattle.relation.specs.Words.{row-of, height}
+use Rattle.word.specs.Mask.{member}
+use Rattle.relation.specs.Rows.{row-of, height}
 use Rattle.matrix.specs.Problem.{Given}
 use Rattle.matrix.specs.Matrix.{cell}
 use Rattle.matrix.specs.Masks.{MaskOf}

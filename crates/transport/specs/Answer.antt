@@ -10,7 +10,7 @@ use lib.Dec.{T, eqb}
 use lib.ListN.{length}
 use Rattle.simulation.specs.Sum.{sum}
 use Rattle.simulation.specs.Fit.{weight, total, Shares, largest-gain, fits?, cut}
-use Rattle.relation.specs.Mask.{member}
+use Rattle.word.specs.Mask.{member}
 use Rattle.relation.specs.Related.{holds}
 use Rattle.matrix.specs.Matrix.{cell, Outside}
 

@@ -5,7 +5,7 @@ use Prim.Native.Nat.{ℕ, _+_, _*_, _≤_}
 use lib.ListN.{length}
 use Rattle.simulation.specs.Fit.{weight, total}
 use Rattle.matrix.specs.Masks.{Used}
-use Rattle.relation.specs.Mask.{member}
+use Rattle.word.specs.Mask.{member}
 use Rattle.matrix.specs.Flow.{missing, Partial, ImprovedIn}
 use Rattle.search.specs.Search.{Ended}
 use Rattle.augment.specs.Augments.{Augmented, AugmentedIn}

@@ -5,8 +5,9 @@ use mathlib.Core.Bool.{Bool, true, false}
 use mathlib.Core.List.{List}
 use Prim.Native.Nat.{ℕ, _<_}
 use lib.ListN.{length, set}
-use Rattle.relation.specs.Words.{mask, height, put-row}
-use Rattle.relation.specs.declared.set.Set.{Set}
+use Rattle.set.specs.Words.{mask}
+use Rattle.relation.specs.Rows.{height, put-row}
+use Rattle.set.specs.declared.Set.{Set}
 use Rattle.matrix.specs.Problem.{Given}
 use Rattle.transport.specs.Answer.{MaximumFlow}
 use Rattle.transport.specs.Paths.{Counts}

@@ -1,8 +1,8 @@
 // The flow kernel for callers in C and Rust. A slice passes as a pointer and a length.
-use relation::Word;
 use relation::rows;
-use relation::set::Set;
+use set::Set;
 use simulation::Table;
+use word::Word;
 ghost use Rattle.transport_c.specs.Flowed.{Accepts, FlowAnswered};
 
 // Whether the input is taken: not with more than Table::STATES targets on a side, a total above Table::TOTAL, too few masks, too few cells,

@@ -20,7 +20,7 @@ use Rattle.simulation.specs.Tree.{Tree, leaf, step, count, child-weights, trans
 use Rattle.simulation.proofs.Finite.Sums.{sum-ext, sum-zero, members}
 use Rattle.simulation.proofs.Finite.Tests.{is-false}
 use Rattle.simulation.proofs.Trees.Nodes.{kids, kids-weights, steps-in, steps-out, node-count, targets-of}
-use Rattle.relation.specs.Mask.{Lowest, without-member}
+use Rattle.word.specs.Mask.{Lowest, without-member}
 use Rattle.tree.specs.Begin.{entry-bytes}
 
 abbrev pub weights-of : List Entry → ℕ → ℕ

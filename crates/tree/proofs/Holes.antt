@@ -13,7 +13,7 @@ use Rattle.simulation.specs.Tree.{tree, node-bytes}
 use Rattle.simulation.specs.Length.{pair-length}
 use Rattle.form.specs.Tables.{first-form, first-table, second-table, BothLoaded}
 use Rattle.form.proofs.FormLaws.{sound}
-use Rattle.relation.specs.Words.{words}
+use Rattle.set.specs.Words.{words}
 use Rattle.buffer.specs.Buffer.{Filled}
 use Rattle.choice.specs.Choice.{Lost}
 use Rattle.counting.specs.Pair.{number}

@@ -21,7 +21,7 @@ use Rattle.simulation.proofs.Simulation.Ranks.{rank-law}
 use Rattle.simulation.proofs.Trees.Choice.{RanksUpTo, fallen-root}
 use Rattle.simulation.proofs.Trees.OwnTree.{node-fuel}
 use Rattle.simulation.proofs.Trees.Length.{node-length}
-use Rattle.relation.specs.Mask.{without-member, Lowest}
+use Rattle.word.specs.Mask.{without-member, Lowest}
 use Rattle.tree.proofs.Bytes.{steps-lowest, no-steps, node-is}
 
 -- ---- the bytes of a pair and of a node

@@ -20,11 +20,11 @@ use Rattle.simulation.proofs.Simulation.Ranks.{rank-law}
 use Rattle.simulation.proofs.Trees.Length.{pair-length-step}
 use Rattle.form.specs.Tables.{first-form, second-form, first-table, second-table, BothLoaded}
 use Rattle.form.proofs.FormLaws.{limits, sound}
-use Rattle.relation.specs.Mask.{Test, member, without-member, size, Lowest}
-use Rattle.relation.specs.Words.{words, mask, rest as left-of, after}
-use Rattle.relation.specs.declared.set.Set.{Set}
-use Rattle.relation.proofs.Mask.{member-none, below-or-not}
-use Rattle.relation.proofs.Sets.{walk-on}
+use Rattle.word.specs.Mask.{Test, member, without-member, size, Lowest}
+use Rattle.set.specs.Words.{words, mask, rest as left-of, after}
+use Rattle.set.specs.declared.Set.{Set}
+use Rattle.word.proofs.Mask.{member-none, below-or-not}
+use Rattle.set.proofs.Sets.{walk-on}
 use Rattle.choice.specs.Choice.{Lost}
 use Rattle.counting.specs.Pair.{number}
 use Rattle.counting.proofs.Pairs.{lost-place, lost-low, member-holds, without-in}

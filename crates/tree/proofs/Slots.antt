@@ -7,7 +7,7 @@ use Prim.Native.Nat.{ℕ, zero, suc, _+_, _-_, _*_, _≤_, _<_}
 use native.Mathlib.Nat.{le-refl, zero-lt-suc}
 use native.Mathlib.Omega.{arith}
 use lib.ListN.{length, getD}
-use Rattle.relation.proofs.Mask.{below-or-not}
+use Rattle.word.proofs.Mask.{below-or-not}
 use Rattle.tree.specs.declared.write.Rest.{Rest}
 use Rattle.tree.specs.Parts.{At, nothing, offset, Remains, Left, Around}
 use Rattle.tree.proofs.Places.{at-trans, piece, placed, piece-length, placed-length, placed-before, placed-in, placed-after}

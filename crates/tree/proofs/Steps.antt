@@ -19,10 +19,11 @@ use Rattle.simulation.proofs.Trees.OwnTree.{node-fuel}
 use Rattle.form.specs.Form.{transitions-of}
 use Rattle.form.specs.Tables.{first-form, first-table, second-table, first-step}
 use Rattle.form.proofs.FormLaws.{limits, sound, weights-length, limited-of}
-use Rattle.relation.specs.Mask.{Test, member}
-use Rattle.relation.specs.Words.{words, mask, row-of}
-use Rattle.relation.specs.declared.set.Set.{Set}
-use Rattle.relation.proofs.Words.{number-ext}
+use Rattle.word.specs.Mask.{Test, member}
+use Rattle.set.specs.Words.{words, mask}
+use Rattle.relation.specs.Rows.{row-of}
+use Rattle.set.specs.declared.Set.{Set}
+use Rattle.set.proofs.Words.{number-ext}
 use Rattle.buffer.specs.Buffer.{over}
 use Rattle.buffer.proofs.Buffer.{part-from, back, part-all}
 use Rattle.choice.specs.Choice.{Lost, Choice, SetsChosen}

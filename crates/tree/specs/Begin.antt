@@ -8,7 +8,7 @@ use Rattle.simulation.specs.Limits.{most-pairs, most-states}
 use Rattle.simulation.specs.Table.{Transition, states-of}
 use Rattle.simulation.specs.Tree.{chosen}
 use Rattle.form.specs.Tables.{first-table, second-table}
-use Rattle.relation.specs.Words.{height}
+use Rattle.relation.specs.Rows.{height}
 use Rattle.buffer.specs.Buffer.{over}
 use Rattle.relate.specs.Ranked.{RanksRight}
 use Rattle.choice.specs.Choice.{Lost, Choice, SetsChosen}

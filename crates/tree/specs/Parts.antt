@@ -12,8 +12,8 @@ use Rattle.simulation.specs.Round.{pairs}
 use Rattle.simulation.specs.Tree.{leaf, own-step, own-node, transition-bytes, node-bytes}
 use Rattle.simulation.specs.Length.{tree-length}
 use Rattle.form.specs.Tables.{first-table, second-table}
-use Rattle.relation.specs.Mask.{member}
-use Rattle.relation.specs.Words.{words, mask}
+use Rattle.word.specs.Mask.{member}
+use Rattle.set.specs.Words.{words, mask}
 use Rattle.counting.specs.Count.{longest}
 use Rattle.measure.specs.Lengths.{Measured}
 use Rattle.relate.specs.Ranked.{RanksRight}

@@ -2,20 +2,16 @@
 -- Assumes nothing.
 use mathlib.Core.Path.{_≡_}
 use mathlib.Core.List.{List}
-use mathlib.Core.Logic.{_⊎_}
-use Prim.Native.Nat.{ℕ, _+_, _≤_, _<_, min}
+use Prim.Native.Nat.{ℕ, _≤_, _<_}
 use lib.ListN.{length}
 use Rattle.simulation.specs.Fit.{Amounts}
 use Rattle.simulation.specs.Table.{Table}
-use Rattle.simulation.specs.Tree.{tree, node-bytes}
+use Rattle.simulation.specs.Tree.{tree-bytes}
 use Rattle.flows.specs.Flow.{Right, flow-bytes, flow-room}
 use Rattle.buffer.specs.Buffer.{over}
 use Rattle.counting.specs.Count.{longest}
 use Rattle.answer.specs.Numbers.{refusal, with-written}
 use Rattle.answer.specs.declared.answer.Answer.{Answer}
-
-abbrev pub tree-bytes : (M N : Table) (s t : ℕ) → List ℕ
-tree-bytes M N s t = node-bytes (tree M N s t)
 
 -- a kept pair: the flow is written if there is room for it, and the answer a then says how long it is
 pub record FlowShown (M N : Table) (s t : ℕ) (a r : Answer) (flow flow′ : List ℕ) : Type 0 where
@@ -23,12 +19,6 @@ pub record FlowShown (M N : Table) (s t : ℕ) (a r : Answer) (flow flow′ : Li
   pub right : Right M N s t amounts
   pub refused : length flow < flow-room M N s → (r ≡ refusal 21 0 (flow-room M N s)) × (flow′ ≡ flow)
   pub written : flow-room M N s ≤ length flow → (r ≡ with-written (length (flow-bytes M N s t amounts)) a) × (flow′ ≡ over (flow-bytes M N s t amounts) flow)
-
--- the tree of a pair that is not kept is written if it is short enough and there is room for it; its length is given, longest + 1 for any above longest
-pub record TreePut (M N : Table) (s t len : ℕ) (tree tree′ : List ℕ) : Type 0 where
-  pub length-is : len ≡ min (longest + 1) (length (tree-bytes M N s t))
-  pub kept : longest < len ⊎ length tree < len → tree′ ≡ tree
-  pub written : len ≤ longest → len ≤ length tree → tree′ ≡ over (tree-bytes M N s t) tree
 
 -- a pair that is not kept: the tree is written if it is short enough and there is room for it
 pub record TreeShown (M N : Table) (s t : ℕ) (a r : Answer) (tree tree′ : List ℕ) : Type 0 where

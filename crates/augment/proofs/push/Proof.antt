@@ -3,8 +3,8 @@ use Prim.Native.Nat.{_<_}
 use borrow.Author.Needs.{needs}
 use native.Mathlib.Omega.{arith}
 use lib.ListN.{length}
-use Rattle.relation.specs.Mask.{member}
-use Rattle.relation.specs.Words.{mask}
+use Rattle.word.specs.Mask.{member}
+use Rattle.set.specs.Words.{mask}
 use Rattle.matrix.specs.Flow.{Partial, partial}
 use Rattle.search.specs.Links.{from, via}
 use Rattle.augment.proofs.PushLaws.{Column, Load, path-row, path-safe, path-root, path-some, path-column, path-load, load-movable, pushed}

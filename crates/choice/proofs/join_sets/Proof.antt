@@ -3,9 +3,10 @@ use mathlib.Core.Path.{sym, ap, _∙_, subst}
 use mathlib.Core.List.{List}
 use Prim.Native.Nat.{ℕ, _≤_, _<_, _-_}
 use native.Mathlib.Omega.{arith}
-use Rattle.relation.specs.Mask.{member, either}
-use Rattle.relation.specs.Words.{words, mask, height, after, rest}
-use Rattle.relation.proofs.Sets.{walk-begin, walk-into, walk-on, walk-done}
+use Rattle.word.specs.Mask.{member, either}
+use Rattle.set.specs.Words.{words, mask, after, rest}
+use Rattle.relation.specs.Rows.{height}
+use Rattle.set.proofs.Sets.{walk-begin, walk-into, walk-on, walk-done}
 use Rattle.choice.proofs.Choosing.{Joining, joining-start, joining-next, joining-end}
 use Rattle.choice.proofs.join_sets.Statement.{statement}
 use Rattle.choice.proofs.join_sets.Tie as tie

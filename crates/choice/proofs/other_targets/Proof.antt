@@ -10,10 +10,10 @@ use borrow.Author.Needs.{needs}
 use Rattle.simulation.specs.Limits.{most-states}
 use Rattle.simulation.specs.Sum.{any}
 use Rattle.form.specs.Tables.{second-form, second-step}
-use Rattle.relation.specs.Mask.{member}
-use Rattle.relation.specs.Words.{words, mask, after, rest}
-use Rattle.relation.specs.declared.set.Set.{Set}
-use Rattle.relation.proofs.Sets.{walk-begin, walk-into, walk-on, walk-done}
+use Rattle.word.specs.Mask.{member}
+use Rattle.set.specs.Words.{words, mask, after, rest}
+use Rattle.set.specs.declared.Set.{Set}
+use Rattle.set.proofs.Sets.{walk-begin, walk-into, walk-on, walk-done}
 use Rattle.choice.specs.Choice.{Names}
 use Rattle.choice.proofs.Choosing.{Uniting, uniting-start, uniting-next, uniting-end, outside-names, outside-any}
 use Rattle.relate.proofs.Places.{few-places, targets-count, target-small}

@@ -9,7 +9,8 @@ use lib.ListN.{length}
 use Rattle.simulation.specs.Limits.{most-states}
 use Rattle.simulation.specs.Round.{round}
 use Rattle.form.specs.Tables.{first-form, first-table, second-table, first-step, second-step}
-use Rattle.relation.specs.Words.{mask, height}
+use Rattle.set.specs.Words.{mask}
+use Rattle.relation.specs.Rows.{height}
 use Rattle.relation.proofs.Parts.{part-height}
 use Rattle.relate.proofs.Places.{few-places}
 use Rattle.buffer.specs.Buffer.{with-part}

@@ -3,10 +3,11 @@ use mathlib.Core.Path.{sym, ap, _∙_, subst}
 use mathlib.Core.List.{List}
 use Prim.Native.Nat.{ℕ, _≤_, _-_}
 use native.Mathlib.Omega.{arith}
-use Rattle.relation.specs.Mask.{member, either}
-use Rattle.relation.specs.Words.{words, mask, height, after, rest}
-use Rattle.relation.specs.declared.set.Set.{Set}
-use Rattle.relation.proofs.Sets.{walk-begin, walk-into, walk-on, walk-done}
+use Rattle.word.specs.Mask.{member, either}
+use Rattle.set.specs.Words.{words, mask, after, rest}
+use Rattle.relation.specs.Rows.{height}
+use Rattle.set.specs.declared.Set.{Set}
+use Rattle.set.proofs.Sets.{walk-begin, walk-into, walk-on, walk-done}
 use Rattle.relation.specs.Related.{holds}
 use Rattle.choice.proofs.Choosing.{Uniting, uniting-start, uniting-next, uniting-end}
 use Rattle.choice.proofs.reached.Statement.{statement}

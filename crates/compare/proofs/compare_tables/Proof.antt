@@ -2,7 +2,7 @@
 -- Assumes nothing.
 use native.Mathlib.Omega.{arith}
 use Rattle.compare.proofs.Comparing.{not-inside, inside, is-outside, has-short-ranks, has-room}
-use Rattle.witness.proofs.Showing.{count-is, count-small}
+use Rattle.pair_tree.proofs.Putting.{count-is, count-small}
 use borrow.Author.Needs.{needs}
 use borrow.Author.Tests.{ltb-true}
 use Rattle.compare.proofs.compare_tables.Statement.{statement}

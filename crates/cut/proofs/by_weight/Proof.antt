@@ -1,6 +1,6 @@
 -- `cut::by_weight` meets its contract. Assumes nothing.
-use Rattle.relation.specs.Mask.{member}
-use Rattle.relation.specs.Words.{mask}
+use Rattle.word.specs.Mask.{member}
+use Rattle.set.specs.Words.{mask}
 use Rattle.cut.proofs.Weighing.{weights-small, heavier-rows, heavier-none}
 use borrow.Author.Needs.{needs}
 use Rattle.cut.proofs.by_weight.Statement.{statement}

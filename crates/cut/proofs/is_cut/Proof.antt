@@ -1,7 +1,7 @@
 -- `cut::is_cut` meets its contract. Assumes nothing.
 use mathlib.Core.Path.{sym}
 use mathlib.Core.Bool.{true≢false}
-use Rattle.relation.proofs.Sets.{is-none, not-none}
+use Rattle.set.proofs.Sets.{is-none, not-none}
 use Rattle.cut.proofs.QuickLaws.{settled-none, settled-alike}
 use borrow.Author.Needs.{needs}
 use Rattle.cut.proofs.is_cut.Statement.{statement}

@@ -1,6 +1,6 @@
 -- `cut::short_rows` meets its contract: the rows passed are gathered. Assumes nothing.
 use Prim.Native.Nat.{_≤_, _-_}
-use Rattle.relation.specs.Words.{mask}
+use Rattle.set.specs.Words.{mask}
 use Rattle.cut.specs.Quick.{Lacking}
 use Rattle.cut.proofs.QuickLaws.{lacking-start, lacking-is}
 use native.Mathlib.Omega.{arith}

@@ -1,6 +1,6 @@
 -- `cut::smallest_cut` meets its contract. Assumes nothing.
 use borrow.Author.Needs.{needs}
-use Rattle.relation.proofs.Sets.{mask-lt, is-none}
+use Rattle.set.proofs.Sets.{mask-lt, is-none}
 use Rattle.cut.proofs.QuickLaws.{cut-settled, cut-heavier}
 use Rattle.cut.proofs.smallest_cut.Statement.{statement}
 use Rattle.cut.proofs.smallest_cut.Tie as tie

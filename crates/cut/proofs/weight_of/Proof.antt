@@ -2,8 +2,8 @@
 use mathlib.Core.Path.{refl}
 use Prim.Native.Nat.{ℕ, _≤_, _-_}
 use native.Mathlib.Omega.{arith}
-use Rattle.relation.specs.Words.{words, mask, after, rest}
-use Rattle.relation.proofs.Sets.{walk-begin, walk-into, walk-on, walk-done}
+use Rattle.set.specs.Words.{words, mask, after, rest}
+use Rattle.set.proofs.Sets.{walk-begin, walk-into, walk-on, walk-done}
 use Rattle.cut.proofs.Weighing.{Weighed, weighed-none, weighed-place, weighed-small, weighed-next, weighed-all}
 use Rattle.cut.proofs.weight_of.Statement.{statement}
 use Rattle.cut.proofs.weight_of.Tie as tie

@@ -1,7 +1,7 @@
 -- `cut::with_row` meets its contract. Assumes nothing.
-use Rattle.relation.specs.Mask.{member}
-use Rattle.relation.specs.Words.{mask}
-use Rattle.relation.proofs.Sets.{mask-lt, both-by, except-by, is-none, is-some}
+use Rattle.word.specs.Mask.{member}
+use Rattle.set.specs.Words.{mask}
+use Rattle.set.proofs.Sets.{mask-lt, both-by, except-by, is-none, is-some}
 use Rattle.cut.proofs.QuickLaws.{lacking-skip, lacking-next}
 use borrow.Author.Needs.{needs}
 use Rattle.cut.proofs.with_row.Statement.{statement}

@@ -4,9 +4,10 @@ use Prim.Native.Nat.{ℕ, _+_, _-_, _≤_}
 use native.Mathlib.Omega.{arith}
 use borrow.Author.Needs.{needs}
 use lib.ListN.{length}
-use Rattle.relation.specs.Mask.{member}
-use Rattle.relation.specs.Words.{mask, row-of}
-use Rattle.relation.proofs.Sets.{both-of}
+use Rattle.word.specs.Mask.{member}
+use Rattle.set.specs.Words.{mask}
+use Rattle.relation.specs.Rows.{row-of}
+use Rattle.set.proofs.Sets.{both-of}
 use Rattle.form.specs.Form.{start-of}
 use Rattle.form.specs.Tables.{first-form, second-table}
 use Rattle.form.proofs.FormLaws.{limits, counts, start-bound}

@@ -4,12 +4,12 @@ use Prim.Native.Nat.{ℕ, _≤_, _-_}
 use native.Mathlib.Omega.{arith}
 use lib.ListN.{length}
 use Rattle.simulation.specs.Limits.{most-states}
-use Rattle.relation.specs.Mask.{member}
-use Rattle.relation.specs.Words.{words, mask, after, rest}
-use Rattle.relation.proofs.Sets.{walk-begin, walk-into, walk-on, walk-done}
+use Rattle.word.specs.Mask.{member}
+use Rattle.set.specs.Words.{words, mask, after, rest}
+use Rattle.set.proofs.Sets.{walk-begin, walk-into, walk-on, walk-done}
 use Rattle.relation.proofs.Parts.{part-row}
 use Rattle.form.specs.Tables.{first-table, second-table}
-use Rattle.fit.specs.Held.{relation-of}
+use Rattle.decision.specs.Fitting.{relation-of}
 use Rattle.fit.specs.Known.{Tried}
 use Rattle.dropping.specs.Falling.{Doubtless}
 use Rattle.dropping.proofs.Dropping.{Waiting, waiting-start, waiting-next, waiting-end}

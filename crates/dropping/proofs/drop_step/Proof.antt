@@ -5,15 +5,16 @@ use Prim.Native.Nat.{ℕ, _≤_, _-_}
 use native.Mathlib.Omega.{arith}
 use lib.ListN.{length}
 use Rattle.simulation.proofs.Finite.Tests.{true-T}
-use Rattle.relation.specs.Words.{words, mask, height, after, rest}
-use Rattle.relation.specs.declared.set.Set.{Set}
-use Rattle.relation.proofs.Sets.{walk-begin, walk-into, walk-on, walk-done}
+use Rattle.set.specs.Words.{words, mask, after, rest}
+use Rattle.relation.specs.Rows.{height}
+use Rattle.set.specs.declared.Set.{Set}
+use Rattle.set.proofs.Sets.{walk-begin, walk-into, walk-on, walk-done}
 use Rattle.form.specs.Tables.{first-form}
 use Rattle.gather.specs.Places.{Places}
 use Rattle.fit.specs.Held.{answered}
 use Rattle.fit.specs.Known.{Tried}
-use Rattle.fit.specs.Quick.{Bounding}
-use Rattle.fit.proofs.Fitting.{places-of}
+use Rattle.bounds.specs.Quick.{Bounding}
+use Rattle.decision.proofs.Fitting.{places-of}
 use Rattle.fit.proofs.Trying.{lent-again}
 use Rattle.dropping.proofs.Dropping.{Picked, picked-start, picked-next, picked-end, judged-is}
 use Rattle.dropping.proofs.drop_step.Statement.{statement}

@@ -9,7 +9,7 @@ use lib.ListN.{length}
 use Rattle.simulation.specs.Limits.{most-states}
 use Rattle.simulation.specs.Table.{states-of}
 use Rattle.simulation.specs.Round.{round}
-use Rattle.relation.specs.Words.{mask}
+use Rattle.set.specs.Words.{mask}
 use Rattle.form.specs.Tables.{first-form, second-form, first-table, second-table}
 use Rattle.form.proofs.FormLaws.{limits, sound}
 use Rattle.links.specs.Places.{lost-in}

@@ -7,7 +7,7 @@ use native.Mathlib.Omega.{arith}
 use lib.ListN.{getD}
 use Rattle.simulation.specs.Sum.{when}
 use Rattle.simulation.proofs.Finite.Sums.{when-most}
-use Rattle.relation.specs.Mask.{member}
+use Rattle.word.specs.Mask.{member}
 use Rattle.excess.specs.Excess.{set-count, parts}
 use Rattle.excess.proofs.Parts.{and-here}
 use Rattle.excess.proofs.at_most.Statement.{statement}

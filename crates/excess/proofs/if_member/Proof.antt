@@ -2,7 +2,7 @@
 use native.Mathlib.Omega.{arith}
 use borrow.Author.Needs.{needs}
 use Rattle.simulation.proofs.Finite.Sums.{when-most}
-use Rattle.relation.specs.Mask.{member}
+use Rattle.word.specs.Mask.{member}
 use Rattle.excess.proofs.Parts.{digit-times}
 use Rattle.excess.proofs.if_member.Statement.{statement}
 use Rattle.excess.proofs.if_member.Tie as tie

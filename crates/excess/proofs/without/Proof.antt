@@ -7,8 +7,8 @@ use borrow.Author.Needs.{needs}
 use borrow.Author.Tests.{eq-eqb, ne-eqb}
 use lib.ListN.{getD}
 use Rattle.simulation.specs.Sum.{when}
-use Rattle.relation.specs.Mask.{member}
-use Rattle.relation.proofs.Mask.{member-shift, power-is}
+use Rattle.word.specs.Mask.{member}
+use Rattle.word.proofs.Mask.{member-shift, power-is}
 use Rattle.excess.proofs.Subsets.{member-room}
 use Rattle.excess.proofs.without.Statement.{statement}
 use Rattle.excess.proofs.without.Tie as tie

@@ -7,9 +7,9 @@ use native.Mathlib.Omega.{arith}
 use borrow.Author.Needs.{needs}
 use Rattle.form.specs.Form.{transitions-of}
 use Rattle.form.specs.Tables.{second-form}
-use Rattle.fit.specs.Known.{SetOf}
+use Rattle.bounds.specs.Quick.{SetOf}
 use Rattle.fit.proofs.Sets.{set-at}
-use Rattle.fit.proofs.Fitting.{same-code}
+use Rattle.fit.proofs.Codes.{same-code}
 use Rattle.fit.proofs.Trying.{lent-asked}
 use Rattle.fit.proofs.fits_guess.Statement.{statement}
 use Rattle.fit.proofs.fits_guess.Tie as tie

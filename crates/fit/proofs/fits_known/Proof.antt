@@ -4,12 +4,12 @@ use mathlib.Core.Path.{sym, subst}
 use borrow.Author.Needs.{needs}
 use lib.ListN.{length}
 use Rattle.simulation.specs.Table.{targets}
-use Rattle.relation.specs.Words.{mask}
+use Rattle.set.specs.Words.{mask}
 use Rattle.form.specs.Tables.{second-step}
-use Rattle.fit.specs.Held.{fitting}
-use Rattle.fit.specs.Known.{SetOf}
+use Rattle.decision.specs.Fitting.{fitting}
+use Rattle.bounds.specs.Quick.{SetOf}
 use Rattle.fit.proofs.Sets.{set-at}
-use Rattle.fit.proofs.Fitting.{Tells, by-sets}
+use Rattle.decision.proofs.Fitting.{Tells, by-sets}
 use Rattle.fit.proofs.Trying.{lent-asked}
 use Rattle.fit.proofs.fits_known.Statement.{statement}
 use Rattle.fit.proofs.fits_known.Tie as tie

@@ -5,13 +5,13 @@ use native.Mathlib.Omega.{arith}
 use borrow.Author.Needs.{needs}
 use lib.ListN.{length}
 use Rattle.simulation.specs.Limits.{most-states}
-use Rattle.relation.specs.Words.{height}
-use Rattle.relation.proofs.Sets.{length-put}
+use Rattle.relation.specs.Rows.{height}
+use Rattle.relation.proofs.RowLaws.{length-put}
 use Rattle.form.specs.Form.{transitions-of}
 use Rattle.form.specs.Tables.{second-form}
 use Rattle.form.proofs.FormLaws.{limits}
 use Rattle.gather.specs.Places.{Places}
-use Rattle.fit.proofs.Fitting.{places-of}
+use Rattle.decision.proofs.Fitting.{places-of}
 use Rattle.fit.proofs.Sets.{SetsTo, sets-next, last-start}
 use Rattle.fit.proofs.target_sets.Statement.{statement}
 use Rattle.fit.proofs.target_sets.Tie as tie

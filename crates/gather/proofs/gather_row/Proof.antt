@@ -4,10 +4,11 @@ use Prim.Native.Nat.{ℕ, _-_}
 use native.Mathlib.Omega.{arith}
 use borrow.Author.Needs.{needs}
 use lib.ListN.{length}
-use Rattle.relation.specs.Mask.{member, part, both}
-use Rattle.relation.specs.Words.{mask, row-of}
-use Rattle.relation.proofs.Mask.{part-start}
-use Rattle.relation.proofs.Sets.{both-of}
+use Rattle.word.specs.Mask.{member, part, both}
+use Rattle.set.specs.Words.{mask}
+use Rattle.relation.specs.Rows.{row-of}
+use Rattle.word.proofs.Mask.{part-start}
+use Rattle.set.proofs.Sets.{both-of}
 use Rattle.gather.specs.Places.{row-at}
 use Rattle.gather.proofs.Gathering.{dense-row}
 use Rattle.gather.proofs.gather_row.Statement.{statement}

@@ -3,8 +3,8 @@ use mathlib.Core.Path.{_≡_, refl, sym, ap, _∙_, subst}
 use Prim.Native.Nat.{_+_, _-_, _≤_, _<_}
 use native.Mathlib.Omega.{arith}
 use lib.ListN.{length}
-use Rattle.relation.specs.Words.{height}
-use Rattle.relation.proofs.Sets.{length-put}
+use Rattle.relation.specs.Rows.{height}
+use Rattle.relation.proofs.RowLaws.{length-put}
 use Rattle.gather.specs.Places.{Gathered}
 use Rattle.gather.proofs.Gathering.{gather-next}
 use Rattle.gather.proofs.gather_rows.Statement.{statement}

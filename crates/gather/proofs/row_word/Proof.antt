@@ -2,7 +2,7 @@
 use Prim.Native.Nat.{_-_}
 use native.Mathlib.Omega.{arith}
 use lib.ListN.{length}
-use Rattle.relation.specs.Words.{row-of}
+use Rattle.relation.specs.Rows.{row-of}
 use Rattle.gather.specs.Places.{row-at}
 use Rattle.gather.proofs.Gathering.{PlacesSoFar, placed-none, bit-fits, placed-next, placed-all}
 use Rattle.gather.proofs.row_word.Statement.{statement}

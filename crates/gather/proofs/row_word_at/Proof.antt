@@ -4,9 +4,9 @@ use Prim.Native.Nat.{_+_, _-_, _*_}
 use native.Mathlib.Omega.{arith}
 use lib.ListN.{length, drop, length-take, length-drop}
 use Rattle.simulation.specs.Limits.{most-states}
-use Rattle.relation.specs.Mask.{member}
-use Rattle.relation.specs.Words.{word-bits, row-of}
-use Rattle.relation.proofs.Sets.{slice-passing}
+use Rattle.word.specs.Mask.{member, word-bits}
+use Rattle.relation.specs.Rows.{row-of}
+use Rattle.set.proofs.Sets.{slice-passing}
 use Rattle.gather.proofs.Gathering.{places-take, places-drop}
 use borrow.Author.Needs.{needs}
 use Rattle.gather.proofs.row_word_at.Statement.{statement}

@@ -1,9 +1,10 @@
 -- `gather::sparse_row` meets its contract: the words passed are filled. Assumes nothing.
 use Prim.Native.Nat.{_-_, _≤_}
 use native.Mathlib.Omega.{arith}
-use Rattle.relation.specs.Mask.{member}
-use Rattle.relation.specs.Words.{words, row-of}
-use Rattle.relation.proofs.Sets.{PlacesFilled, places-start, places-next, places-all}
+use Rattle.word.specs.Mask.{member}
+use Rattle.set.specs.Words.{words}
+use Rattle.relation.specs.Rows.{row-of}
+use Rattle.set.proofs.Sets.{PlacesFilled, places-start, places-next, places-all}
 use borrow.Author.Needs.{needs}
 use Rattle.gather.proofs.sparse_row.Statement.{statement}
 use Rattle.gather.proofs.sparse_row.Tie as tie

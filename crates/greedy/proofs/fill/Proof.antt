@@ -3,7 +3,7 @@ use mathlib.Core.Path.{refl}
 use Prim.Native.Nat.{_≤_, _-_}
 use native.Mathlib.Omega.{arith}
 use lib.ListN.{length}
-use Rattle.relation.specs.Words.{mask}
+use Rattle.set.specs.Words.{mask}
 use Rattle.matrix.specs.Flow.{partial}
 use Rattle.greedy.proofs.GreedyLaws.{RowsFilled, rows-none, row-ready, rows-next, greedy-is}
 use Rattle.greedy.proofs.fill.Statement.{statement}

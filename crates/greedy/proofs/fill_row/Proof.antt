@@ -5,9 +5,9 @@ use Prim.Native.Nat.{ℕ, _≤_, _<_, _-_}
 use native.Mathlib.Omega.{arith}
 use lib.Dec.{eqb}
 use lib.ListN.{length, getD}
-use Rattle.relation.specs.Mask.{member, without-member, both}
-use Rattle.relation.specs.Words.{words, after, rest, mask}
-use Rattle.relation.proofs.Sets.{walk-begin, walk-into, walk-on, walk-done, both-of}
+use Rattle.word.specs.Mask.{member, without-member, both}
+use Rattle.set.specs.Words.{words, after, rest, mask}
+use Rattle.set.proofs.Sets.{walk-begin, walk-into, walk-on, walk-done, both-of}
 use Rattle.matrix.specs.Flow.{Partial, partial, ImprovedIn}
 use Rattle.greedy.proofs.GreedyLaws.{stopped, going, UnderWay, under-way-none, under-way-next, under-way-end, cell-ready, cell-on}
 use Rattle.greedy.proofs.fill_row.Statement.{statement}

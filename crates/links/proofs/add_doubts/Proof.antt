@@ -1,7 +1,7 @@
 -- `links::add_doubts` meets its contract: the rows passed have the doubts. Assumes nothing.
 use Prim.Native.Nat.{_≤_, _-_}
 use native.Mathlib.Omega.{arith}
-use Rattle.relation.specs.Words.{words, mask, after, rest}
+use Rattle.set.specs.Words.{words, mask, after, rest}
 use Rattle.links.specs.Places.{HasMarks}
 use Rattle.links.proofs.Walks.{EachPassed, passed-none, passed-into, passed-on, passed-all}
 use Rattle.links.proofs.Doubting.{InDoubt, MoreDoubts, more-none, more-then, more-next}

@@ -5,8 +5,9 @@ use mathlib.Core.List.{List}
 use Prim.Native.Nat.{ℕ, _≤_, _-_}
 use native.Mathlib.Omega.{arith}
 use Rattle.simulation.specs.Limits.{most-states}
-use Rattle.relation.specs.Mask.{member, either}
-use Rattle.relation.specs.Words.{words, mask, row-of, after, rest}
+use Rattle.word.specs.Mask.{member, either}
+use Rattle.set.specs.Words.{words, mask, after, rest}
+use Rattle.relation.specs.Rows.{row-of}
 use Rattle.relation.specs.Related.{holds}
 use Rattle.relation.proofs.Parts.{part-row}
 use Rattle.links.specs.Places.{behind-in}

@@ -4,8 +4,9 @@ use mathlib.Core.List.{List}
 use Prim.Native.Nat.{ℕ, _≤_, _-_}
 use native.Mathlib.Omega.{arith}
 use lib.ListN.{length}
-use Rattle.relation.specs.Words.{words, mask, after, rest}
-use Rattle.relation.proofs.Sets.{walk-begin, walk-into, walk-on, walk-done, length-put}
+use Rattle.set.specs.Words.{words, mask, after, rest}
+use Rattle.set.proofs.Sets.{walk-begin, walk-into, walk-on, walk-done}
+use Rattle.relation.proofs.RowLaws.{length-put}
 use Rattle.links.specs.Places.{HasMarks}
 use Rattle.links.proofs.Doubting.{Raised, raised-none, raised-next, raised-all}
 use Rattle.links.proofs.doubts.Statement.{statement}

@@ -10,9 +10,9 @@ use lib.ListN.{length}
 use Rattle.form.specs.Form.{transitions-of}
 use Rattle.form.specs.Tables.{form-at}
 use Rattle.form.proofs.FormLaws.{limits, counts, start-bound}
-use Rattle.relation.specs.Words.{height}
+use Rattle.relation.specs.Rows.{height}
 use Rattle.gather.specs.Places.{Places}
-use Rattle.fit.proofs.Fitting.{places-of}
+use Rattle.decision.proofs.Fitting.{places-of}
 use Rattle.links.specs.Links.{Joins}
 use Rattle.links.proofs.Growing.{LinksTo, links-next, joins-none, joins-more}
 use Rattle.links.proofs.link_state.Statement.{statement}

@@ -5,10 +5,11 @@ use mathlib.Core.List.{List}
 use Prim.Native.Nat.{ℕ, _+_, _-_, _≤_, _<_}
 use native.Mathlib.Omega.{arith}
 use lib.ListN.{length, getD}
-use Rattle.relation.specs.Mask.{with-member, member}
-use Rattle.relation.specs.Words.{mask, row-of, height}
+use Rattle.word.specs.Mask.{with-member, member}
+use Rattle.set.specs.Words.{mask}
+use Rattle.relation.specs.Rows.{row-of, height}
 use Rattle.relation.specs.Related.{holds}
-use Rattle.relation.proofs.Sets.{length-put}
+use Rattle.relation.proofs.RowLaws.{length-put}
 use Rattle.links.specs.Links.{Joins}
 use Rattle.links.proofs.Growing.{with-new, joins-none, joins-more, joins-set, set-here, each-next}
 use Rattle.links.proofs.link_targets.Statement.{statement}

@@ -1,6 +1,6 @@
 -- `matrix::marked` meets its contract. Assumes nothing.
-use Rattle.relation.specs.Mask.{member}
-use Rattle.relation.specs.Words.{mask}
+use Rattle.word.specs.Mask.{member}
+use Rattle.set.specs.Words.{mask}
 use Rattle.matrix.proofs.MaskedLaws.{put-none, put-some}
 use borrow.Author.Needs.{needs}
 use Rattle.matrix.proofs.marked.Statement.{statement}

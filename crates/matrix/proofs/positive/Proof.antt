@@ -3,8 +3,8 @@ use mathlib.Core.Path.{_∙_}
 use Prim.Native.Nat.{_-_, _≤_}
 use native.Mathlib.Omega.{arith}
 use lib.ListN.{length-take, length-drop}
-use Rattle.relation.specs.Words.{words}
-use Rattle.relation.proofs.Sets.{PlacesFilled, places-start, places-next, places-all, slice-passing}
+use Rattle.set.specs.Words.{words}
+use Rattle.set.proofs.Sets.{PlacesFilled, places-start, places-next, places-all, slice-passing}
 use Rattle.matrix.specs.Masks.{nonzero}
 use Rattle.matrix.proofs.MaskedLaws.{mask-of-part}
 use borrow.Author.Needs.{needs}

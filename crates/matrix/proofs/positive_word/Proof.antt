@@ -3,8 +3,8 @@ use mathlib.Core.Path.{_≡_, ap, _∙_}
 use Prim.Native.Nat.{ℕ, _-_, _≤_}
 use lib.ListN.{length, getD}
 use Rattle.simulation.proofs.Finite.Sums.{one-most}
-use Rattle.relation.specs.Mask.{member, part}
-use Rattle.relation.proofs.Mask.{part-start, part-bit, flag-is}
+use Rattle.word.specs.Mask.{member, part}
+use Rattle.word.proofs.Mask.{part-start, part-bit, flag-is}
 use Rattle.matrix.specs.Masks.{nonzero}
 use mir.Val.{boolByte}
 use native.Mathlib.Omega.{arith}

@@ -1,8 +1,8 @@
 -- `measure::node_length` meets its contract: the lengths of the members passed are added up. Assumes nothing.
 use Prim.Native.Nat.{ℕ, _≤_, _-_}
 use native.Mathlib.Omega.{arith}
-use Rattle.relation.specs.Words.{words, mask, after, rest}
-use Rattle.relation.proofs.Sets.{walk-begin, walk-into, walk-on, walk-done}
+use Rattle.set.specs.Words.{words, mask, after, rest}
+use Rattle.set.proofs.Sets.{walk-begin, walk-into, walk-on, walk-done}
 use Rattle.measure.proofs.Sums.{SumLoop, sum-start, sum-inside, sum-fits, sum-next, sum-end}
 use Rattle.measure.proofs.node_length.Statement.{statement}
 use Rattle.measure.proofs.node_length.Tie as tie

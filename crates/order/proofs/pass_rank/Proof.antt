@@ -1,8 +1,8 @@
 -- `order::pass_rank` meets its contract. Assumes nothing.
 use Prim.Native.Nat.{_≤_, _-_}
 use native.Mathlib.Omega.{arith}
-use Rattle.relation.specs.Words.{words, after, rest}
-use Rattle.relation.proofs.Sets.{walk-done}
+use Rattle.set.specs.Words.{words, after, rest}
+use Rattle.set.proofs.Sets.{walk-done}
 use Rattle.passing.specs.Passing.{trail}
 use Rattle.passing.proofs.Walks.{onward-at}
 use Rattle.order.proofs.Walks.{RankAt, rank-start, rank-into, rank-on, rank-next, rank-end}

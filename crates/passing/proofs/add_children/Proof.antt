@@ -2,8 +2,8 @@
 use mathlib.Core.Path.{ap₂, _∙_}
 use Prim.Native.Nat.{ℕ, _-_}
 use native.Mathlib.Omega.{arith}
-use Rattle.relation.specs.Mask.{member, either}
-use Rattle.relation.specs.Words.{mask}
+use Rattle.word.specs.Mask.{member, either}
+use Rattle.set.specs.Words.{mask}
 use Rattle.passing.proofs.Listing.{ChildrenLoop, children-start, target-row, set-row, children-next, children-end}
 use Rattle.passing.proofs.add_children.Statement.{statement}
 use Rattle.passing.proofs.add_children.Tie as tie

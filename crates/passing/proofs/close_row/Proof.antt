@@ -1,7 +1,7 @@
 -- `passing::close_row` meets its contract. Assumes nothing.
 use borrow.Author.Needs.{needs}
-use Rattle.relation.specs.Words.{mask}
-use Rattle.relation.proofs.Sets.{is-none}
+use Rattle.set.specs.Words.{mask}
+use Rattle.set.proofs.Sets.{is-none}
 use Rattle.counting.proofs.Pairs.{without-other}
 use Rattle.passing.proofs.close_row.Statement.{statement}
 use Rattle.passing.proofs.close_row.Tie as tie

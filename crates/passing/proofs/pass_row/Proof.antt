@@ -9,8 +9,8 @@ use Rattle.simulation.specs.Limits.{most-states, most-pairs}
 use Rattle.simulation.specs.Round.{rank}
 use Rattle.form.specs.Tables.{second-form, first-table, second-table}
 use Rattle.form.proofs.FormLaws.{limits}
-use Rattle.relation.specs.Words.{words, after, rest}
-use Rattle.relation.proofs.Sets.{walk-done}
+use Rattle.set.specs.Words.{words, after, rest}
+use Rattle.set.proofs.Sets.{walk-done}
 use Rattle.counting.proofs.Pairs.{rank-asked}
 use Rattle.passing.specs.Passing.{trail}
 use Rattle.passing.proofs.Parts.{todo-row}

@@ -3,9 +3,11 @@ use mathlib.Core.Path.{_≡_, refl, sym, ap, _∙_, subst}
 use Prim.Native.Nat.{ℕ, _+_, _-_, _≤_, _<_}
 use lib.ListN.{length}
 use mathlib.Core.List.{List}
-use Rattle.relation.specs.Mask.{Test, member, both, up-to}
-use Rattle.relation.specs.Words.{mask, row-of, height}
-use Rattle.relation.proofs.Sets.{length-put, both-of}
+use Rattle.word.specs.Mask.{Test, member, both, up-to}
+use Rattle.set.specs.Words.{mask}
+use Rattle.relation.specs.Rows.{row-of, height}
+use Rattle.set.proofs.Sets.{both-of}
+use Rattle.relation.proofs.RowLaws.{length-put}
 use Rattle.relation.specs.Related.{holds}
 use Rattle.ranking.proofs.Writing.{rows-next, rows-left}
 use native.Mathlib.Omega.{arith}

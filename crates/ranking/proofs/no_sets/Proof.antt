@@ -3,7 +3,7 @@
 use Prim.Native.Nat.{_+_, _*_}
 use native.Mathlib.Omega.{arith}
 use Rattle.simulation.specs.Limits.{most-states, most-transitions}
-use Rattle.relation.specs.Words.{words}
+use Rattle.set.specs.Words.{words}
 use Rattle.ranking.proofs.Zeros.{zeros-of}
 use Rattle.ranking.proofs.no_sets.Statement.{statement}
 use Rattle.ranking.proofs.no_sets.Tie as tie

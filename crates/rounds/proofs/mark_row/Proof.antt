@@ -4,9 +4,9 @@ use mathlib.Core.Bool.{true}
 use Prim.Native.Nat.{ℕ, _+_, _≤_, _-_}
 use mathlib.Core.List.{List}
 use lib.ListN.{length, getD, length-set}
-use Rattle.relation.specs.Mask.{member, except}
-use Rattle.relation.specs.Words.{words, mask, after, rest}
-use Rattle.relation.proofs.Sets.{walk-begin, walk-into, walk-on, walk-done}
+use Rattle.word.specs.Mask.{member, except}
+use Rattle.set.specs.Words.{words, mask, after, rest}
+use Rattle.set.proofs.Sets.{walk-begin, walk-into, walk-on, walk-done}
 use Rattle.rounds.specs.Rounds.{marked}
 use Rattle.rounds.proofs.Marking.{mark-start, mark-next, mark-end}
 use Rattle.links.proofs.Walks.{left-member}

@@ -4,8 +4,8 @@ use Prim.Native.Nat.{ℕ, _-_, _≤_}
 use native.Mathlib.Omega.{arith}
 use lib.ListN.{length, getD}
 use Rattle.simulation.specs.Round.{pairs}
-use Rattle.relation.specs.Words.{mask}
-use Rattle.relation.proofs.Sets.{not-none, not-some}
+use Rattle.set.specs.Words.{mask}
+use Rattle.set.proofs.Sets.{not-none, not-some}
 use Rattle.form.specs.Tables.{first-table, second-table}
 use Rattle.fit.specs.Known.{Tried}
 use Rattle.links.specs.Places.{lost-in}

@@ -6,9 +6,11 @@ use native.Mathlib.Nat.{mul-le-mul-right}
 use native.Mathlib.Omega.{arith}
 use lib.ListN.{length, getD}
 use Rattle.simulation.specs.Limits.{most-states}
-use Rattle.relation.specs.Mask.{member, except}
-use Rattle.relation.specs.Words.{words, mask, row-of, height, after, rest}
-use Rattle.relation.proofs.Sets.{walk-begin, walk-into, walk-on, walk-done, length-put, except-of}
+use Rattle.word.specs.Mask.{member, except}
+use Rattle.set.specs.Words.{words, mask, after, rest}
+use Rattle.relation.specs.Rows.{row-of, height}
+use Rattle.set.proofs.Sets.{walk-begin, walk-into, walk-on, walk-done, except-of}
+use Rattle.relation.proofs.RowLaws.{length-put}
 use Rattle.relation.proofs.Parts.{part-row}
 use Rattle.links.specs.Places.{lost-in}
 use Rattle.rounds.specs.Rounds.{marked, Settled}

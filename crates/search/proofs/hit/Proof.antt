@@ -1,10 +1,10 @@
 -- `search::hit` meets its contract: the rows passed have no free column. Assumes nothing.
 use mathlib.Core.List.{List}
 use Prim.Native.Nat.{ℕ, _≤_, _-_}
-use Rattle.relation.specs.declared.set.Set.{Set}
-use Rattle.relation.specs.Mask.{member}
-use Rattle.relation.specs.Words.{words, after, rest, mask}
-use Rattle.relation.proofs.Sets.{mask-lt, walk-begin, walk-into, walk-on, walk-done, both-of, not-none, not-some}
+use Rattle.set.specs.declared.Set.{Set}
+use Rattle.word.specs.Mask.{member}
+use Rattle.set.specs.Words.{words, after, rest, mask}
+use Rattle.set.proofs.Sets.{mask-lt, walk-begin, walk-into, walk-on, walk-done, both-of, not-none, not-some}
 use Rattle.search.proofs.SearchLaws.{Hitting, hitting-none, hitting-next, hitting-found, hitting-end}
 use native.Mathlib.Omega.{arith}
 use Rattle.search.proofs.hit.Statement.{statement}

@@ -3,9 +3,9 @@ use mathlib.Core.Path.{_≡_, refl, _∙_}
 use mathlib.Core.List.{List}
 use Prim.Native.Nat.{ℕ, _≤_, _-_}
 use lib.ListN.{length, length-set}
-use Rattle.relation.specs.declared.set.Set.{Set}
-use Rattle.relation.specs.Words.{words, after, rest, mask}
-use Rattle.relation.proofs.Sets.{mask-lt, walk-begin, walk-into, walk-on, walk-done}
+use Rattle.set.specs.declared.Set.{Set}
+use Rattle.set.specs.Words.{words, after, rest, mask}
+use Rattle.set.proofs.Sets.{mask-lt, walk-begin, walk-into, walk-on, walk-done}
 use Rattle.search.specs.Links.{from, via}
 use Rattle.search.proofs.SearchLaws.{Linking, linking-none, linking-next, linking-end}
 use native.Mathlib.Nat.{zero-add}

@@ -3,8 +3,8 @@ use mathlib.Core.Path.{_≡_, refl, sym, _∙_, subst}
 use Prim.Native.Nat.{ℕ, _+_, _≤_, min}
 use lib.ListN.{length}
 use Rattle.simulation.specs.Limits.{most-states}
-use Rattle.relation.specs.Words.{mask}
-use Rattle.relation.proofs.Sets.{mask-lt, not-none, not-some}
+use Rattle.set.specs.Words.{mask}
+use Rattle.set.proofs.Sets.{mask-lt, not-none, not-some}
 use Rattle.search.specs.Links.{from, via}
 use Rattle.search.proofs.SearchLaws.{Frontier, frontier-none, frontier-next, frontier-found, frontier-end, frontier-rows, unreached, unreached-most, unreached-falls}
 use native.Mathlib.Omega.{arith}

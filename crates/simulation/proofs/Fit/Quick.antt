@@ -13,7 +13,7 @@ use Rattle.simulation.specs.Sum.{sum, any, when}
 use Rattle.simulation.specs.Fit.{Amounts, Set, Fits, Positive, weight, weight-of, total, touched, gain, fits?, cut}
 use Rattle.simulation.specs.Table.{Transition, weights, target-at}
 use Rattle.simulation.specs.Round.{Relation, related, between, fits-step}
-use Rattle.simulation.proofs.Finite.Tests.{either, by-contradiction, is-true, is-false, same?, any-some, some-any, touched-some, true-T}
+use Rattle.simulation.proofs.Finite.Tests.{true-or-not, by-contradiction, is-true, is-false, same?, any-some, some-any, touched-some, true-T}
 use Rattle.simulation.proofs.Finite.Sums.{sum-ext, sum-mul, sum-term, sum-zero, when-mul}
 use Rattle.simulation.proofs.Flow.Partial.{Reach, row, column, tight-from}
 use Rattle.simulation.proofs.Fit.Gain.{supply, demand, weight-split, gain-is, gain-ext, gain-largest, largest-gained, fits-gain, cut-least}
@@ -166,4 +166,4 @@ module _ (R : ℕ → ℕ → Bool) (ws vs : List ℕ) where
       absurd
       (let none : (i : ℕ) → i < length ws → cut R ws vs i ≡ false = λ i l. is-false (cut R ws vs i) (λ t. T-not (any (length ws) (cut R ws vs)) f (some-any (length ws) (cut R ws vs) i l t)) in
       omega (arith, gain-ext R ws vs (cut R ws vs) (λ i. false) none, gain-none, cut-excess R ws vs (fails e))))
-      (either (any (length ws) (cut R ws vs)))
+      (true-or-not (any (length ws) (cut R ws vs)))

@@ -3,8 +3,8 @@ use mathlib.Core.Path.{_≡_, refl, _∙_}
 use borrow.Author.Needs.{needs}
 use native.Mathlib.Omega.{arith}
 use lib.ListN.{length}
-use Rattle.relation.specs.Mask.{member}
-use Rattle.relation.specs.Words.{mask}
+use Rattle.word.specs.Mask.{member}
+use Rattle.set.specs.Words.{mask}
 use Rattle.matrix.specs.Flow.{missing, partial}
 use Rattle.matrix.proofs.FlowLaws.{flow-now}
 use Rattle.search.specs.Links.{HasLinks, from, via}

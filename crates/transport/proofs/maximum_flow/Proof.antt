@@ -6,8 +6,8 @@ use native.Mathlib.Omega.{arith}
 use borrow.Author.Needs.{needs}
 use lib.ListN.{length, take, length-append}
 use lib.Seq.{length-take-le, take-at}
-use Rattle.relation.specs.Words.{mask}
-use Rattle.relation.proofs.Sets.{mask-lt}
+use Rattle.set.specs.Words.{mask}
+use Rattle.set.proofs.Sets.{mask-lt}
 use Rattle.matrix.specs.Flow.{Partial, partial}
 use Rattle.transport.specs.Answer.{MaximumFlow}
 use Rattle.transport.specs.Paths.{Counts}

@@ -5,8 +5,8 @@ use native.Mathlib.Omega.{arith}
 use native.Mathlib.Nat.{mul-le-mul-left}
 use lib.ListN.{length}
 use Rattle.simulation.specs.Limits.{most-pairs}
-use Rattle.relation.specs.Words.{words, mask, after, rest}
-use Rattle.relation.proofs.Sets.{walk-begin, walk-into, walk-on, walk-done}
+use Rattle.set.specs.Words.{words, mask, after, rest}
+use Rattle.set.proofs.Sets.{walk-begin, walk-into, walk-on, walk-done}
 use Rattle.counting.specs.Count.{Within}
 use Rattle.counting.proofs.Counting.{RowLoop, counting-start, member-place, member-small, member-fits, row-turn, counting-end}
 use Rattle.counting.proofs.count.add_row.Statement.{statement}

@@ -2,7 +2,7 @@
 -- Assumes nothing.
 use mathlib.Core.Path.{sym, _∙_}
 use borrow.Author.Needs.{needs}
-use Rattle.fit.proofs.Fitting.{other-code}
+use Rattle.fit.proofs.Codes.{other-code}
 use Rattle.fit.proofs.Comparing.{cut-fits}
 use Rattle.fit.proofs.ranked.fits.Statement.{statement}
 use Rattle.fit.proofs.ranked.fits.Tie as tie

@@ -4,10 +4,10 @@ use mathlib.Core.List.{List}
 use Prim.Native.Nat.{ℕ, _+_, _-_, _*_, _≤_}
 use native.Mathlib.Omega.{arith}
 use lib.ListN.{getD, drop, length-take, length-drop}
-use Rattle.relation.specs.Mask.{Test}
+use Rattle.word.specs.Mask.{Test}
 use Rattle.relation.specs.Ranks.{lasts}
-use Rattle.relation.specs.Words.{words}
-use Rattle.relation.proofs.Sets.{PlacesFilled, places-start, places-next, places-all, slice-passing}
+use Rattle.set.specs.Words.{words}
+use Rattle.set.proofs.Sets.{PlacesFilled, places-start, places-next, places-all, slice-passing}
 use Rattle.relate.proofs.Laws.{indexed-take, indexed-drop}
 use borrow.Author.Needs.{needs}
 use Rattle.relate.proofs.between.row.Statement.{statement}

@@ -3,8 +3,8 @@ use mathlib.Core.Path.{_≡_, _∙_, ap}
 use Prim.Native.Nat.{_≤_, _-_}
 use native.Mathlib.Omega.{arith}
 use lib.ListN.{length}
-use Rattle.relation.specs.Mask.{member, part}
-use Rattle.relation.proofs.Mask.{part-start, part-bit}
+use Rattle.word.specs.Mask.{member, part}
+use Rattle.word.proofs.Mask.{part-start, part-bit}
 use Rattle.simulation.proofs.Finite.Sums.{one-most}
 use Rattle.relate.specs.Rows.{ranked-row}
 use Rattle.relate.proofs.between.row_word.Statement.{statement}

@@ -2,7 +2,7 @@
 use mathlib.Core.Path.{_∙_, ap}
 use native.Mathlib.Omega.{arith}
 use Rattle.simulation.specs.Sum.{when}
-use Rattle.relation.proofs.Sets.{row-bit}
+use Rattle.relation.proofs.RowLaws.{row-bit}
 use denote.Ref.{now}
 use borrow.Author.Needs.{needs}
 use Rattle.relation.proofs.rows.bit.Statement.{statement}

@@ -5,7 +5,7 @@ use native.Mathlib.Omega.{arith}
 use borrow.Author.Needs.{needs}
 use Rattle.simulation.specs.Limits.{most-states}
 use Rattle.simulation.specs.Sum.{sum}
-use Rattle.relation.specs.Mask.{member, size}
+use Rattle.word.specs.Mask.{member, size}
 use Rattle.relation.specs.Related.{holds, pairs-of}
 use Rattle.relation.proofs.Relations.{pairs-next, pairs-most}
 use Rattle.relation.proofs.rows.count.Statement.{statement}

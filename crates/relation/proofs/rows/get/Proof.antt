@@ -1,6 +1,6 @@
 -- `relation::rows::get` meets its contract. Assumes nothing.
 use denote.Ref.{now}
-use Rattle.relation.proofs.Sets.{row-get}
+use Rattle.relation.proofs.RowLaws.{row-get}
 use borrow.Author.Needs.{needs}
 use Rattle.relation.proofs.rows.get.Statement.{statement}
 use Rattle.relation.proofs.rows.get.Tie as tie

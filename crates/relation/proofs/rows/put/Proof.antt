@@ -4,8 +4,9 @@ use Prim.Native.Nat.{ℕ, _+_, _*_}
 use native.Mathlib.Omega.{arith}
 use lib.ListN.{set, length-set}
 use denote.Ref.{now}
-use Rattle.relation.specs.Words.{words, word-of, put-row}
-use Rattle.relation.proofs.Words.{equation}
+use Rattle.set.specs.Words.{words, word-of}
+use Rattle.relation.specs.Rows.{put-row}
+use Rattle.set.proofs.Words.{equation}
 use borrow.Author.Needs.{needs}
 use Rattle.relation.proofs.rows.put.Statement.{statement}
 use Rattle.relation.proofs.rows.put.Tie as tie

@@ -9,8 +9,8 @@ use native.Mathlib.Omega.{arith}
 use lib.ListN.{length, length-set}
 use Rattle.form.specs.Tables.{first-step}
 use Rattle.form.proofs.FormLaws.{targets-length}
-use Rattle.relation.specs.Words.{words, rest as left-of, after}
-use Rattle.relation.proofs.Sets.{after-all, after-rest, walk-done}
+use Rattle.set.specs.Words.{words, rest as left-of, after}
+use Rattle.set.proofs.Sets.{after-all, after-rest, walk-done}
 use Rattle.tree.proofs.Slots.{slot-lent}
 use Rattle.tree.proofs.Nodes.{count-byte, word-next, word-done, kept-all, kept-then, NodeLoop, Next, node-room, node-begins, node-same, node-asked, turn-slot, node-step, node-joins, node-next, node-ends}
 use Rattle.tree.proofs.Steps.{AroundLoop, Child, step-long, begin-given, around-begins, children-few, stack-room, number-known, place-known, entry-slot, sum-given, child-slot, child-fits, child-given, join-fits, around-next, around-ends}
@@ -31,9 +31,9 @@ use Rattle.form.proofs.tables.targets.Reads as targets-reads
 use Rattle.measure.proofs.node_length.Reads as node-length-reads
 use Rattle.measure.proofs.pair_length.Reads as pair-length-reads
 use Rattle.relation.proofs.rows.get.Reads as get-reads
-use Rattle.relation.proofs.set.count.Reads as count-reads
-use Rattle.relation.proofs.walk.lowest.Reads as lowest-reads
-use Rattle.relation.proofs.walk.without_lowest.Reads as without-lowest-reads
+use Rattle.set.proofs.count.Reads as count-reads
+use Rattle.set.proofs.walk.lowest.Reads as lowest-reads
+use Rattle.set.proofs.walk.without_lowest.Reads as without-lowest-reads
 use Rattle.tree.proofs.write.begin_transition.Reads as begin-transition-reads
 use Rattle.tree.proofs.write.join.Reads as join-reads
 use Rattle.tree.proofs.write.nothing.Reads as nothing-reads

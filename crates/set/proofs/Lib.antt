@@ -1,0 +1,4 @@
+-- Laws of numbers made of words, and of sets.
+-- Assumes nothing.
+pub mod Words
+pub mod Sets

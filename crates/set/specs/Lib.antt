@@ -1,0 +1,4 @@
+-- The definitions, in reading order.
+-- Assumes nothing.
+pub mod Words
+pub mod Examples

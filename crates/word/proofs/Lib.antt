@@ -1,0 +1,3 @@
+-- Laws of masks.
+-- Assumes nothing.
+pub mod Mask
