@@ -13,7 +13,8 @@ ghost use Rattle.simulation.specs.Fit.{fits?, total, weight};
 ghost use Rattle.word.specs.Mask.{member, part, word-bits};
 ghost use Rattle.relation.specs.Related.{holds};
 ghost use Rattle.matrix.specs.Problem.{Sides, joins};
-ghost use Rattle.excess.specs.Excess.{few, set-count, joined, Joined, Summed, parts, AtMost, Carries, «set-of», «related-to», HasRows, AreStates, NoSums, BySets};
+ghost use Rattle.excess.specs.Excess.{few, set-count, joined, Joined, Summed, parts, AtMost, Carries, «set-of», «related-to», HasRows};
+ghost use Rattle.excess.specs.Excess.{AreStates, NoSums, BySets};
 
 pub struct Few {}
 

@@ -8,7 +8,8 @@ ghost use lib.Dec.{eqb};
 ghost use lib.ListN.{length};
 ghost use Rattle.simulation.specs.Sum.{sum, any};
 ghost use Rattle.simulation.specs.Limits.{most-total, most-transitions};
-ghost use Rattle.layout.specs.Bytes.{_then_, refuse_unless_, actions, byte, code, first, code-refusal, transition-refusal, target-right, weight-from, weight-right, entry-refusal, size-from, run-refusal};
+ghost use Rattle.layout.specs.Bytes.{_then_, refuse_unless_, actions, byte, code, first, code-refusal, transition-refusal};
+ghost use Rattle.layout.specs.Bytes.{target-right, weight-from, weight-right, entry-refusal, size-from, run-refusal};
 
 // Section 1: the n codes ascend strictly.
 pub fn codes_refusal(s: &[u8], n: usize) -> u8

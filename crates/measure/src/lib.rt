@@ -27,7 +27,8 @@ ghost use Rattle.counting.specs.Pair.{number};
 ghost use Rattle.counting.specs.Count.{longest};
 ghost use Rattle.passing.specs.Passing.{OrderGiven, PairNoted};
 ghost use Rattle.order.specs.Order.{Ordered};
-ghost use Rattle.measure.specs.Lengths.{most, set-length, SumGiven, children-length, most-children, ChildrenGiven, MeasureGiven, PairGiven, AllHold, TreeMeasured};
+ghost use Rattle.measure.specs.Lengths.{most, set-length, SumGiven, children-length, most-children, ChildrenGiven, MeasureGiven, PairGiven};
+ghost use Rattle.measure.specs.Lengths.{AllHold, TreeMeasured};
 
 // A longer length is given as this number.
 pub const MOST: u32 = 4_294_967_295;

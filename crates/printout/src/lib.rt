@@ -1,7 +1,6 @@
 // The text that podcheck prints for two tables in its input: the check, and the report of what it answers.
 // Few pairs and short trees have short buffers: most of the work of a small check would else be to clear the largest.
 use simulation::Table;
-ghost use mathlib.Core.Path.{_≡_};
 ghost use mathlib.Core.Logic.{_≢_};
 ghost use Prim.Native.Nat.{_*_, _≤_};
 ghost use lib.ListN.{length};
