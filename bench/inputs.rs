@@ -25,7 +25,7 @@ mod tree;
 use make::Shape;
 use random::Random;
 use std::path::Path;
-use table::{parse, Table, Transition, C, P};
+use table::{parse, Table, Transition, C, CODES, NARROW, OLD_P, P, TRANSITIONS};
 
 /// A random table and a near copy: of some tries the one with most rounds
 /// among those whose starts are told apart late.
@@ -131,8 +131,36 @@ fn watched_counter(states: usize) -> (Table, Table) {
     (watched(first), watched(second))
 }
 
+/// As many codes and transitions as there may be, all by the last code: most
+/// of the work is to look codes up.
+fn listed() -> (Table, Table) {
+    let codes: Vec<u16> = (0..CODES as u16).map(|k| 64 * k + 63).collect();
+    let steps = vec![make::to(codes[CODES - 1], 0); TRANSITIONS / 2];
+    let table = Table {
+        codes,
+        states: vec![steps; 2],
+    };
+    (table.clone(), table)
+}
+
+/// The largest table of the old layout.
+fn largest_old() -> Vec<u8> {
+    let mut table = make::limit(&mut Random::new(7), 25, true);
+    table.codes = (1..=255).collect();
+    table.bytes_at(NARROW)
+}
+
+/// Writes an input and the text that is due.
+fn write(folder: &Path, name: &str, input: &[u8]) {
+    let path = folder.join(name);
+    let output = program::output_by(0, input);
+    std::fs::write(path.with_extension("in"), input).unwrap();
+    std::fs::write(path.with_extension("out"), output).unwrap();
+}
+
 fn main() {
     let folder = std::env::args().nth(1).expect("a folder");
+    let folder = Path::new(&folder);
     let limit =
         |states, codes| move |random: &mut Random| make::sized(random, states, codes, false);
     let cases = [
@@ -153,17 +181,18 @@ fn main() {
         ("fan of 128", fan(128, 0, 1)),
         ("chain of 127", make::chain(128)),
         ("cycles of 127, 128", make::cycles(127, 128)),
-        // The deepest tree that can be written.
-        ("cycles of 103, 106", make::cycles(103, 106)),
+        // The deepest tree of cycles that can be written.
+        ("cycles of 80, 117", make::cycles(80, 117)),
         ("counter to 16384", make::counter(128)),
         ("255 steps", many(255)),
         ("watched counter", watched_counter(63)),
+        ("1024 codes", listed()),
     ];
     for (name, (first, second)) in cases {
         let input = program::input(&first.bytes(), &second.bytes());
-        let output = program::output_by(0, &input);
-        let path = Path::new(&folder).join(name);
-        std::fs::write(path.with_extension("in"), input).unwrap();
-        std::fs::write(path.with_extension("out"), output).unwrap();
+        write(folder, name, &input);
     }
+    // podcheck refuses these; firmware/run widens them.
+    let old = program::input(&OLD_P, &largest_old());
+    write(folder, "old tables", &old);
 }

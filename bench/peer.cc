@@ -22,6 +22,7 @@ namespace {
 __extension__ using Set = unsigned __int128;
 using Bytes = std::vector<unsigned char>;
 
+constexpr int max_codes = 1024;
 constexpr int max_states = 128;
 constexpr int max_transitions = 256;
 constexpr int max_entries = 512;
@@ -94,14 +95,16 @@ void rule(bool holds, int number) {
 
 Table parse(const Bytes& bytes) {
   Reader reader(bytes);
-  std::vector<int> codes(reader.byte());
-  reader.need(codes.size());
-  for (int& code : codes) code = reader.byte();
+  int count = reader.two();
+  rule(count <= max_codes, 3);
+  reader.need(2 * count);
+  std::vector<int> codes(count);
+  for (int& code : codes) code = reader.two();
   auto falls = std::adjacent_find(codes.begin(), codes.end(),
                                   [](int a, int b) { return a >= b; });
   rule(falls == codes.end(), 3);
 
-  int count = reader.byte();
+  count = reader.byte();
   rule(count >= 1 && count <= max_states, 4);
   reader.need(count);
   Table table;
@@ -113,11 +116,11 @@ Table parse(const Bytes& bytes) {
 
   count = reader.two();
   rule(count <= max_transitions && count == sum, 5);
-  reader.need(2 * count);
+  reader.need(3 * count);
   sum = 0;
   for (auto& steps : table.states) {
     for (Step& step : steps) {
-      step.code = reader.byte();
+      step.code = reader.two();
       rule(std::binary_search(codes.begin(), codes.end(), step.code), 6);
       step.entries.resize(reader.byte());
       rule(!step.entries.empty(), 8);
@@ -295,7 +298,7 @@ class Trees {
     std::optional<Chosen>& chosen = chosen_[at(s, t)];
     if (!chosen) {
       Chosen found = choose(s, t);
-      std::uint32_t sum = 2;
+      std::uint32_t sum = 3;
       for (std::size_t i = 0; i < found.sets.size(); ++i) {
         sum += 4;
         each(found.sets[i], [&](int other) {
@@ -314,7 +317,8 @@ class Trees {
     bytes.push_back(size(set));
     each(set, [&](int t) {
       const Chosen& chosen = *chosen_[at(s, t)];
-      bytes.push_back(chosen.m->code);
+      bytes.push_back(chosen.m->code % 256);
+      bytes.push_back(chosen.m->code / 256);
       bytes.push_back(chosen.m->entries.size());
       for (std::size_t i = 0; i < chosen.sets.size(); ++i) {
         const Entry& entry = chosen.m->entries[i];

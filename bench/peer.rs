@@ -7,6 +7,7 @@ use std::fmt::Write as _;
 use std::io::{Read, Write as _};
 use std::ops::Range;
 
+const CODES: usize = 1_024;
 const STATES: usize = 128;
 const TRANSITIONS: usize = 256;
 const ENTRIES: usize = 512;
@@ -14,7 +15,7 @@ const TOTAL: u32 = 65_535;
 const LONGEST: u32 = 65_535;
 
 struct Step<S> {
-    code: u8,
+    code: u16,
     total: u32,
     /// States with a weight above 0.
     targets: S,
@@ -39,22 +40,26 @@ impl<'a> Cursor<'a> {
     }
 
     fn two(&mut self) -> Result<usize, u32> {
-        let bytes = self.take(2)?;
-        Ok(u16::from_le_bytes([bytes[0], bytes[1]]) as usize)
+        Ok(two(self.take(2)?) as usize)
     }
+}
+
+/// The number that the first two bytes hold.
+fn two(bytes: &[u8]) -> u16 {
+    u16::from_le_bytes([bytes[0], bytes[1]])
 }
 
 impl<S: Set> Table<S> {
     fn parse(bytes: &[u8]) -> Result<Self, u32> {
         let mut cursor = Cursor(bytes);
-        let count = cursor.take(1)?[0] as usize;
-        let codes = cursor.take(count)?;
-        let mut listed = [false; 256];
-        for (k, &code) in codes.iter().enumerate() {
-            if k > 0 && codes[k - 1] >= code {
-                return Err(3);
-            }
-            listed[code as usize] = true;
+        let count = cursor.two()?;
+        if count > CODES {
+            return Err(3);
+        }
+        let codes = cursor.take(2 * count)?.chunks_exact(2);
+        let codes: Vec<u16> = codes.map(two).collect();
+        if codes.windows(2).any(|two| two[0] >= two[1]) {
+            return Err(3);
         }
 
         let count = cursor.take(1)?[0] as usize;
@@ -68,16 +73,16 @@ impl<S: Set> Table<S> {
         if count > TRANSITIONS || count != sum {
             return Err(5);
         }
-        let heads = cursor.take(2 * count)?;
+        let heads = cursor.take(3 * count)?.chunks_exact(3);
         let mut sum = 0;
-        for head in heads.chunks_exact(2) {
-            if !listed[head[0] as usize] {
+        for head in heads.clone() {
+            if codes.binary_search(&two(head)).is_err() {
                 return Err(6);
             }
-            if head[1] == 0 {
+            if head[2] == 0 {
                 return Err(8);
             }
-            sum += head[1] as usize;
+            sum += head[2] as usize;
         }
 
         let count = cursor.two()?;
@@ -85,10 +90,10 @@ impl<S: Set> Table<S> {
             return Err(7);
         }
         let mut entries = Cursor(cursor.take(3 * count)?);
-        let mut steps = Vec::with_capacity(heads.len() / 2);
-        for head in heads.chunks_exact(2) {
-            let bytes = entries.take(3 * head[1] as usize)?;
-            steps.push(Step::parse(head[0], bytes, shares.len())?);
+        let mut steps = Vec::with_capacity(heads.len());
+        for head in heads {
+            let bytes = entries.take(3 * head[2] as usize)?;
+            steps.push(Step::parse(two(head), bytes, shares.len())?);
         }
         if !cursor.0.is_empty() {
             return Err(2);
@@ -121,7 +126,7 @@ impl<S: Set> Table<S> {
 }
 
 impl<S: Set> Step<S> {
-    fn parse(code: u8, bytes: &[u8], states: usize) -> Result<Self, u32> {
+    fn parse(code: u16, bytes: &[u8], states: usize) -> Result<Self, u32> {
         let mut step = Step {
             code,
             total: 0,
@@ -134,7 +139,7 @@ impl<S: Set> Step<S> {
             if target as usize >= states || !rises {
                 return Err(9);
             }
-            let weight = u16::from_le_bytes([entry[1], entry[2]]);
+            let weight = two(&entry[1..]);
             step.total += weight as u32;
             if weight == 0 || step.total > TOTAL {
                 return Err(10);
@@ -413,7 +418,7 @@ impl<S: Set, const N: usize> Trees<'_, S, N> {
         }
         let (place, sets) = self.choose(s, t);
         let first = self.first;
-        let mut length: u32 = 2;
+        let mut length: u32 = 3;
         for (i, &(state, _)) in first.steps_of(s)[place].entries.iter().enumerate() {
             length = length.saturating_add(4);
             for t in sets[i].members() {
@@ -433,7 +438,8 @@ impl<S: Set, const N: usize> Trees<'_, S, N> {
         for t in set.members() {
             let chosen = self.chosen[self.at(s, t)].as_ref().expect("measured");
             let m = &self.first.steps_of(s)[chosen.place];
-            bytes.extend([m.code, m.entries.len() as u8]);
+            bytes.extend(m.code.to_le_bytes());
+            bytes.push(m.entries.len() as u8);
             for (&(state, weight), &set) in m.entries.iter().zip(&chosen.sets) {
                 bytes.push(state);
                 bytes.extend(weight.to_le_bytes());
@@ -455,7 +461,8 @@ fn take<'a>(input: &mut &'a [u8]) -> &'a [u8] {
 
 /// How many states a table names, be it a right one or not.
 fn states(table: &[u8]) -> usize {
-    let place = table.first().map_or(0, |&codes| 1 + codes as usize);
+    let codes = table.get(..2).map_or(0, two) as usize;
+    let place = 2 + 2 * codes;
     table.get(place).map_or(0, |&count| count as usize)
 }
 

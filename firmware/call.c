@@ -40,3 +40,9 @@ void check_each(void)
     for (int i = 0; i < 2; i++)
         pod_check_table(tables[i], lengths[i], results.alone[i], POD_FIELDS);
 }
+
+void widen_each(void)
+{
+    for (int i = 0; i < 2; i++)
+        pod_widen(tables[i], lengths[i], results.wide[i], sizeof results.wide[i], results.widening[i], POD_FIELDS);
+}

@@ -6,22 +6,24 @@
 
 #include "../include/pod.h"
 
-/* The limits of a table: its states, and its bytes. */
-enum { STATES = 128, TABLE_LENGTH = 2437 };
+/* The limits of a table: its states, its bytes, and those of a widened one. */
+enum { STATES = 128, TABLE_LENGTH = 4487, WIDENED_LENGTH = 2949 };
 
 /* Two tables, each behind its length of 2 bytes. */
 enum { INPUT_LENGTH = 2 * (2 + TABLE_LENGTH) };
 
 /* The longest tree, and as long a flow as fits. */
-enum { TREE_LENGTH = 65535, FLOW_LENGTH = 165000 };
+enum { TREE_LENGTH = 65535, FLOW_LENGTH = 154000 };
 
 /* All that the library writes. The members leave no gaps between them on either side. */
 struct results {
     uint32_t answer[POD_FIELDS];
-    uint32_t alone[2][POD_FIELDS]; /* of each table by itself */
+    uint32_t alone[2][POD_FIELDS];    /* of each table by itself */
+    uint32_t widening[2][POD_FIELDS]; /* of each table as an old one */
     uint16_t ranks[STATES * STATES];
     uint8_t flow[FLOW_LENGTH];
     uint8_t tree[TREE_LENGTH];
+    uint8_t wide[2][WIDENED_LENGTH];
 };
 
 extern uint8_t input[INPUT_LENGTH];
@@ -36,5 +38,8 @@ void check(void);
 
 /* pod_check_table for either table. */
 void check_each(void);
+
+/* pod_widen for either table. */
+void widen_each(void);
 
 #endif

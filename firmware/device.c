@@ -41,6 +41,7 @@ int main(void)
     prepare(read_file("input", input, sizeof input));
     measure();
     check_each();
+    widen_each();
     write_file("results", &results, sizeof results);
     write_file("cost", &cost, sizeof cost);
     leave(stack_bottom[0] != PAINT);

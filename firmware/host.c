@@ -8,5 +8,6 @@ int main(void)
     prepare(fread(input, 1, sizeof input, stdin));
     check();
     check_each();
+    widen_each();
     return fwrite(&results, sizeof results, 1, stdout) == 1 ? 0 : 1;
 }

@@ -2,7 +2,7 @@
 
 use crate::flow::{must_split, needed};
 use crate::ranks::{rank, Ranking};
-use crate::table::{parse, Table};
+use crate::table::{parse, widen, Table};
 use crate::tree::{Trees, LONGEST};
 
 #[derive(Clone, Copy, Debug, Default, PartialEq)]
@@ -33,6 +33,23 @@ pub fn table_answer(bytes: &[u8]) -> Answer {
     match parse(bytes) {
         Ok(_) => Answer::default(),
         Err(number) => Answer::refusal(number, 1, 0),
+    }
+}
+
+/// The answer to an old table that is to be widened into a buffer of this
+/// length, and the bytes that its start must hold then.
+pub fn widen_answer(old: &[u8], out: usize) -> (Answer, Vec<u8>) {
+    let refuse = |number, table, needed| (Answer::refusal(number, table, needed), Vec::new());
+    match widen(old) {
+        Err(number) => refuse(number, 1, 0),
+        Ok(wide) if out < wide.len() => refuse(27, 0, wide.len() as u32),
+        Ok(wide) => {
+            let answer = Answer {
+                written: wide.len() as u32,
+                ..Answer::default()
+            };
+            (answer, wide)
+        }
     }
 }
 
@@ -76,16 +93,22 @@ impl Pair {
         let bytes = (first.to_vec(), second.to_vec());
         let first = parse(first).map_err(|number| Answer::refusal(number, 1, 0))?;
         let second = parse(second).map_err(|number| Answer::refusal(number, 2, 0))?;
+        Ok(Pair::in_bytes(subsets, bytes, (first, second)))
+    }
+
+    /// Two tables that a call is handed in these bytes.
+    pub fn in_bytes(subsets: usize, bytes: (Vec<u8>, Vec<u8>), tables: (Table, Table)) -> Pair {
+        let (first, second) = tables;
         let ranking = rank(subsets, &first, &second);
         let trees = Trees::new(subsets, &first, &second, &ranking);
-        Ok(Pair {
+        Pair {
             bytes,
             first,
             second,
             ranking,
             trees,
             subsets,
-        })
+        }
     }
 
     /// Two tables that keep the rules, of any size: all fits by a flow.

@@ -11,6 +11,7 @@ pub mod make;
 pub mod program;
 pub mod random;
 pub mod ranks;
+pub mod spoil;
 pub mod stack;
 pub mod table;
 pub mod tree;

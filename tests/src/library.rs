@@ -3,7 +3,7 @@
 
 use crate::answer::Answer;
 #[cfg(feature = "check")]
-use crate::answer::{Expected, Lengths, Pair, Shown};
+use crate::answer::{widen_answer, Expected, Lengths, Pair, Shown};
 #[cfg(feature = "check")]
 use crate::flow::judge;
 use crate::stack::{used, PROMISED};
@@ -28,6 +28,15 @@ extern "C" {
         flow_len: usize,
         tree: *mut u8,
         tree_len: usize,
+        answer: *mut u32,
+        answer_len: usize,
+    );
+    #[cfg(feature = "check")]
+    fn pod_widen(
+        old: *const u8,
+        old_len: usize,
+        out: *mut u8,
+        out_len: usize,
         answer: *mut u32,
         answer_len: usize,
     );
@@ -107,6 +116,15 @@ pub fn check_table(table: &[u8], salt: u64) -> Answer {
     answer_of(&answer)
 }
 
+/// The number in the answer to a lone table; the table must be told with it,
+/// and all else be 0.
+pub fn number(table: &[u8]) -> u32 {
+    let answer = check_table(table, table.len() as u64);
+    let refused = (answer.number > 0) as u32;
+    assert_eq!(answer, Answer::refusal(answer.number, refused, 0));
+    answer.number
+}
+
 /// Whether a lone table's answer buffer of this length is left as lent.
 pub fn check_table_short(table: &[u8], length: usize) -> bool {
     let mut answer = Lent::new(length, 7, |p| p as u32);
@@ -116,6 +134,57 @@ pub fn check_table_short(table: &[u8], length: usize) -> bool {
         pod_check_table(table.as_ptr(), table.len(), part.as_mut_ptr(), part.len())
     });
     answer.filled(0).is_some()
+}
+
+/// Buffers after an old table was widened.
+#[cfg(feature = "check")]
+pub struct Widened {
+    out: Lent<u8>,
+    answer: Lent<u32>,
+}
+
+#[cfg(feature = "check")]
+impl Widened {
+    /// Widens an old table with buffers of these lengths.
+    pub fn new(old: &[u8], out: usize, answer: usize, salt: u64) -> Widened {
+        let mut widened = Widened {
+            out: Lent::new(out, salt, |p| p as u8),
+            answer: Lent::new(answer, salt + 1, |p| p as u32),
+        };
+        let (out, answer) = (widened.out.part(), widened.answer.part());
+        // SAFETY: pointers and lengths are those of live slices, no two of
+        // which overlap.
+        bounded(|| unsafe {
+            pod_widen(
+                old.as_ptr(),
+                old.len(),
+                out.as_mut_ptr(),
+                out.len(),
+                answer.as_mut_ptr(),
+                answer.len(),
+            )
+        });
+        widened
+    }
+
+    /// Whether nothing that was lent has changed.
+    pub fn untouched(&self) -> bool {
+        self.answer.filled(0).is_some() && self.out.filled(0).is_some()
+    }
+}
+
+/// Widens an old table, holds the answer and all bytes of the buffer against
+/// what they must be, and gives the answer with the bytes written.
+#[cfg(feature = "check")]
+pub fn widen(old: &[u8], out: usize, salt: u64) -> (Answer, Vec<u8>) {
+    let widened = Widened::new(old, out, FIELDS + (salt % 3) as usize, salt);
+    let (due, wide) = widen_answer(old, out);
+    let answer = answer_of(&widened.answer);
+    assert_eq!(answer, due, "{out} bytes for {old:02x?}");
+    let written = widened.out.filled(wide.len());
+    let written = written.expect("bytes changed beyond those written");
+    assert_eq!(written, wide, "{out} bytes for {old:02x?}");
+    (answer, wide)
 }
 
 /// Buffers after a call.

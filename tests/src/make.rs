@@ -1,7 +1,9 @@
 //! Tables made at random, and tables made for a purpose.
 
 use crate::random::Random;
-use crate::table::{Table, Transition, CODES, ENTRIES, STATES, STEPS, TOTAL, TRANSITIONS};
+use crate::table::{
+    most_codes, top, Table, Transition, ENTRIES, STATES, STEPS, TOTAL, TRANSITIONS,
+};
 
 /// Bounds for a random table.
 #[derive(Clone, Copy)]
@@ -15,12 +17,13 @@ pub struct Shape {
     pub weight: usize,
 }
 
-fn code(number: usize) -> u8 {
-    (10 * (number + 1)) as u8
+/// The codes of the tables made here: 25 of them have one byte.
+fn code(number: usize) -> u16 {
+    (10 * (number + 1)) as u16
 }
 
 /// A transition to one state.
-pub fn to(code: u8, state: usize) -> Transition {
+pub fn to(code: u16, state: usize) -> Transition {
     Transition {
         code,
         entries: vec![(state as u8, 1)],
@@ -120,12 +123,25 @@ pub fn padded(mut table: Table, states: usize) -> Table {
     table
 }
 
-/// The same table with some codes listed that no transition uses.
-pub fn listing_more(random: &mut Random, mut table: Table) -> Table {
-    let more = random.between(0, CODES - table.codes.len());
-    table.codes.extend((0..more).map(|_| random.byte()));
+/// The same table with some codes listed that no transition uses, for a
+/// layout of that width.
+pub fn listing_more(random: &mut Random, width: usize, mut table: Table) -> Table {
+    let more = random.between(0, most_codes(width) - table.codes.len());
+    let code = |_| random.below(top(width) + 1) as u16;
+    table.codes.extend((0..more).map(code));
     table.codes.sort();
     table.codes.dedup();
+    table
+}
+
+/// The table with other codes; unlike ones must stay unlike.
+pub fn recoded(table: &Table, code: impl Fn(u16) -> u16) -> Table {
+    let mut table = table.clone();
+    for step in table.states.iter_mut().flatten() {
+        step.code = code(step.code);
+    }
+    table.codes = table.codes.into_iter().map(code).collect();
+    table.codes.sort();
     table
 }
 
@@ -287,7 +303,7 @@ pub fn cycles(p: usize, q: usize) -> (Table, Table) {
 }
 
 /// The same where that step leads to several states. For coprime lengths
-/// the tree of the start states has 6 × p × q - 3 bytes and 4 for each.
+/// the tree of the start states has 7 × p × q - 3 bytes and 4 for each.
 pub fn cycles_to(p: usize, q: usize, ends: usize) -> (Table, Table) {
     let (mut first, mut second) = (ring(p), ring(q));
     first[p - 1].push(Transition {
@@ -371,8 +387,8 @@ pub fn comb(
 }
 
 /// The code of a state that `flags` tells apart.
-pub fn flag(state: usize) -> u8 {
-    state as u8
+pub fn flag(state: usize) -> u16 {
+    state as u16
 }
 
 /// State 0 steps by code 0 to all others, with these weights; each of them
@@ -401,7 +417,7 @@ pub fn fan(layers: usize, width: usize) -> (Table, Table) {
 
 /// One state that goes on for ever against layers whose states each have
 /// so many like-coded steps: widths[k] is the number of states of layer k.
-/// A step of a tree takes 6 bytes, so that of the start states has 1 + 6 ×
+/// A step of a tree takes 7 bytes, so that of the start states has 1 + 7 ×
 /// (1 + w1 + w1 w2 + ..) bytes.
 pub fn layered(widths: &[usize]) -> (Table, Table) {
     let mut second = Vec::new();

@@ -1,31 +1,54 @@
-//! Tables, and reading and writing them in bytes.
+//! Tables, and reading and writing them in bytes, in either layout.
 
 #[derive(Clone, Debug, PartialEq)]
 pub struct Transition {
-    pub code: u8,
+    pub code: u16,
     /// Targets with their weights.
     pub entries: Vec<(u8, u16)>,
 }
 
 #[derive(Clone, Debug, PartialEq)]
 pub struct Table {
-    pub codes: Vec<u8>,
+    pub codes: Vec<u16>,
     pub states: Vec<Vec<Transition>>,
 }
 
-/// The limits of a table; those of its codes and of a state's transitions
-/// are what a count of one byte can say.
+/// The limits of a table; that of a state's transitions is what a count of
+/// one byte can say.
 pub const STATES: usize = 128;
 pub const TRANSITIONS: usize = 256;
 pub const ENTRIES: usize = 512;
-pub const CODES: usize = u8::MAX as usize;
+pub const CODES: usize = 1_024;
 pub const STEPS: usize = u8::MAX as usize;
 pub const TOTAL: u64 = 65_535;
 
+/// The bytes of a code, and of the count of codes, in the old layout and in
+/// the wide one. The two differ in nothing else.
+pub const NARROW: usize = 1;
+pub const WIDE: usize = 2;
+
+/// The largest number that a field of so many bytes can hold.
+pub const fn top(width: usize) -> usize {
+    (1 << (8 * width)) - 1
+}
+
+/// The most codes of a table.
+pub const fn most_codes(width: usize) -> usize {
+    match top(width) {
+        top if top < CODES => top,
+        _ => CODES,
+    }
+}
+
+/// The bytes of a table with as many codes as can be and all else at the
+/// limits.
+pub const fn largest(width: usize) -> usize {
+    let actions = width + width * most_codes(width);
+    actions + 1 + STATES + 2 + (width + 1) * TRANSITIONS + 2 + 3 * ENTRIES
+}
+
 /// The largest rank, and the number of pairs of two tables at the limits.
 pub const PAIRS: usize = STATES * STATES;
-/// The bytes of a table with all codes listed and all counts at the limits.
-pub const LARGEST: usize = 1 + CODES + 1 + STATES + 2 + 2 * TRANSITIONS + 2 + 3 * ENTRIES;
 
 /// The states that one word of a set in memory has bits for. Tables of that
 /// size are tried beside the largest.
@@ -53,18 +76,31 @@ pub fn members(mut set: Set) -> impl Iterator<Item = usize> {
     })
 }
 
-pub const P: [u8; 24] = [
+pub const P: [u8; 29] = [
+    0x02, 0x00, 0x0a, 0x00, 0x14, 0x00, 0x03, 0x01, 0x01, 0x00, 0x02, 0x00, 0x0a, 0x00, 0x02, 0x14,
+    0x00, 0x01, 0x03, 0x00, 0x01, 0x03, 0x00, 0x02, 0x01, 0x00, 0x01, 0x01, 0x00,
+];
+
+pub const C: [u8; 29] = [
+    0x02, 0x00, 0x0a, 0x00, 0x14, 0x00, 0x03, 0x01, 0x01, 0x00, 0x02, 0x00, 0x0a, 0x00, 0x02, 0x14,
+    0x00, 0x01, 0x03, 0x00, 0x01, 0x01, 0x00, 0x02, 0x01, 0x00, 0x01, 0x01, 0x00,
+];
+
+/// The smallest table: one state, no action.
+pub const LONE: [u8; 8] = [0, 0, 1, 0, 0, 0, 0, 0];
+
+/// The same three in the old layout.
+pub const OLD_P: [u8; 24] = [
     0x02, 0x0a, 0x14, 0x03, 0x01, 0x01, 0x00, 0x02, 0x00, 0x0a, 0x02, 0x14, 0x01, 0x03, 0x00, 0x01,
     0x03, 0x00, 0x02, 0x01, 0x00, 0x01, 0x01, 0x00,
 ];
 
-pub const C: [u8; 24] = [
+pub const OLD_C: [u8; 24] = [
     0x02, 0x0a, 0x14, 0x03, 0x01, 0x01, 0x00, 0x02, 0x00, 0x0a, 0x02, 0x14, 0x01, 0x03, 0x00, 0x01,
     0x01, 0x00, 0x02, 0x01, 0x00, 0x01, 0x01, 0x00,
 ];
 
-/// The smallest table: one state, no action.
-pub const LONE: [u8; 7] = [0, 1, 0, 0, 0, 0, 0];
+pub const OLD_LONE: [u8; 7] = [0, 1, 0, 0, 0, 0, 0];
 
 impl Transition {
     pub fn total(&self) -> u64 {
@@ -75,7 +111,7 @@ impl Transition {
 impl Table {
     /// A table that lists just the codes it uses.
     pub fn new(states: Vec<Vec<Transition>>) -> Table {
-        let mut codes: Vec<u8> = states.iter().flatten().map(|step| step.code).collect();
+        let mut codes: Vec<u16> = states.iter().flatten().map(|step| step.code).collect();
         codes.sort();
         codes.dedup();
         Table { codes, states }
@@ -90,24 +126,43 @@ impl Table {
         steps.map(|step| step.entries.len()).sum()
     }
 
-    /// The table in bytes, whether it keeps the rules or not. Counts are cut
-    /// to their fields.
-    pub fn bytes(&self) -> Vec<u8> {
-        let mut bytes = vec![self.codes.len() as u8];
-        bytes.extend(&self.codes);
+    /// The table in bytes, whether it keeps the rules or not. Codes and
+    /// counts are cut to their fields.
+    pub fn bytes_at(&self, width: usize) -> Vec<u8> {
+        let mut bytes = field(width, self.codes.len());
+        for &code in &self.codes {
+            bytes.extend(field(width, code.into()));
+        }
         bytes.push(self.states.len() as u8);
         bytes.extend(self.states.iter().map(|steps| steps.len() as u8));
-        bytes.extend((self.transitions() as u16).to_le_bytes());
+        bytes.extend(field(2, self.transitions()));
         for step in self.states.iter().flatten() {
-            bytes.extend([step.code, step.entries.len() as u8]);
+            bytes.extend(field(width, step.code.into()));
+            bytes.push(step.entries.len() as u8);
         }
-        bytes.extend((self.entries() as u16).to_le_bytes());
+        bytes.extend(field(2, self.entries()));
         for (target, weight) in self.states.iter().flatten().flat_map(|step| &step.entries) {
             bytes.push(*target);
             bytes.extend(weight.to_le_bytes());
         }
         bytes
     }
+
+    /// The same in the wide layout.
+    pub fn bytes(&self) -> Vec<u8> {
+        self.bytes_at(WIDE)
+    }
+}
+
+/// A number in so many bytes, low byte first; what does not fit is cut off.
+pub fn field(width: usize, number: usize) -> Vec<u8> {
+    number.to_le_bytes()[..width].to_vec()
+}
+
+/// The number that a field holds.
+fn value(field: &[u8]) -> usize {
+    let digits = field.iter().rev();
+    digits.fold(0, |number, &digit| 256 * number + digit as usize)
 }
 
 struct Bytes<'a> {
@@ -125,13 +180,8 @@ impl<'a> Bytes<'a> {
         Ok(taken)
     }
 
-    fn byte(&mut self) -> Result<usize, u32> {
-        Ok(self.take(1)?[0] as usize)
-    }
-
-    fn two(&mut self) -> Result<usize, u32> {
-        let taken = self.take(2)?;
-        Ok(u16::from_le_bytes([taken[0], taken[1]]) as usize)
+    fn number(&mut self, width: usize) -> Result<usize, u32> {
+        Ok(value(self.take(width)?))
     }
 }
 
@@ -144,39 +194,44 @@ fn rule(holds: bool, number: u32) -> Result<(), u32> {
 }
 
 /// The table that the bytes hold, or the number of the refusal.
-pub fn parse(bytes: &[u8]) -> Result<Table, u32> {
+pub fn parse_at(width: usize, bytes: &[u8]) -> Result<Table, u32> {
     let mut bytes = Bytes { rest: bytes };
 
-    let count = bytes.byte()?;
-    let codes = bytes.take(count)?.to_vec();
+    let count = bytes.number(width)?;
+    rule(count <= CODES, 3)?;
+    let codes = bytes.take(width * count)?.chunks(width);
+    let codes: Vec<u16> = codes.map(|code| value(code) as u16).collect();
     rule(codes.windows(2).all(|two| two[0] < two[1]), 3)?;
 
-    let count = bytes.byte()?;
+    let count = bytes.number(1)?;
     rule((1..=STATES).contains(&count), 4)?;
     let shares = bytes.take(count)?;
 
-    let count = bytes.two()?;
+    let count = bytes.number(2)?;
     let sum: usize = shares.iter().map(|&share| share as usize).sum();
     rule(count <= TRANSITIONS && count == sum, 5)?;
-    let steps = bytes.take(2 * count)?;
-    for step in steps.chunks(2) {
-        rule(codes.contains(&step[0]), 6)?;
-        rule(step[1] >= 1, 8)?;
+    // Each transition's code and how many entries it has.
+    let steps = bytes.take((width + 1) * count)?.chunks(width + 1);
+    let steps = steps.map(|step| (value(&step[..width]) as u16, step[width] as usize));
+    let steps: Vec<(u16, usize)> = steps.collect();
+    for (code, share) in &steps {
+        rule(codes.contains(code), 6)?;
+        rule(*share >= 1, 8)?;
     }
 
-    let count = bytes.two()?;
-    let sum: usize = steps.chunks(2).map(|step| step[1] as usize).sum();
+    let count = bytes.number(2)?;
+    let sum: usize = steps.iter().map(|step| step.1).sum();
     rule(count <= ENTRIES && count == sum, 7)?;
     let entries = bytes.take(3 * count)?;
 
-    let mut steps = steps.chunks(2);
+    let mut steps = steps.into_iter();
     let mut entries = entries.chunks(3);
     let mut states = Vec::new();
     for &share in shares {
         let mut list = Vec::new();
-        for step in steps.by_ref().take(share as usize) {
-            let of_step = entries.by_ref().take(step[1] as usize);
-            list.push(transition(step[0], of_step, shares.len())?);
+        for (code, share) in steps.by_ref().take(share as usize) {
+            let of_step = entries.by_ref().take(share);
+            list.push(transition(code, of_step, shares.len())?);
         }
         states.push(list);
     }
@@ -185,8 +240,19 @@ pub fn parse(bytes: &[u8]) -> Result<Table, u32> {
     Ok(Table { codes, states })
 }
 
+/// The same in the wide layout.
+pub fn parse(bytes: &[u8]) -> Result<Table, u32> {
+    parse_at(WIDE, bytes)
+}
+
+/// The wide bytes of the table that old bytes hold, or the number of the
+/// refusal.
+pub fn widen(old: &[u8]) -> Result<Vec<u8>, u32> {
+    Ok(parse_at(NARROW, old)?.bytes())
+}
+
 fn transition<'a>(
-    code: u8,
+    code: u16,
     bytes: impl Iterator<Item = &'a [u8]>,
     states: usize,
 ) -> Result<Transition, u32> {

@@ -3,7 +3,7 @@
 
 use crate::fit::fit;
 use crate::ranks::{fit_steps, fits_some, weights, Ranking, Relation};
-use crate::table::{below, members, Set, Table, Transition};
+use crate::table::{below, field, members, Set, Table, Transition, WIDE};
 
 /// The longest tree that is written.
 pub const LONGEST: u64 = 65_535;
@@ -19,7 +19,8 @@ struct Step {
 /// The trees of all pairs of two tables.
 pub struct Trees {
     first: Table,
-    width: usize,
+    /// States of the second table.
+    columns: usize,
     steps: Vec<Option<Step>>,
     /// Bytes of each pair's transition, no further than `u64` goes.
     lengths: Vec<u64>,
@@ -27,10 +28,10 @@ pub struct Trees {
 
 impl Trees {
     pub fn new(subsets: usize, first: &Table, second: &Table, ranking: &Ranking) -> Trees {
-        let width = second.states.len();
+        let columns = second.states.len();
         let mut trees = Trees {
             first: first.clone(),
-            width,
+            columns,
             steps: ranking.ranks.iter().map(|_| None).collect(),
             lengths: vec![0; ranking.ranks.len()],
         };
@@ -38,7 +39,7 @@ impl Trees {
         pairs.retain(|&pair| ranking.ranks[pair] > 0);
         pairs.sort_by_key(|&pair| ranking.ranks[pair]);
         for pair in pairs {
-            let (s, t) = (pair / width, pair % width);
+            let (s, t) = (pair / columns, pair % columns);
             let before = &ranking.relations[ranking.ranks[pair] as usize - 1];
             let step = step(subsets, before, &first.states[s], &second.states[t]);
             trees.lengths[pair] = trees.length_of(s, &step);
@@ -49,11 +50,11 @@ impl Trees {
 
     fn length_of(&self, s: usize, step: &Step) -> u64 {
         let m = &self.first.states[s][step.place];
-        let mut length: u64 = 2;
+        let mut length = WIDE as u64 + 1;
         for (&(state, _), &set) in m.entries.iter().zip(&step.sets) {
             length = length.saturating_add(4);
             for t in members(set) {
-                let child = self.lengths[state as usize * self.width + t];
+                let child = self.lengths[state as usize * self.columns + t];
                 assert!(child > 0);
                 length = length.saturating_add(child);
             }
@@ -63,27 +64,33 @@ impl Trees {
 
     /// The length of the tree of a pair that is not kept.
     pub fn length(&self, s: usize, t: usize) -> u64 {
-        self.lengths[s * self.width + t].saturating_add(1)
+        self.lengths[s * self.columns + t].saturating_add(1)
     }
 
     /// The bytes of the tree of a pair that is not kept.
     pub fn bytes(&self, s: usize, t: usize) -> Vec<u8> {
         assert!(self.length(s, t) <= LONGEST);
+        self.bytes_at(WIDE, s, t)
+    }
+
+    /// The same with codes of so many bytes.
+    pub fn bytes_at(&self, width: usize, s: usize, t: usize) -> Vec<u8> {
         let mut bytes = Vec::new();
-        self.node(s, 1 << t, &mut bytes);
+        self.node(width, s, 1 << t, &mut bytes);
         bytes
     }
 
-    fn node(&self, s: usize, set: Set, bytes: &mut Vec<u8>) {
+    fn node(&self, width: usize, s: usize, set: Set, bytes: &mut Vec<u8>) {
         bytes.push(set.count_ones() as u8);
         for t in members(set) {
-            let step = self.steps[s * self.width + t].as_ref().unwrap();
+            let step = self.steps[s * self.columns + t].as_ref().unwrap();
             let m = &self.first.states[s][step.place];
-            bytes.extend([m.code, m.entries.len() as u8]);
+            bytes.extend(field(width, m.code.into()));
+            bytes.push(m.entries.len() as u8);
             for (&(state, weight), &set) in m.entries.iter().zip(&step.sets) {
                 bytes.push(state);
                 bytes.extend(weight.to_le_bytes());
-                self.node(state as usize, set, bytes);
+                self.node(width, state as usize, set, bytes);
             }
         }
     }
@@ -145,7 +152,8 @@ impl Reader<'_> {
         let [steps] = self.take()?;
         let mut widest = steps;
         for _ in 0..steps {
-            let [code, count] = self.take()?;
+            let code = u16::from_le_bytes(self.take()?);
+            let [count] = self.take()?;
             let mut children = Vec::with_capacity(count as usize);
             for _ in 0..count {
                 let [_, low, high] = self.take()?;
@@ -168,7 +176,7 @@ impl Reader<'_> {
     }
 
     /// The states that have a transition which a tree's transition fits.
-    fn can_take(&self, code: u8, children: &[(u64, Set)]) -> Set {
+    fn can_take(&self, code: u16, children: &[(u64, Set)]) -> Set {
         let m: Vec<u64> = children.iter().map(|child| child.0).collect();
         let mut states = 0;
         for (t, ns) in self.table.states.iter().enumerate() {

@@ -126,7 +126,7 @@ fn line(random: &mut Random, count: usize, codes: usize) -> Table {
             }
             let weights = make::weights(random, targets.len(), 60);
             steps.push(Transition {
-                code: 10 * (1 + random.below(codes)) as u8,
+                code: 10 * (1 + random.below(codes)) as u16,
                 entries: targets.into_iter().zip(weights).collect(),
             });
         }
@@ -165,7 +165,7 @@ fn longest_flow() {
             left -= width;
             let weights = make::weights(&mut random, width, TOTAL - round as u64);
             table.states[0].push(Transition {
-                code: [7, k as u8][round / 2 % 2],
+                code: [7, k as u16][round / 2 % 2],
                 entries: (0..).zip(weights).collect(),
             });
         }

@@ -8,7 +8,10 @@ use pod_tests::make::{self, Shape};
 use pod_tests::program::{input, output};
 use pod_tests::random::Random;
 use pod_tests::ranks::{fits_some, Relation};
-use pod_tests::table::{has, members, parse, Set, Table, C, LONE, P, PAIRS, STATES, WORD};
+use pod_tests::table::{
+    has, largest, members, parse, parse_at, widen, Set, Table, C, LONE, NARROW, OLD_C, OLD_LONE,
+    OLD_P, P, PAIRS, STATES, WIDE, WORD,
+};
 use pod_tests::tree::{replay, LONGEST};
 
 const P_C: &str = "tables 3 3
@@ -16,7 +19,7 @@ row 0 2 1 1
 row 1 1 0 1
 row 2 0 0 0
 rounds 2 kept 4 verdict no
-tree 01 0a 02 01 03 00 01 14 01 01 01 00 00 02 01 00 00
+tree 01 0a 00 02 01 03 00 01 14 00 01 01 01 00 00 02 01 00 00
 ";
 
 #[test]
@@ -28,10 +31,10 @@ fn worked_examples() {
     let lone = output(&input(&LONE, &LONE));
     assert_eq!(lone, "tables 1 1\nrow 0 0\nrounds 0 kept 1 verdict yes\n");
     assert_eq!(output(&[]), "refused 1 1\n");
-    assert_eq!(parse(&P[..23]), Err(1));
+    assert_eq!(parse(&P[..28]), Err(1));
     assert_eq!(parse(&[&P[..], &[0]].concat()), Err(2));
     let mut exchanged = P;
-    exchanged.swap(1, 2);
+    exchanged.swap(2, 4);
     assert_eq!(parse(&exchanged), Err(3));
 }
 
@@ -202,8 +205,31 @@ fn tables_there_and_back() {
     for round in 0..200 {
         let states = [WORD, STATES][round / 2 % 2];
         let table = make::sized(&mut random, states, 1 + round % 3, round % 2 == 0);
-        assert_eq!(parse(&table.bytes()), Ok(table));
+        for width in [NARROW, WIDE] {
+            let table = make::listing_more(&mut random, width, table.clone());
+            assert_eq!(parse_at(width, &table.bytes_at(width)), Ok(table));
+        }
     }
+}
+
+#[test]
+fn layouts() {
+    assert_eq!((largest(NARROW), largest(WIDE)), (2_437, 4_487));
+    for (old, wide) in [(&OLD_P[..], &P[..]), (&OLD_C, &C), (&OLD_LONE, &LONE)] {
+        assert_eq!(parse_at(NARROW, old), parse(wide));
+        assert_eq!(parse(wide).unwrap().bytes_at(NARROW), old);
+        assert_eq!(widen(old).unwrap(), wide);
+    }
+    assert_eq!(widen(&P), Err(4));
+    assert_eq!(parse(&OLD_P), Err(3));
+    // The two bytes of a code, and the count before the codes.
+    let table =
+        |count: [u8; 2], codes: &[u8]| parse(&[&count, codes, &[1, 0, 0, 0, 0, 0]].concat());
+    assert_eq!(table([2, 0], &[2, 1, 1, 2]).unwrap().codes, [258, 513]);
+    assert_eq!(table([2, 0], &[1, 2, 2, 1]), Err(3));
+    assert_eq!(parse(&[0, 4]), Err(1));
+    assert_eq!(parse(&[1, 4]), Err(3));
+    assert_eq!(parse(&[4]), Err(1));
 }
 
 #[test]
@@ -213,22 +239,25 @@ fn bound_on_ranks_is_tight() {
         let pair = Pair::new(SUBSETS, &first.bytes(), &second.bytes());
         let pair = pair.ok().unwrap();
         assert_eq!(pair.rank(0, 0) as usize, n * n);
-        assert_eq!(pair.lengths(0, 0).tree, 6 * n * n + 1);
+        assert_eq!(pair.lengths(0, 0).tree, 7 * n * n + 1);
     }
 }
 
 #[test]
 fn largest_rank() {
-    // 16,384: every pair has a rank of its own. No tree of more than 10,922
+    // 16,384: every pair has a rank of its own. No tree of more than 9,362
     // levels can be written.
     let pair = Pair::of(&make::counter(STATES));
     let mut ranks = pair.ranking.ranks.clone();
     ranks.sort();
     assert!(ranks.into_iter().eq(1..=16_384));
-    assert_eq!((pair.rank(0, 0), pair.trees.length(0, 0)), (16_384, 98_305));
+    assert_eq!(
+        (pair.rank(0, 0), pair.trees.length(0, 0)),
+        (16_384, 114_689)
+    );
     let written = |at: &usize| pair.trees.length(at / STATES, at % STATES) <= LONGEST;
     let written = (0..PAIRS).filter(written).map(|at| pair.ranking.ranks[at]);
-    assert_eq!(written.max(), Some(10_922));
+    assert_eq!(written.max(), Some(9_362));
 }
 
 #[test]

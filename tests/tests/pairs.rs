@@ -6,7 +6,7 @@ use pod_tests::fit::SUBSETS;
 use pod_tests::library::{check, Call, FIELDS};
 use pod_tests::make::{self, Shape};
 use pod_tests::random::Random;
-use pod_tests::table::{parse, Table, Transition, C, LONE, P, STATES, TRANSITIONS};
+use pod_tests::table::{parse, Table, Transition, C, LONE, P, STATES, TRANSITIONS, WIDE};
 
 const ROOMY: Lengths = Lengths {
     ranks: 12,
@@ -27,18 +27,18 @@ fn answer(first: &[u8], second: &[u8], lengths: Lengths) -> Answer {
 fn examples() {
     let with = |ranks, flow, tree| Lengths { ranks, flow, tree };
     let refusal = |number, needed| Answer::refusal(number, 0, needed);
-    assert_eq!(answer(&P, &C, with(8, 0, 17)), refusal(20, 9));
-    assert_eq!(answer(&P, &C, with(9, 0, 16)), refusal(22, 17));
+    assert_eq!(answer(&P, &C, with(8, 0, 19)), refusal(20, 9));
+    assert_eq!(answer(&P, &C, with(9, 0, 18)), refusal(22, 19));
     assert_eq!(answer(&C, &P, with(9, 39, 0)), refusal(21, 40));
 
-    let judged = check(&pair(&P, &C), 0, 0, with(9, 0, 17), 2);
-    let tree = [1, 10, 2, 1, 3, 0, 1, 20, 1, 1, 1, 0, 0, 2, 1, 0, 0];
+    let judged = check(&pair(&P, &C), 0, 0, with(9, 0, 19), 2);
+    let tree = [1, 10, 0, 2, 1, 3, 0, 1, 20, 0, 1, 1, 1, 0, 0, 2, 1, 0, 0];
     assert_eq!(judged.tree, tree);
     let due = Answer {
         rounds: 2,
         kept: 4,
         rank: 2,
-        written: 17,
+        written: 19,
         ..Answer::default()
     };
     assert_eq!(judged.answer, due);
@@ -219,7 +219,7 @@ fn random_pairs() {
         let kind = if round % 25 == 24 { 7 } else { round % 7 };
         let (first, mut second) = tables(&mut random, kind);
         if random.once_in(8) {
-            second = make::listing_more(&mut random, second);
+            second = make::listing_more(&mut random, WIDE, second);
         }
         let (first, second) = (first.bytes(), second.bytes());
         let pair = pair(&first, &second);

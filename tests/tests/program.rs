@@ -5,7 +5,9 @@ use pod_tests::program::{input, output, output_by};
 use pod_tests::random::Random;
 use pod_tests::ranks::rank;
 use pod_tests::stack::deep;
-use pod_tests::table::{Table, Transition, C, CODES, LARGEST, LONE, P, STATES, STEPS, WORD};
+use pod_tests::table::{
+    largest, parse, Table, Transition, C, CODES, LONE, OLD_C, OLD_P, P, STATES, STEPS, WIDE, WORD,
+};
 use std::io::Write;
 use std::path::PathBuf;
 use std::process::{Child, Command, Stdio};
@@ -75,12 +77,38 @@ row 0 2 1 1
 row 1 1 0 1
 row 2 0 0 0
 rounds 2 kept 4 verdict no
-tree 01 0a 02 01 03 00 01 14 01 01 01 00 00 02 01 00 00
+tree 01 0a 00 02 01 03 00 01 14 00 01 01 01 00 00 02 01 00 00
 ";
     assert_eq!(text, due);
     held(&input(&P, &P));
     held(&input(&C, &P));
     held(&input(&LONE, &LONE));
+}
+
+#[test]
+fn old_tables() {
+    // The first two bytes of either are a count of 2,562 codes.
+    assert_eq!(held(&input(&OLD_P, &OLD_C)), "refused 1 3\n");
+    assert_eq!(held(&input(&P, &OLD_C)), "refused 2 3\n");
+}
+
+#[test]
+fn codes_of_two_bytes() {
+    let table = |bytes: &[u8]| parse(bytes).unwrap();
+    let high = |code: u16| 256 * code + 255;
+    let (p, c) = (
+        make::recoded(&table(&P), high),
+        make::recoded(&table(&C), high),
+    );
+    let text = held(&input(&p.bytes(), &c.bytes()));
+    assert!(text.ends_with("\ntree 01 ff 0a 02 01 03 00 01 ff 14 01 01 01 00 00 02 01 00 00\n"));
+    // All codes listed, of which the last is used.
+    let mut all = Table::new(vec![vec![make::to(u16::MAX, 0)]]);
+    all.codes = (0..CODES as u16).map(|k| u16::MAX - k).rev().collect();
+    assert!(held_large(&all, &all).ends_with("verdict yes\n"));
+    assert!(held_large(&all, &table(&LONE)).ends_with("\ntree 01 ff ff 01 00 01 00 00\n"));
+    all.codes.insert(0, 0);
+    assert_eq!(held_large(&all, &all), "refused 1 3\n");
 }
 
 #[test]
@@ -96,23 +124,26 @@ fn cut_at_every_byte() {
 #[test]
 fn what_follows_is_ignored() {
     let whole = input(&P, &C);
-    for more in [1, 2, 24, 5_000, 200_000] {
+    for more in [1, 2, 29, 5_000, 200_000] {
         let longer = [&whole[..], &vec![7; more]].concat();
         assert_eq!(held(&longer), output(&whole));
     }
 }
 
+/// Where the length of the second table stands, after P.
+const SECOND: usize = 2 + P.len();
+
 #[test]
 fn lengths_that_lie() {
     // A length above or below that of the table it stands before.
-    for (at, length) in [(0, 23), (0, 25), (0, 0), (0, 65_535)] {
+    for length in [0, 28, 30, 65_535] {
         let mut bytes = input(&P, &C);
-        bytes[at..at + 2].copy_from_slice(&u16::to_le_bytes(length));
+        bytes[..2].copy_from_slice(&u16::to_le_bytes(length));
         held(&bytes);
     }
-    for length in [0, 1, 23, 25, 255, 65_535] {
+    for length in [0, 1, 28, 30, 255, 65_535] {
         let mut bytes = input(&P, &C);
-        bytes[26..28].copy_from_slice(&u16::to_le_bytes(length));
+        bytes[SECOND..SECOND + 2].copy_from_slice(&u16::to_le_bytes(length));
         held(&bytes);
         bytes.extend([0; 300]);
         held(&bytes);
@@ -120,7 +151,7 @@ fn lengths_that_lie() {
     // The longest input that is read.
     held(&input(&[0; 65_535], &[0; 65_535]));
     held(&input(&[&P[..], &[0; 65_000]].concat(), &C));
-    held(&input(&P, &[&C[..], &[0; 65_511]].concat()));
+    held(&input(&P, &[&C[..], &[0; 65_506]].concat()));
 }
 
 #[test]
@@ -168,16 +199,17 @@ fn random_tables() {
 /// Two accepted tables with their lengths, one byte less than what is read
 /// at first.
 const TWO_TABLES: usize = 2 * (2 + LARGEST);
+const LARGEST: usize = largest(WIDE);
 
 #[test]
 fn input_around_two_tables() {
     let mut random = Random::new(44);
-    let mut largest = |codes| {
+    let mut full = |codes| {
         let mut table = make::limit(&mut random, codes, true);
-        table.codes = (1..=CODES as u8).collect();
+        table.codes = (1..=CODES as u16).collect();
         table.bytes()
     };
-    let whole = input(&largest(1), &largest(2));
+    let whole = input(&full(1), &full(2));
     assert_eq!(whole.len(), TWO_TABLES);
     let due = output_by(0, &whole);
     assert!(due.starts_with("tables 128 128\n"));
@@ -201,8 +233,8 @@ fn input_around_what_is_read_first() {
         assert_eq!(held(&bytes), output(&small));
         // A second table that goes on to the end, or beyond it.
         for more in [0, 1, 60_000] {
-            let stated = (length - 28 + more) as u16;
-            bytes[26..28].copy_from_slice(&stated.to_le_bytes());
+            let stated = (length - SECOND - 2 + more) as u16;
+            bytes[SECOND..SECOND + 2].copy_from_slice(&stated.to_le_bytes());
             assert_eq!(held(&bytes), "refused 2 2\n");
         }
         // A first table up to there, and the second after it.
@@ -274,7 +306,7 @@ fn pairs_around_the_short_buffers() {
 
 #[test]
 fn trees_around_the_short_buffers() {
-    for (p, q, ends, length) in [(10, 17, 1, 1_021), (11, 15, 9, 1_023), (10, 17, 2, 1_025)] {
+    for (p, q, ends, length) in [(6, 23, 15, 1_023), (5, 29, 3, 1_024), (9, 16, 5, 1_025)] {
         let (first, second) = make::cycles_to(p, q, ends);
         // As few states as there are, as many as 600 pairs allow, one more.
         for states in [first.states.len(), 600 / q, 600 / q + 1] {
@@ -348,14 +380,14 @@ fn states_of_the_second_word() {
 
 #[test]
 fn largest_rank() {
-    // 16,384, with a tree of 98,305 bytes.
+    // 16,384, with a tree of 114,689 bytes.
     let (first, second) = make::counter(STATES);
     let text = held_large(&first, &second);
     assert!(text.ends_with("\nrounds 16384 kept 0 verdict no\ntree refused 23\n"));
     assert!(text.contains("row 0 16384 "));
     // The deepest tree that is written, and one level more.
     let ranks = rank(0, &first, &second).ranks;
-    for (rank, length) in [(10_922, Some(65_533)), (10_923, None)] {
+    for (rank, length) in [(9_362, Some(65_535)), (9_363, None)] {
         let at = ranks.iter().position(|&other| other == rank).unwrap();
         let first = make::started(&first, at / STATES);
         let second = make::started(&second, at % STATES);

@@ -194,14 +194,15 @@ fn states_of_the_second_word_alone() {
 /// are told apart from all others by their own codes.
 fn flag_tree(weights: &[u16], in_set: &[bool]) -> Vec<u8> {
     let others = in_set.iter().filter(|member| !**member).count();
-    let mut bytes = vec![1, 0, weights.len() as u8];
+    let mut bytes = vec![1, 0, 0, weights.len() as u8];
     for (at, weight) in weights.iter().enumerate() {
         let state = at + 1;
         bytes.push(state as u8);
         bytes.extend(weight.to_le_bytes());
         let steps = if in_set[at] { others } else { 0 };
         bytes.push(steps as u8);
-        let step = [make::flag(state), 1, state as u8, 1, 0, 0];
+        let [low, high] = make::flag(state).to_le_bytes();
+        let step = [low, high, 1, state as u8, 1, 0, 0];
         bytes.extend(step.repeat(steps));
     }
     bytes

@@ -2,10 +2,11 @@
 --     start     nothing is written yet
 --     store     one element is stored at the place reached
 --     lend      the rest of the buffer is lent to a function that puts bs at its start
+--     begun     the whole buffer was lent to a function that put bs at its start
 --     rebase    the buffer as it is now in the place of the one before; `chain` undoes it
 --     finish    all is written
 -- Assumes nothing.
-use mathlib.Core.Path.{_≡_, refl, sym, ap, _∙_, subst, subst₂}
+use mathlib.Core.Path.{_≡_, refl, sym, ap, ap₂, _∙_, subst, subst₂}
 use mathlib.Core.List.{List, [], _∷_, _++_, append-nil, append-assoc}
 use Prim.Native.Nat.{ℕ, _+_, _-_, _≤_, _<_}
 use native.Mathlib.Nat.{le-refl, add-zero}
@@ -128,3 +129,19 @@ module _ {A : Type 0} where
 
 pub finish : {total b now : List ℕ} {at : ℕ} → Written total b [] now at → Filled total at b now
 finish w = record { count = done-at w; bytes = done-is w }
+
+-- the whole buffer was lent to a function that put the first part
+pub begun : {bs old now : List ℕ} {r : ℕ} (rest : List ℕ) → length (bs ++ rest) ≤ length old → Filled bs r old now → Written (bs ++ rest) old rest now r
+begun {bs} {old} {now} {r} rest room w =
+    let both = length-append bs rest in
+    record {
+      kept = ap length (w .bytes) ∙ length-append bs (drop (length bs) old) ∙ omega (arith, length-drop (length bs) old);
+      room = room;
+      within = omega (arith, w .count);
+      done = ap (λ (l : List ℕ). l ++ rest) (ap₂ take (w .count) (w .bytes) ∙ take-append-seam bs (drop (length bs) old));
+      same = ap₂ drop (w .count) (w .bytes) ∙ drop-append-seam bs (drop (length bs) old) ∙ ap (λ (k : ℕ). drop k old) (sym (w .count));
+    }
+
+-- what is left of the buffer has room for the next part
+pub next-room : {total old now : List ℕ} {at : ℕ} (bs rest : List ℕ) → Written total old (bs ++ rest) now at → length bs ≤ length (part-from at now)
+next-room {now = now} {at = at} bs rest w = rw (part-all at now, length-drop) (omega (arith, length-append bs rest, w .kept, w .room, w .within))

@@ -16,7 +16,7 @@ use Rattle.form.specs.Tables.{first-form, second-form, first-table, second-tabl
 use Rattle.simulation.specs.Sum.{sum, when}
 use Rattle.simulation.specs.Table.{Table, targets, states-of}
 use Rattle.simulation.specs.Round.{pairs}
-use Rattle.simulation.specs.Length.{pair-length}
+use Rattle.simulation.specs.Length.{head-length, pair-length}
 use Rattle.simulation.proofs.Finite.Sums.{sum-bound, sum-none, sum-more, when-most}
 use Rattle.form.proofs.FormLaws.{limits, pairs-bound}
 use Rattle.word.specs.Mask.{Test, member, without-member, Lowest}
@@ -231,12 +231,12 @@ module _ {tables : List ℕ} {s t j : ℕ} {sets counts : List ℕ} {bytes : ℕ
       at (no d) = omega (arith, getD-set-other counts (s * states-of N + t) (u * states-of N + v) 0 0 d, g .tally .few u v a b)
 
   module _ {ts : List ℕ} (et : ts ≡ targets (first-step tables j)) where
-    fits : bytes ≤ longest → bytes + due * (2 + 4 * length ts) < 2 ^ 30
+    fits : bytes ≤ longest → bytes + due * (head-length + 4 * length ts) < 2 ^ 30
     fits under =
         omega (
           arith,
           few-targets hand-choice et,
-          mul-le-mul-right (2 + 4 * length ts) (let h : due ≤ longest = omega (arith, due-small) in h),
+          mul-le-mul-right (head-length + 4 * length ts) (let h : due ≤ longest = omega (arith, due-small) in h),
         )
 
     raised : bytes ≤ longest → CountsGiven ts sets (states-of N) due cleared
@@ -253,12 +253,12 @@ module _ {tables : List ℕ} {s t j : ℕ} {sets counts : List ℕ} {bytes : ℕ
 
     -- the pair's length, with the four bytes of each target apart
     split-length : pair-length M N s t
-        ≡ 2 + (4 * length ts + sum (length ts) (λ i. sum (states-of N) (λ u. when (member (row-of sets i) u) (pair-length M N (getD ts i 0) u))))
+        ≡ head-length + (4 * length ts + sum (length ts) (λ i. sum (states-of N) (λ u. when (member (row-of sets i) u) (pair-length M N (getD ts i 0) u))))
     split-length =
-        length-parts hand-choice et (g .told) ∙ ap (_+_ 2) (sum-fours (length ts) (λ i. sum (states-of N) (λ u. when (member (row-of sets i) u) (pair-length M N (getD ts i 0) u))))
+        length-parts hand-choice et (g .told) ∙ ap (_+_ head-length) (sum-fours (length ts) (λ i. sum (states-of N) (λ u. when (member (row-of sets i) u) (pair-length M N (getD ts i 0) u))))
 
     handed : bytes ≤ longest → {counts′ : List ℕ} → length counts′ ≡ length counts → CountsAdded ts sets (states-of N) due (length ts) cleared counts′
-        → Tallied tables counts bytes counts′ (bytes + due * (2 + 4 * length ts))
+        → Tallied tables counts bytes counts′ (bytes + due * (head-length + 4 * length ts))
     handed under {counts′} e a =
         record {
           tally = record {
@@ -277,18 +277,18 @@ module _ {tables : List ℕ} {s t j : ℕ} {sets counts : List ℕ} {bytes : ℕ
 module _ {tables : List ℕ} {s t j : ℕ} {sets counts : List ℕ} {bytes : ℕ} (g : HandGiven tables s t j sets counts bytes) (under : bytes ≤ longest)
     {ts : List ℕ} (et : ts ≡ targets (first-step tables j)) (width : ℕ) (e : width ≡ states-of (second-table tables)) where
   -- the bytes stay small, the counts below can be raised, and what is owed goes down by what is counted
-  pub hand-fits : bytes + getD counts (s * width + t) 0 * (2 + 4 * length ts) < 2 ^ 30
-  hand-fits = subst (λ (n : ℕ). bytes + getD counts (s * n + t) 0 * (2 + 4 * length ts) < 2 ^ 30) (sym e) (fits g et under)
+  pub hand-fits : bytes + getD counts (s * width + t) 0 * (head-length + 4 * length ts) < 2 ^ 30
+  hand-fits = subst (λ (n : ℕ). bytes + getD counts (s * n + t) 0 * (head-length + 4 * length ts) < 2 ^ 30) (sym e) (fits g et under)
 
   pub hand-counts : CountsGiven ts sets width (getD counts (s * width + t) 0) (set counts (s * width + t) 0)
   hand-counts = subst (λ (n : ℕ). CountsGiven ts sets n (getD counts (s * n + t) 0) (set counts (s * n + t) 0)) (sym e) (raised g et under)
 
   pub handed-on : {counts′ : List ℕ} → length counts′ ≡ length counts
       → CountsAdded ts sets width (getD counts (s * width + t) 0) (length ts) (set counts (s * width + t) 0) counts′
-      → Tallied tables counts bytes counts′ (bytes + getD counts (s * width + t) 0 * (2 + 4 * length ts))
+      → Tallied tables counts bytes counts′ (bytes + getD counts (s * width + t) 0 * (head-length + 4 * length ts))
   handed-on {counts′} same =
       subst (λ (n : ℕ). CountsAdded ts sets n (getD counts (s * n + t) 0) (length ts) (set counts (s * n + t) 0) counts′
-      → Tallied tables counts bytes counts′ (bytes + getD counts (s * n + t) 0 * (2 + 4 * length ts))) (sym e)
+      → Tallied tables counts bytes counts′ (bytes + getD counts (s * n + t) 0 * (head-length + 4 * length ts))) (sym e)
       (handed g et under same)
 
 -- ---- the root

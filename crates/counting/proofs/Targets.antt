@@ -12,7 +12,7 @@ use Rattle.simulation.specs.Sum.{sum, when}
 use Rattle.simulation.specs.Table.{Transition, Table, targets, target-at, states-of}
 use Rattle.simulation.specs.Round.{pairs, rank}
 use Rattle.simulation.specs.Tree.{chosen, set-of}
-use Rattle.simulation.specs.Length.{one-length, pair-length}
+use Rattle.simulation.specs.Length.{head-length, one-length, pair-length}
 use Rattle.simulation.proofs.Finite.Sums.{sum-ext}
 use Rattle.simulation.proofs.Trees.Length.{pair-length-step}
 use Rattle.form.specs.Form.{transitions-of}
@@ -78,10 +78,10 @@ module _ {tables : List ℕ} {s t j : ℕ} (g : ChoiceGiven tables s t j) where
           (below-lost tables (g .loaded .first) (g .loaded .second) s t (g .lost) i v (omega (arith, count-is)) (subst (λ (X : Test). T (X v)) (set-at i b) h))
 
       -- the pair's length: a code and a count, and for each target a state, a weight, a count and the lengths of its set
-      pub length-parts : pair-length M N s t ≡ 2 + sum (length ts) (λ i. 4 + sum (states-of N) (λ v. when (member (row-of sets i) v) (pair-length M N (getD ts i 0) v)))
+      pub length-parts : pair-length M N s t ≡ head-length + sum (length ts) (λ i. 4 + sum (states-of N) (λ v. when (member (row-of sets i) v) (pair-length M N (getD ts i 0) v)))
       unfolding one-length
       length-parts =
           pair-length-step M N (sound (first-form tables) (g .loaded .first)) s t (g .lost .left) (g .lost .right) (g .lost .fell)
-          ∙ ap (λ (n : ℕ). 2 + sum n (λ i. 4 + sum (states-of N) (λ v. when (set-of M N s t i v) (pair-length M N (target-at (chosen M N s t) i) v)))) (sym count-is)
-          ∙ ap (_+_ 2) (sum-ext (length ts) _ _ (λ i b. ap (_+_ 4) (sum-ext (states-of N) _ _ (λ v _.
+          ∙ ap (λ (n : ℕ). head-length + sum n (λ i. 4 + sum (states-of N) (λ v. when (set-of M N s t i v) (pair-length M N (target-at (chosen M N s t) i) v)))) (sym count-is)
+          ∙ ap (_+_ head-length) (sum-ext (length ts) _ _ (λ i b. ap (_+_ 4) (sum-ext (states-of N) _ _ (λ v _.
           ap₂ (λ (X : Test) (u : ℕ). when (X v) (pair-length M N u v)) (sym (set-at i b)) (sym (targets-are i))))))

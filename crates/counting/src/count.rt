@@ -6,6 +6,7 @@ use relation::rows;
 use set::Set;
 use set::walk;
 use simulation::Table;
+use simulation::Width;
 use word::Word;
 ghost use mathlib.Core.Path.{_≡_};
 ghost use Prim.Native.Nat.{ℕ, _≤_, _<_};
@@ -16,6 +17,9 @@ ghost use Rattle.counting.specs.Count.{Within, RowAdded, CountsGiven, Co
 
 // The most bytes that a tree may have.
 pub const LONGEST: u32 = Table::TREE_BYTES;
+
+// The bytes of a transition before its children: a code and a count.
+pub const HEAD: usize = Width::WIDE + 1;
 
 // The pairs of s and the members of a set are to be counted c times more.
 fn add_row(counts: &mut [u32], width: usize, s: usize, members: Set, c: u32)
@@ -70,7 +74,7 @@ pub fn hand_on(
     let c = counts[at];
     counts[at] = 0;
     add_counts(targets, sets, width, c, counts);
-    bytes + c * (2 + 4 * (targets.len() as u32))
+    bytes + c * ((HEAD + 4 * targets.len()) as u32)
 }
 
 // Empties the first n counts.

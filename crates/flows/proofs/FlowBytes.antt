@@ -15,8 +15,8 @@ use Rattle.simulation.specs.Fit.{Amounts}
 use Rattle.simulation.proofs.Finite.Sums.{sum-ext, sum-mul, sum-bound, one-most}
 use Rattle.buffer.specs.Buffer.{over, Filled}
 use Rattle.flows.specs.Flow.{record-of, flow-record, flow-row, flow-records, amounts-count, head-of, flow-of}
-use Rattle.buffer.proofs.Buffer.{part-from, back}
-use Rattle.flows.proofs.Pieces.{pieces, pieces-length, part-rest, back-rest, Plan, even-plan}
+use Rattle.buffer.proofs.Buffer.{part-from, back, part-all, back-all}
+use Rattle.flows.proofs.Pieces.{pieces, pieces-length, Plan, even-plan}
 
 pub record-length : (s t a : ℕ) → length (flow-record s t a) ≡ 6 * when (not (eqb a 0)) 1
 unfolding flow-record
@@ -99,6 +99,6 @@ head-before place mt nt x old {ys} {new} {r} room w e =
           e
           ∙ ap (λ (n : ℕ). over (head-of place n) (back 3 old ys)) c
           ∙ ap (λ l. head-of place (amounts-count (length mt) (length nt) x) ++ l)
-          (ap (drop 3) (back-rest 3 old ys) ∙ seam ∙ w .bytes ∙ ap (λ l. recs ++ drop (length recs) l) (part-rest 3 old)
+          (ap (drop 3) (back-all 3 old ys) ∙ seam ∙ w .bytes ∙ ap (λ l. recs ++ drop (length recs) l) (part-all 3 old)
           ∙ ap (λ l. recs ++ l) (drop-drop (length recs) 3 old ∙ ap (λ (n : ℕ). drop n old) past));
     }

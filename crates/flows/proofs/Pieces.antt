@@ -1,18 +1,18 @@
 -- A buffer that a loop writes piece after piece.
 -- Assumes nothing.
-use mathlib.Core.Path.{_≡_, refl, sym, _∙_, ap, ap₂, subst}
+use mathlib.Core.Path.{_≡_, refl, sym, _∙_, ap, subst}
 use mathlib.Core.List.{List, [], _∷_, _++_, append-nil, append-assoc}
 use Prim.Native.Nat.{ℕ, zero, suc, _+_, _-_, _*_, _≤_, _<_}
 use native.Mathlib.Nat.{le-refl, not-suc-le-zero, zero-add, add-suc, suc-add, add-zero}
 use native.Mathlib.Numerals.{add-one}
 use native.Mathlib.Omega.{arith}
-use lib.ListN.{length, take, drop, set, length-append, length-drop, drop-of-length-le}
-use lib.Seq.{take-append-seam, drop-append-seam, drop-set-lt, take-all, length-take-le}
+use lib.ListN.{length, take, drop, set, length-append, length-drop}
+use lib.Seq.{drop-set-lt, length-take-le}
 use Rattle.simulation.specs.Sum.{sum, below, concat}
 use Rattle.simulation.proofs.Finite.Sums.{sum-mono, sum-bound}
 use Rattle.simulation.proofs.Finite.Lists.{below-ext}
 use Rattle.buffer.specs.Buffer.{over, Filled}
-use Rattle.buffer.proofs.Buffer.{part-from, back, Written, lend, finish}
+use Rattle.buffer.proofs.Buffer.{part-from, back, part-all, back-all, Written, begun, lend, finish}
 
 -- ---- the pieces f 0, …, f (n - 1) one after the other
 concat-snoc : {A : Type 0} (f : ℕ → List A) (i n : ℕ) → concat (below i (suc n) f) ≡ concat (below i n f) ++ f (i + n)
@@ -37,35 +37,17 @@ pieces-length f zero = refl
 pieces-length f (suc n) =
     ap length (ap (λ (k : ℕ). pieces k f) (sym (add-one n)) ∙ pieces-next f n) ∙ length-append (pieces n f) (f n) ∙ omega (arith, pieces-length f n)
 
--- ---- the rest of a buffer from a place on, and the buffer with something else there
-pub part-rest : (at : ℕ) (l : List ℕ) → part-from at l ≡ drop at l
-part-rest at l = take-all (length l - at) (drop at l) (simp length-drop (le-refl (length l - at)))
-
-pub back-rest : (at : ℕ) (l ys : List ℕ) → back at l ys ≡ take at l ++ ys
-back-rest at l ys =
-    ap (λ r. take at l ++ (ys ++ r)) (drop-of-length-le (drop at l) {i = length l - at} (simp length-drop (le-refl (length l - at))))
-    ∙ ap (λ r. take at l ++ r) (append-nil ys)
-
+-- ---- the buffer with something else from a place on
 pub back-room : (at : ℕ) (l ys : List ℕ) → at ≤ length l → at ≤ length (back at l ys)
-back-room at l ys le = omega (arith, ap length (back-rest at l ys), length-append (take at l) ys, length-take-le at l le)
+back-room at l ys le = omega (arith, ap length (back-all at l ys), length-append (take at l) ys, length-take-le at l le)
 
 -- ---- a buffer that holds bs at its start, and is lent on from there for the next piece
 extend : {bs old now ys : List ℕ} {at : ℕ} (cs : List ℕ) (r : ℕ) → length bs + length cs ≤ length old → Filled bs at old now
     → r ≡ length cs → ys ≡ over cs (part-from at now) → Written (bs ++ cs) old [] (back at now ys) (at + r)
 extend {bs} {old} {now} {ys} {at} cs r room w e put =
+    let whole : Written (bs ++ cs) old (cs ++ []) now at =
+    subst (λ (l : List ℕ). Written (bs ++ cs) old l now at) (sym (append-nil cs)) (begun cs (omega (arith, length-append bs cs)) w) in
     lend cs [] whole put r [] e refl
-  where
-    at-is : at ≡ length bs
-    at-is = w .count
-
-    whole : Written (bs ++ cs) old (cs ++ []) now at
-    whole = record {
-      kept = ap length (w .bytes) ∙ length-append bs (drop (length bs) old) ∙ omega (arith, length-drop (length bs) old);
-      room = omega (arith, length-append bs cs);
-      within = omega (arith, length-append bs cs, ap length (append-nil cs), at-is);
-      done = ap₂ _++_ (ap₂ take at-is (w .bytes) ∙ take-append-seam bs (drop (length bs) old)) (append-nil cs);
-      same = ap₂ drop at-is (w .bytes) ∙ drop-append-seam bs (drop (length bs) old) ∙ ap (λ (k : ℕ). drop k old) (sym at-is);
-    }
 
 -- ---- a loop that writes n pieces after a head, the piece k of at most c k bytes
 pub record Plan (head : List ℕ) (f : ℕ → List ℕ) (c : ℕ → ℕ) (n : ℕ) (old : List ℕ) : Type 0 where
@@ -114,7 +96,7 @@ module _ {head old : List ℕ} {f : ℕ → List ℕ} {c : ℕ → ℕ} {n : ℕ
 
     module _ (lt : k < n) where
       pub going-room : c k ≤ length (part-from at now)
-      going-room = rw (part-rest at now, length-drop) (omega (arith, g .filled .count, g .kept, fit k lt))
+      going-room = rw (part-all at now, length-drop) (omega (arith, g .filled .count, g .kept, fit k lt))
 
       pub going-fits : at + c k ≤ length old
       going-fits = omega (arith, g .filled .count, fit k lt)

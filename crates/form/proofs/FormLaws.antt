@@ -84,7 +84,6 @@ pub record Limited (m : Transition) : Type 0 where
   pub few : length (weights m) ≤ most-states
   pub paired : length (targets m) ≡ length (weights m)
   pub total-small : total (weights m) ≤ most-total
-  pub code-byte : m .code < 256
 
 module _ (f : List ℕ) (l : Loaded f) where
   pub limits : Limits f
@@ -132,7 +131,6 @@ module _ (f : List ℕ) (l : Loaded f) where
   limited-of s k h =
       let m = transition (table-of f) s k in
       let d = distribution-of s k h in
-      let c = l .valid .shape .listed s k (state-of f s k h) h in
       let a = weights-length m in
       let b = targets-length m in
       record {
@@ -140,7 +138,6 @@ module _ (f : List ℕ) (l : Loaded f) where
         few = omega (arith, few-targets (states-of (table-of f)) m d, l .valid .shape .few-states);
         paired = omega arith;
         total-small = d .small;
-        code-byte = omega (arith, c .2, l .valid .codes .small (c .0) (c .1));
       }
 
   module _ (j : ℕ) (h : j < transitions-of f) where

@@ -6,7 +6,7 @@ use Prim.Native.Nat.{ℕ, _+_, _-_, _≤_, _<_}
 use lib.ListN.{length, getD}
 use Rattle.simulation.specs.Sum.{below}
 use Rattle.simulation.specs.Table.{Entry, Transition, Table}
-use Rattle.simulation.specs.Limits.{most-codes, most-states, most-transitions, most-entries}
+use Rattle.simulation.specs.Limits.{wide, most-codes, most-states, most-transitions, most-entries}
 use Rattle.form.specs.Valid.{Valid}
 
 -- where each part begins: the count of states, the count of listed codes, the starts of the states' transitions, the starts of the transitions' entries,
@@ -90,7 +90,7 @@ pub record Loaded (f : List ℕ) : Type 0 where
   pub few-transitions : transitions-of f ≤ most-transitions
   pub entries-ordered : (j : ℕ) → j < transitions-of f → entry-start f j ≤ entry-start f (j + 1)
   pub few-entries : entry-start f (transitions-of f) ≤ most-entries
-  pub valid : Valid (table-of f)
+  pub valid : Valid wide (table-of f)
 
 -- the entries of the transition j lie within the column that begins at a place
 pub record Span (f : List ℕ) (column j : ℕ) : Type 0 where

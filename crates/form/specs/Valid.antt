@@ -2,17 +2,18 @@
 -- Assumes nothing.
 use mathlib.Core.Path.{_≡_}
 use mathlib.Core.List.{List}
-use Prim.Native.Nat.{ℕ, _+_, _≤_, _<_}
+use Prim.Native.Nat.{ℕ, _+_, _^_, _≤_, _<_}
 use lib.ListN.{length, getD}
 use Rattle.simulation.specs.Fit.{weight, total}
 use Rattle.simulation.specs.Table.{Transition, Table, weights, target-at, states-of, steps, transition}
 use Rattle.form.specs.Items.{all-transitions, all-entries}
 use Rattle.simulation.specs.Limits.{most-codes, most-states, most-transitions, most-of-state, most-entries, most-total}
 
--- action codes: few enough for their count, bytes, strictly ascending
-pub record Codes (codes : List ℕ) : Type 0 where
+-- action codes of w bytes: few, and their count takes w bytes too; strictly ascending
+pub record Codes (w : ℕ) (codes : List ℕ) : Type 0 where
   pub few : length codes ≤ most-codes
-  pub small : (i : ℕ) → i < length codes → getD codes i 0 < 256
+  pub counted : length codes < 256 ^ w
+  pub small : (i : ℕ) → i < length codes → getD codes i 0 < 256 ^ w
   pub ascending : (i : ℕ) → i + 1 < length codes → getD codes i 0 < getD codes (i + 1) 0
 
 -- a code of the list
@@ -36,7 +37,8 @@ pub record Shaped (M : Table) : Type 0 where
   pub listed : (s k : ℕ) → s < states-of M → k < length (steps M s) → Listed (M .codes) (transition M s k .code)
   pub distribution : (s k : ℕ) → s < states-of M → k < length (steps M s) → Distribution (states-of M) (transition M s k)
 
-pub record Valid (M : Table) : Type 0 where
-  pub codes : Codes (M .codes)
+-- a table whose codes take w bytes
+pub record Valid (w : ℕ) (M : Table) : Type 0 where
+  pub codes : Codes w (M .codes)
   pub shape : Shaped M
   pub few-each : (s : ℕ) → s < states-of M → length (steps M s) ≤ most-of-state

@@ -10,8 +10,8 @@ use lib.ListN.{length}
 use Rattle.items.specs.declared.cursor.Cursor.{Cursor}
 use Rattle.items.specs.declared.cursor.Read.{Read}
 use Rattle.items.specs.declared.cursor.Read.the-variants.{Value, End}
-use Rattle.layout.specs.Bytes.{byte, half}
-use Rattle.items.specs.Reads.{read-if, byte-read, half-read, part-read}
+use Rattle.layout.specs.Bytes.{byte, field, half}
+use Rattle.items.specs.Reads.{read-if, byte-read, half-read, field-read, part-read}
 
 -- r is the test's result t, which was true, or false
 pub read-value : {r t : Bool} {v w : ℕ} (a : ℕ) → r ≡ t → r ≡ true → v ≡ w → Value v (record { at = a }) ≡ read-if t w a
@@ -49,6 +49,12 @@ module _ (s : List ℕ) (p : ℕ) {q : ℕ} (at : q ≡ p) where
 
   pub half-ended : {r : Read} → r ≡ half-read s q → r ≡ End → leb (p + 2) (length s) ≡ false
   half-ended e = ended _ (half s p) (p + 2) (rw at at e)
+
+  pub field-told : (w : ℕ) {r : Read} {n : ℕ} {c : Cursor} → r ≡ field-read s w q → r ≡ Value n c → ValueTold (leb (p + w) (length s)) (field w s p) (p + w) n c
+  field-told w e = told _ _ _ (rw at at e)
+
+  pub field-ended : (w : ℕ) {r : Read} → r ≡ field-read s w q → r ≡ End → leb (p + w) (length s) ≡ false
+  field-ended w e = ended _ (field w s p) (p + w) (rw at at e)
 
   pub part-told : (k : ℕ) {m : ℕ} → m ≡ k → {r : Read} {n : ℕ} {c : Cursor} → r ≡ part-read s q m → r ≡ Value n c → ValueTold (leb (p + k) (length s)) p (p + k) n c
   part-told k size e = told _ _ _ (rw (at, size) at e)

@@ -6,7 +6,7 @@ use mathlib.Core.Path.{_≡_}
 use Prim.Native.Nat.{ℕ, _+_, _<_}
 use lib.Dec.{leb}
 use lib.ListN.{length}
-use Rattle.layout.specs.Bytes.{byte, half}
+use Rattle.layout.specs.Bytes.{byte, field, half}
 use Rattle.items.specs.declared.cursor.Read.{Read}
 use Rattle.items.specs.declared.cursor.Read.the-variants.{Value, End}
 
@@ -25,6 +25,9 @@ byte-read s at = read-if (leb (at + 1) (length s)) (byte s at) (at + 1)
 
 abbrev pub half-read : List ℕ → ℕ → Read
 half-read s at = read-if (leb (at + 2) (length s)) (half s at) (at + 2)
+
+abbrev pub field-read : List ℕ → ℕ → ℕ → Read
+field-read s w at = read-if (leb (at + w) (length s)) (field w s at) (at + w)
 
 -- where the n bytes lie
 abbrev pub part-read : List ℕ → ℕ → ℕ → Read

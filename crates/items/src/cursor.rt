@@ -1,10 +1,11 @@
 // A table cursor: each read hands back the value and the moved cursor.
+use simulation::Width;
 ghost use mathlib.Core.Path.{_≡_};
-ghost use Prim.Native.Nat.{_+_, _<_};
+ghost use Prim.Native.Nat.{_+_, _≤_, _<_};
 ghost use lib.Dec.{leb};
 ghost use lib.ListN.{length};
-ghost use Rattle.layout.specs.Bytes.{byte, half};
-ghost use Rattle.items.specs.Reads.{ValueBelow, byte-read, half-read, part-read};
+ghost use Rattle.layout.specs.Bytes.{CodeWidth, byte, field, half};
+ghost use Rattle.items.specs.Reads.{ValueBelow, byte-read, half-read, field-read, part-read};
 
 pub struct Cursor {
     pub at: usize,
@@ -42,6 +43,17 @@ pub fn half_at(s: &[u8], at: usize) -> usize
     byte_at(s, at) + 256 * byte_at(s, at + 1)
 }
 
+// The field of width bytes at a place, low byte first.
+pub fn field_at(s: &[u8], width: usize, at: usize) -> usize
+    requires { ⌜ CodeWidth width × (at + width ≤ length (now s)) ⌝ }
+    ensures { λ r. ⌜ ValueBelow 65536 (field width (now (s .entry)) at) r ⌝ }
+{
+    if width == Width::NARROW {
+        return byte_at(s, at);
+    }
+    half_at(s, at)
+}
+
 impl Cursor {
     // Before the first byte.
     pub fn new() -> Self
@@ -69,6 +81,19 @@ impl Cursor {
         let at = self.at;
         if present(s, at, 2) {
             Read::Value(half_at(s, at), Cursor { at: at + 2 })
+        } else {
+            Read::End
+        }
+    }
+
+    // A field of width bytes, low byte first.
+    pub fn field(self, s: &[u8], width: usize) -> Read
+        requires { ⌜ CodeWidth width ⌝ }
+        ensures { λ r. ⌜ r ≡ field-read (now (s .entry)) width (self .at) ⌝ }
+    {
+        let at = self.at;
+        if present(s, at, width) {
+            Read::Value(field_at(s, width, at), Cursor { at: at + width })
         } else {
             Read::End
         }

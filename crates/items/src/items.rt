@@ -1,5 +1,6 @@
 // The items of each section: the first refusal among them, 0 where there is none.
 use crate::cursor::byte_at;
+use crate::cursor::field_at;
 use crate::cursor::half_at;
 use simulation::Table;
 ghost use mathlib.Core.Path.{_≡_};
@@ -8,17 +9,18 @@ ghost use lib.Dec.{eqb};
 ghost use lib.ListN.{length};
 ghost use Rattle.simulation.specs.Sum.{sum, any};
 ghost use Rattle.simulation.specs.Limits.{most-total, most-transitions};
-ghost use Rattle.layout.specs.Bytes.{_then_, refuse_unless_, actions, byte, code, first, code-refusal, transition-refusal};
+ghost use Rattle.layout.specs.Bytes.{CodeWidth, _then_, refuse_unless_, actions, byte, code, first, code-refusal, transition-refusal};
 ghost use Rattle.layout.specs.Bytes.{target-right, weight-from, weight-right, entry-refusal, size-from, run-refusal};
 
 // Section 1: the n codes ascend strictly.
-pub fn codes_refusal(s: &[u8], n: usize) -> u8
-    requires { ⌜ 1 + n ≤ length (now s) ⌝ }
-    ensures { λ r. ⌜ r ≡ first 0 (pred n) (code-refusal (now (s .entry))) ⌝ }
+pub fn codes_refusal(s: &[u8], width: usize, n: usize) -> u8
+    requires { ⌜ CodeWidth width × (width + width * n ≤ length (now s)) ⌝ }
+    ensures { λ r. ⌜ r ≡ first 0 (pred n) (code-refusal width (now (s .entry))) ⌝ }
 {
     let mut i: usize = 0;
     while i + 1 < n {
-        if s[1 + (i + 1)] <= s[1 + i] {
+        let at = width + width * i;
+        if field_at(s, width, at + width) <= field_at(s, width, at) {
             return 3;
         }
         i += 1;
@@ -26,17 +28,25 @@ pub fn codes_refusal(s: &[u8], n: usize) -> u8
     0
 }
 
-// Whether a code is one of the n of section 1.
-pub fn listed(s: &[u8], n: usize, c: u8) -> bool
-    requires { ⌜ 1 + n ≤ length (now s) ⌝ }
-    ensures { λ r. ⌜ r ≡ any n (λ i. eqb (code (now (s .entry)) i) c) ⌝ }
+// Whether a code is one of the n of section 1. They ascend, so each turn halves where it can stand.
+pub fn listed(s: &[u8], width: usize, n: usize, c: usize) -> bool
+    requires { ⌜ CodeWidth width × (width + width * n ≤ length (now s)) ⌝ }
+    requires { ⌜ first 0 (pred n) (code-refusal width (now s)) ≡ 0 ⌝ }
+    ensures { λ r. ⌜ r ≡ any n (λ i. eqb (code width (now (s .entry)) i) c) ⌝ }
 {
-    let mut i: usize = 0;
-    while i < n {
-        if s[1 + i] == c {
+    let mut low: usize = 0;
+    let mut high = n;
+    while low < high {
+        let middle = low + (high - low) / 2;
+        let code = field_at(s, width, width + width * middle);
+        if code == c {
             return true;
         }
-        i += 1;
+        if code < c {
+            low = middle + 1;
+        } else {
+            high = middle;
+        }
     }
     false
 }
@@ -71,23 +81,25 @@ fn first_of(a: u8, b: u8) -> u8
 }
 
 // Section 3: the transition at a place, where section 1 has n codes.
-fn transition_refusal(s: &[u8], n: usize, p: usize) -> u8
-    requires { ⌜ (n ≡ actions (now s)) × (1 + n ≤ length (now s)) × (p + 1 < length (now s)) ⌝ }
-    ensures { λ r. ⌜ r ≡ transition-refusal (now (s .entry)) p ⌝ }
+fn transition_refusal(s: &[u8], width: usize, n: usize, p: usize) -> u8
+    requires { ⌜ CodeWidth width × (n ≡ actions width (now s)) × (width + width * n ≤ length (now s)) × (p + width < length (now s)) ⌝ }
+    requires { ⌜ first 0 (pred n) (code-refusal width (now s)) ≡ 0 ⌝ }
+    ensures { λ r. ⌜ r ≡ transition-refusal width (now (s .entry)) p ⌝ }
 {
-    let known = listed(s, n, s[p]);
-    let size = s[p + 1];
+    let known = listed(s, width, n, field_at(s, width, p));
+    let size = s[p + width];
     first_of(refuse_unless(6, known), refuse_unless(8, 0 < size))
 }
 
 // The m transitions from a place on.
-pub fn transitions_refusal(s: &[u8], n: usize, at: usize, m: usize) -> u8
-    requires { ⌜ (n ≡ actions (now s)) × (1 + n ≤ length (now s)) × (at + 2 * m ≤ length (now s)) ⌝ }
-    ensures { λ r. ⌜ r ≡ first 0 m (λ j. transition-refusal (now (s .entry)) (at + 2 * j)) ⌝ }
+pub fn transitions_refusal(s: &[u8], width: usize, n: usize, at: usize, m: usize) -> u8
+    requires { ⌜ CodeWidth width × (n ≡ actions width (now s)) × (width + width * n ≤ length (now s)) × (at + (width + 1) * m ≤ length (now s)) ⌝ }
+    requires { ⌜ first 0 (pred n) (code-refusal width (now s)) ≡ 0 ⌝ }
+    ensures { λ r. ⌜ r ≡ first 0 m (λ j. transition-refusal width (now (s .entry)) (at + (width + 1) * j)) ⌝ }
 {
     let mut j: usize = 0;
     while j < m {
-        let refusal = transition_refusal(s, n, at + 2 * j);
+        let refusal = transition_refusal(s, width, n, at + (width + 1) * j);
         if refusal != 0 {
             return refusal;
         }
@@ -144,16 +156,16 @@ pub fn entries_of_refusal(s: &[u8], n: usize, at: usize, size: usize) -> u8
     0
 }
 
-// The entries of m transitions, whose sizes stand at every second byte from a place on: the first refusal among them.
-pub fn entries_refusal(s: &[u8], n: usize, sizes: usize, m: usize, at: usize) -> u8
-    requires { ⌜ (m ≤ most-transitions) × (sizes + 2 * m ≤ length (now s) + 1) ⌝ }
-    requires { ⌜ at + 3 * sum m (size-from (now s) sizes) ≤ length (now s) ⌝ }
-    ensures { λ r. ⌜ r ≡ first 0 m (run-refusal (now (s .entry)) n sizes at) ⌝ }
+// The entries of m transitions, whose sizes stand after their codes, the first at the place sizes: the first refusal among them.
+pub fn entries_refusal(s: &[u8], width: usize, n: usize, sizes: usize, m: usize, at: usize) -> u8
+    requires { ⌜ CodeWidth width × (m ≤ most-transitions) × (sizes + (width + 1) * m ≤ length (now s) + width) ⌝ }
+    requires { ⌜ at + 3 * sum m (size-from width (now s) sizes) ≤ length (now s) ⌝ }
+    ensures { λ r. ⌜ r ≡ first 0 m (run-refusal width (now (s .entry)) n sizes at) ⌝ }
 {
     let mut start: usize = 0;
     let mut j: usize = 0;
     while j < m {
-        let size = byte_at(s, sizes + 2 * j);
+        let size = byte_at(s, sizes + (width + 1) * j);
         let refusal = entries_of_refusal(s, n, at + 3 * start, size);
         if refusal != 0 {
             return refusal;

@@ -5,11 +5,13 @@ use mathlib.Core.List.{List, _++_, map}
 use Prim.Native.Nat.{ℕ, zero, suc, _+_, _-_}
 use native.Mathlib.Nat.{add-zero, zero-add, add-comm}
 use native.Mathlib.Omega.{arith}
+use lib.ListN.{length}
 use Rattle.simulation.specs.Sum.{below, sum, concat}
 use Rattle.simulation.specs.Table.{Transition}
 use Rattle.form.specs.Items.{all-transitions, all-entries}
 use Rattle.layout.specs.Bytes.{states, count, transitions, size, entries, decoded-entry, decoded-transition, table, refusal}
 use Rattle.form.proofs.Lists.{below-append, map-below}
+use Rattle.simulation.proofs.Finite.Lists.{below-length}
 use Rattle.simulation.proofs.Finite.Sums.{sum-le}
 use Rattle.layout.proofs.Bounds.{accepted-bounds}
 
@@ -36,17 +38,20 @@ module _ {ℓ} {A : Type ℓ} (f : ℕ → A) where
   unfolding sum
   runs-all c n = runs c 0 n (sum n c) (ap (λ (x : ℕ). sum x c) (zero-add n) ∙ sym (zero-add (sum n c)))
 
-module _ (s : List ℕ) (e : refusal s ≡ 0) where
-  pub transitions-in-order : all-transitions (table s) ≡ below 0 (transitions s) (decoded-transition s)
+module _ (w : ℕ) (s : List ℕ) (e : refusal w s ≡ 0) where
+  pub transitions-in-order : all-transitions (table w s) ≡ below 0 (transitions w s) (decoded-transition w s)
   unfolding table
   transitions-in-order =
-      runs-all (decoded-transition s) (count s) (states s)
-      ∙ ap (λ (n : ℕ). below 0 n (decoded-transition s)) (sym (accepted-bounds s e .of-transitions .counted))
+      runs-all (decoded-transition w s) (count w s) (states w s)
+      ∙ ap (λ (n : ℕ). below 0 n (decoded-transition w s)) (sym (accepted-bounds w s e .of-transitions .counted))
 
-  pub entries-in-order : all-entries (table s) ≡ below 0 (entries s) (decoded-entry s)
+  pub transition-count : length (all-transitions (table w s)) ≡ transitions w s
+  transition-count = ap length transitions-in-order ∙ below-length (decoded-transition w s) 0 (transitions w s)
+
+  pub entries-in-order : all-entries (table w s) ≡ below 0 (entries w s) (decoded-entry w s)
   unfolding decoded-transition
   entries-in-order =
       ap (λ (ms : List Transition). concat (map (λ (m : Transition). m .entries) ms)) transitions-in-order
-      ∙ ap concat (map-below (λ (m : Transition). m .entries) 0 (transitions s) (decoded-transition s))
-      ∙ runs-all (decoded-entry s) (size s) (transitions s)
-      ∙ ap (λ (n : ℕ). below 0 n (decoded-entry s)) (sym (accepted-bounds s e .of-entries .counted))
+      ∙ ap concat (map-below (λ (m : Transition). m .entries) 0 (transitions w s) (decoded-transition w s))
+      ∙ runs-all (decoded-entry w s) (size w s) (transitions w s)
+      ∙ ap (λ (n : ℕ). below 0 n (decoded-entry w s)) (sym (accepted-bounds w s e .of-entries .counted))

@@ -1,6 +1,7 @@
 -- Laws of the definitions of specs/, in reading order.
 -- Assumes nothing.
 pub mod Laws
+pub mod Fields
 pub mod SectionLaws
 pub mod Bounds
 pub mod PlaceLaws

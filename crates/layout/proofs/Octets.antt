@@ -2,8 +2,8 @@
 -- Assumes nothing.
 use mathlib.Core.Path.{_≡_, sym, _∙_, ap, subst}
 use mathlib.Core.List.{List, [], _∷_, _++_, map}
-use Prim.Native.Nat.{ℕ, zero, suc, _≤_, _<_, suc-le-suc}
-use native.Mathlib.Nat.{mod-lt, div-lt-iff-lt-mul}
+use Prim.Native.Nat.{ℕ, zero, suc, _/_, _^_, _≤_, _<_, suc-le-suc}
+use native.Mathlib.Nat.{mod-lt, div-lt-iff-lt-mul, pow-suc}
 use native.Mathlib.Omega.{arith}
 use lib.ListN.{length, getD, length-map, List·getD-map}
 use Rattle.simulation.specs.Sum.{concat}
@@ -14,7 +14,7 @@ use Rattle.simulation.specs.Limits.{most-total}
 use Rattle.form.specs.Items.{all-transitions, all-entries}
 use Rattle.form.specs.Valid.{Distribution, Valid}
 use Rattle.layout.specs.Bytes.{Octets, byte}
-use Rattle.layout.specs.Encode.{half-bytes, encode-transition, encode-entry, actions-section, states-section, transitions-section, entries-section, encode}
+use Rattle.layout.specs.Encode.{field-bytes, half-bytes, encode-transition, encode-entry, actions-section, states-section, transitions-section, entries-section, encode-as}
 use Rattle.form.proofs.Lists.{concat-find}
 use Rattle.layout.proofs.PlaceLaws.{no-entry}
 use Rattle.layout.proofs.Numbered.{lists, lists-many, list-is, numbered, listed-at, distribution-at}
@@ -47,7 +47,12 @@ records d g (x ∷ xs) h = both (g x) (concat (map g xs)) (h 0 (omega arith)) (r
 half-octets : (n : ℕ) → n ≤ most-total → Every (half-bytes n)
 half-octets n l = (mod-lt n (omega arith), (div-lt-iff-lt-mul {k = 256} {x = n} {y = 256} (omega arith) .1 (omega arith), tt))
 
-module _ (M : Table) (v : Valid M) where
+field-octets : (w n : ℕ) → n < 256 ^ w → Every (field-bytes w n)
+unfolding field-bytes
+field-octets zero n l = tt
+field-octets (suc w) n l = (mod-lt n (omega arith), field-octets w (n / 256) (div-lt-iff-lt-mul {k = 256} {x = n} {y = 256 ^ w} (omega arith) .1 (omega (arith, pow-suc 256 w))))
+
+module _ (w : ℕ) (M : Table) (v : Valid w M) where
   counts : Every (map length (M .states))
   counts = within (map length (M .states)) (λ q l.
       let n = length-map (M .states) length in
@@ -55,13 +60,13 @@ module _ (M : Table) (v : Valid M) where
       let few = v .few-each q (omega arith) in
       omega arith)
 
-  transition-octets : (j : ℕ) → j < length (all-transitions M) → Every (encode-transition (numbered M j))
+  transition-octets : (j : ℕ) → j < length (all-transitions M) → Every (encode-transition w (numbered M j))
   transition-octets j l =
       let at = listed-at M (v .shape) j l in
-      let small : numbered M j .code < 256 = subst (λ (c : ℕ). c < 256) (at .2) (v .codes .small (at .0) (at .1)) in
+      let small : numbered M j .code < 256 ^ w = subst (λ (c : ℕ). c < 256 ^ w) (at .2) (v .codes .small (at .0) (at .1)) in
       let few = few-targets (states-of M) (numbered M j) (distribution-at M (v .shape) j l) in
       let states = v .shape .few-states in
-      (small, (omega arith, tt))
+      both (field-bytes w (numbered M j .code)) (length (numbered M j .entries) ∷ []) (field-octets w (numbered M j .code) small) (omega arith, tt)
 
   -- an entry of a distribution
   entry-octets : (m : Transition) → Distribution (states-of M) m → (k : ℕ) → k < length (m .entries) → Every (encode-entry (getD (m .entries) k no-entry))
@@ -85,17 +90,17 @@ module _ (M : Table) (v : Valid M) where
       let k : f .within < length (numbered M j .entries) = omega (arith, f .within-below, ap length (list-is M j)) in
       subst (λ (x : Entry). Every (encode-entry x)) (sym is) (entry-octets (numbered M j) (distribution-at M (v .shape) j b) (f .within) k)
 
-  pub encode-octets : Octets (encode M)
-  unfolding encode
+  pub encode-octets : Octets (encode-as w M)
+  unfolding encode-as
   encode-octets =
-      let few-codes = v .codes .few in
       let few-states = v .shape .few-states in
       let few-transitions = v .shape .few-transitions in
       let few-entries = v .shape .few-entries in
-      let ts = concat (map encode-transition (all-transitions M)) in
+      let ts = concat (map (encode-transition w) (all-transitions M)) in
       let es = concat (map encode-entry (all-entries M)) in
-      let first : Every (actions-section M) = (omega arith, within (M .codes) (v .codes .small)) in
+      let cs = concat (map (field-bytes w) (M .codes)) in
+      let first : Every (actions-section w M) = both (field-bytes w (length (M .codes))) cs (field-octets w (length (M .codes)) (v .codes .counted)) (records 0 (field-bytes w) (M .codes) (λ i l. field-octets w (getD (M .codes) i 0) (v .codes .small i l))) in
       let second : Every (states-section M) = (omega arith, counts) in
-      let third : Every (transitions-section M) = both (half-bytes (length (all-transitions M))) ts (half-octets (length (all-transitions M)) (omega arith)) (records no-transition encode-transition (all-transitions M) transition-octets) in
+      let third : Every (transitions-section w M) = both (half-bytes (length (all-transitions M))) ts (half-octets (length (all-transitions M)) (omega arith)) (records no-transition (encode-transition w) (all-transitions M) transition-octets) in
       let fourth : Every (entries-section M) = both (half-bytes (length (all-entries M))) es (half-octets (length (all-entries M)) (omega arith)) (records no-entry encode-entry (all-entries M) entries-octets) in
-      octets (encode M) (both (actions-section M ++ states-section M ++ transitions-section M) (entries-section M) (both (actions-section M ++ states-section M) (transitions-section M) (both (actions-section M) (states-section M) first second) third) fourth)
+      octets (encode-as w M) (both (actions-section w M ++ states-section M ++ transitions-section w M) (entries-section M) (both (actions-section w M ++ states-section M) (transitions-section w M) (both (actions-section w M) (states-section M) first second) third) fourth)

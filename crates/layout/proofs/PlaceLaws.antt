@@ -18,70 +18,70 @@ use Rattle.layout.proofs.Bounds.{accepted-bounds}
 abbrev pub no-entry : Entry
 no-entry = record { target = 0; weight = 0 }
 
-module _ (s : List ℕ) where
+module _ (w : ℕ) (s : List ℕ) where
   -- section 1
-  pub code-count : length (table s .codes) ≡ actions s
+  pub code-count : length (table w s .codes) ≡ actions w s
   unfolding table
-  code-count = below-length (code s) 0 (actions s)
+  code-count = below-length (code w s) 0 (actions w s)
 
-  pub code-is : (i : ℕ) → i < actions s → getD (table s .codes) i 0 ≡ code s i
+  pub code-is : (i : ℕ) → i < actions w s → getD (table w s .codes) i 0 ≡ code w s i
   unfolding table
-  code-is i l = getD-below 0 (actions s) i (code s) 0 l ∙ ap (code s) (zero-add i)
+  code-is i l = getD-below 0 (actions w s) i (code w s) 0 l ∙ ap (code w s) (zero-add i)
 
   -- section 2
   abbrev pub steps-from : ℕ → List Transition
-  steps-from q = below (state-start s q) (count s q) (decoded-transition s)
+  steps-from q = below (state-start w s q) (count w s q) (decoded-transition w s)
 
-  pub states-are : table s .states ≡ below 0 (states s) steps-from
+  pub states-are : table w s .states ≡ below 0 (states w s) steps-from
   unfolding table
   states-are = refl
 
-  pub state-count : states-of (table s) ≡ states s
-  state-count = ap length states-are ∙ below-length steps-from 0 (states s)
+  pub state-count : states-of (table w s) ≡ states w s
+  state-count = ap length states-are ∙ below-length steps-from 0 (states w s)
 
-  pub steps-are : (q : ℕ) → q < states s → steps (table s) q ≡ below (state-start s q) (count s q) (decoded-transition s)
-  steps-are q l = ap (λ (ls : List (List Transition)). getD ls q []) states-are ∙ getD-below 0 (states s) q steps-from [] l ∙ ap steps-from (zero-add q)
+  pub steps-are : (q : ℕ) → q < states w s → steps (table w s) q ≡ below (state-start w s q) (count w s q) (decoded-transition w s)
+  steps-are q l = ap (λ (ls : List (List Transition)). getD ls q []) states-are ∙ getD-below 0 (states w s) q steps-from [] l ∙ ap steps-from (zero-add q)
 
-  pub step-count : (q : ℕ) → q < states s → length (steps (table s) q) ≡ count s q
-  step-count q l = ap length (steps-are q l) ∙ below-length (decoded-transition s) (state-start s q) (count s q)
+  pub step-count : (q : ℕ) → q < states w s → length (steps (table w s) q) ≡ count w s q
+  step-count q l = ap length (steps-are q l) ∙ below-length (decoded-transition w s) (state-start w s q) (count w s q)
 
   -- section 3: the transition k of the state q is the one numbered state-start q + k
-  pub transition-is : (q k : ℕ) → q < states s → k < count s q → transition (table s) q k ≡ decoded-transition s (state-start s q + k)
+  pub transition-is : (q k : ℕ) → q < states w s → k < count w s q → transition (table w s) q k ≡ decoded-transition w s (state-start w s q + k)
   transition-is q k l m =
       ap (λ (ms : List Transition). getD ms k no-transition) (steps-are q l)
-      ∙ getD-below (state-start s q) (count s q) k (decoded-transition s) no-transition m
+      ∙ getD-below (state-start w s q) (count w s q) k (decoded-transition w s) no-transition m
 
-  pub label-is : (j : ℕ) → decoded-transition s j .code ≡ label s j
+  pub label-is : (j : ℕ) → decoded-transition w s j .code ≡ label w s j
   unfolding decoded-transition
   label-is j = refl
 
-  pub number-below : (q k : ℕ) → refusal s ≡ 0 → q < states s → k < count s q → state-start s q + k < transitions s
-  number-below q k e l m = let more = sum-le q (states s) (count s) l in let b = accepted-bounds s e .of-transitions .counted in omega arith
+  pub number-below : (q k : ℕ) → refusal w s ≡ 0 → q < states w s → k < count w s q → state-start w s q + k < transitions w s
+  number-below q k e l m = let more = sum-le q (states w s) (count w s) l in let b = accepted-bounds w s e .of-transitions .counted in omega arith
 
   -- section 4: the entry i of the transition j is the one numbered start j + i
-  pub entry-count : (j : ℕ) → length (decoded-transition s j .entries) ≡ size s j
+  pub entry-count : (j : ℕ) → length (decoded-transition w s j .entries) ≡ size w s j
   unfolding decoded-transition
-  entry-count j = below-length (decoded-entry s) (start s j) (size s j)
+  entry-count j = below-length (decoded-entry w s) (start w s j) (size w s j)
 
-  pub entry-is : (j i : ℕ) → i < size s j → getD (decoded-transition s j .entries) i no-entry ≡ decoded-entry s (start s j + i)
+  pub entry-is : (j i : ℕ) → i < size w s j → getD (decoded-transition w s j .entries) i no-entry ≡ decoded-entry w s (start w s j + i)
   unfolding decoded-transition
-  entry-is j i l = getD-below (start s j) (size s j) i (decoded-entry s) no-entry l
+  entry-is j i l = getD-below (start w s j) (size w s j) i (decoded-entry w s) no-entry l
 
-  pub target-is : (j i : ℕ) → i < size s j → target-at (decoded-transition s j) i ≡ entry-target s (start s j + i)
-  target-is j i l = List·getD-map (λ (x : Entry). x .target) (decoded-transition s j .entries) i no-entry ∙ ap (λ (x : Entry). x .target) (entry-is j i l)
+  pub target-is : (j i : ℕ) → i < size w s j → target-at (decoded-transition w s j) i ≡ entry-target w s (start w s j + i)
+  target-is j i l = List·getD-map (λ (x : Entry). x .target) (decoded-transition w s j .entries) i no-entry ∙ ap (λ (x : Entry). x .target) (entry-is j i l)
 
-  pub weight-is : (j i : ℕ) → i < size s j → weight (weights (decoded-transition s j)) i ≡ entry-weight s (start s j + i)
-  weight-is j i l = List·getD-map (λ (x : Entry). x .weight) (decoded-transition s j .entries) i no-entry ∙ ap (λ (x : Entry). x .weight) (entry-is j i l)
+  pub weight-is : (j i : ℕ) → i < size w s j → weight (weights (decoded-transition w s j)) i ≡ entry-weight w s (start w s j + i)
+  weight-is j i l = List·getD-map (λ (x : Entry). x .weight) (decoded-transition w s j .entries) i no-entry ∙ ap (λ (x : Entry). x .weight) (entry-is j i l)
 
-  pub run-within : (j : ℕ) → refusal s ≡ 0 → j < transitions s → start s j + size s j ≤ entries s
-  run-within j e l = let more = sum-le j (transitions s) (size s) l in let b = accepted-bounds s e .of-entries .counted in omega arith
+  pub run-within : (j : ℕ) → refusal w s ≡ 0 → j < transitions w s → start w s j + size w s j ≤ entries w s
+  run-within j e l = let more = sum-le j (transitions w s) (size w s) l in let b = accepted-bounds w s e .of-entries .counted in omega arith
 
   -- where the entries of the transition j begin
   abbrev pub entries-from : ℕ → ℕ
-  entries-from j = entries-at s + 2 + 3 * start s j
+  entries-from j = entries-at w s + 2 + 3 * start w s j
 
-  pub target-at-place : (j k : ℕ) → byte s (entries-from j + 3 * k) ≡ entry-target s (start s j + k)
-  target-at-place j k = let q : entries-from j + 3 * k ≡ entries-at s + 2 + 3 * (start s j + k) = omega arith in ap (byte s) q
+  pub target-at-place : (j k : ℕ) → byte s (entries-from j + 3 * k) ≡ entry-target w s (start w s j + k)
+  target-at-place j k = let q : entries-from j + 3 * k ≡ entries-at w s + 2 + 3 * (start w s j + k) = omega arith in ap (byte s) q
 
-  pub weight-at-place : (j k : ℕ) → weight-from s (entries-from j) k ≡ entry-weight s (start s j + k)
-  weight-at-place j k = let q : entries-from j + 3 * k ≡ entries-at s + 2 + 3 * (start s j + k) = omega arith in ap (λ (p : ℕ). half s (p + 1)) q
+  pub weight-at-place : (j k : ℕ) → weight-from s (entries-from j) k ≡ entry-weight w s (start w s j + k)
+  weight-at-place j k = let q : entries-from j + 3 * k ≡ entries-at w s + 2 + 3 * (start w s j + k) = omega arith in ap (λ (p : ℕ). half s (p + 1)) q

@@ -11,12 +11,13 @@ use lib.Seq.{ext-getD, getD-drop, getD-set-same, getD-set-other}
 use Rattle.simulation.specs.Sum.{sum}
 use Rattle.simulation.proofs.Finite.Sums.{sum-ext}
 use Rattle.table.specs.declared.parts.Layout.{Layout}
-use Rattle.simulation.specs.Limits.{most-codes, most-states, most-transitions, most-entries}
-use Rattle.layout.specs.Bytes.{byte, half, Octets, actions, states-at, states, count, transitions-at, transitions, size, entries-at, entries, refusal}
-use Rattle.table.specs.Stages.{layout}
+use Rattle.simulation.specs.Limits.{wide}
+use Rattle.layout.specs.Bytes.{byte, half, actions, states, count, transitions, size, entries}
 use Rattle.form.specs.Form.{form-size, states-from, actions-from, starts-from, entry-starts-from, codes-from, targets-from, weights-from, listed-from, at, start-of, entry-start}
 use Rattle.loading.specs.Fill.{FormFilled, run, Heads, Columns, Between}
-use Rattle.layout.proofs.Bounds.{passes, accepted-bounds, actions-bytes}
+use Rattle.table.proofs.PartLaws.{Parts}
+use Rattle.layout.proofs.Bounds.{code-at-is, label-at-is}
+use Rattle.layout.proofs.Fields.{half-field}
 
 pub filled-none : (f : List ℕ) (from : ℕ) (g : ℕ → ℕ) → FormFilled f from 0 g f
 filled-none f from g = record { long = refl; filled = λ i l. absurd (omega arith); kept = λ i l. refl }
@@ -56,52 +57,13 @@ between-beyond {a} {b} {f} {g} u =
     ext-getD 0 (drop b g) (drop b f) (length-drop b g ∙ ap (λ n. n - b) (u .long) ∙ sym (length-drop b f))
     (λ i l. getD-drop b g i 0 ∙ u .kept (b + i) (inr (omega arith)) ∙ sym (getD-drop b f i 0))
 
--- counts and places of accepted bytes, as a layout has them
-pub record Parts (s : List ℕ) (t : Layout) : Type 0 where
-  pub actions-are : t .actions ≡ actions s
-  pub states-are : t .states ≡ states s
-  pub transitions-are : t .transitions ≡ transitions s
-  pub entries-are : t .entries ≡ entries s
-  pub counts-from : t .«counts_at» ≡ states-at s + 1
-  pub transitions-from : t .«transitions_at» ≡ transitions-at s + 2
-  pub entries-from : t .«entries_at» ≡ entries-at s + 2
-  pub few-actions : actions s ≤ most-codes
-  pub few-states : states s ≤ most-states
-  pub few-transitions : transitions s ≤ most-transitions
-  pub few-entries : entries s ≤ most-entries
-  pub actions-there : 1 + actions s ≤ length s
-  pub counts-there : states-at s + 1 + states s ≤ length s
-  pub transitions-there : transitions-at s + 2 + 2 * transitions s ≤ length s
-  pub entries-there : entries-at s + 2 + 3 * entries s ≤ length s
-
-pub parts-known : (s : List ℕ) (t : Layout) → Octets s → refusal s ≡ 0 → t ≡ layout s → Parts s t
-parts-known s t octets e q =
-    let a = accepted-bounds s e in
-    record {
-      actions-are = ap (λ (t : Layout). t .actions) q;
-      states-are = ap (λ (t : Layout). t .states) q;
-      transitions-are = ap (λ (t : Layout). t .transitions) q;
-      entries-are = ap (λ (t : Layout). t .entries) q;
-      counts-from = ap (λ (t : Layout). t .«counts_at») q;
-      transitions-from = ap (λ (t : Layout). t .«transitions_at») q;
-      entries-from = ap (λ (t : Layout). t .«entries_at») q;
-      few-actions = omega (arith, octets 0);
-      few-states = a .of-states .few;
-      few-transitions = a .of-transitions .few;
-      few-entries = a .of-entries .few;
-      actions-there = actions-bytes s (passes s e .of-actions);
-      counts-there = a .of-states .bytes;
-      transitions-there = a .of-transitions .bytes;
-      entries-there = a .of-entries .bytes;
-    }
-
-module _ (s : List ℕ) (t : Layout) (p : Parts s t) where
+module _ (s : List ℕ) (t : Layout) (p : Parts wide s t) where
   -- the counts and the starts, written one after the other
   pub heads-by : {f f₁ f₂ f₃ f₄ : List ℕ}
       → FormFilled f states-from 1 (λ i. t .states) f₁
       → FormFilled f₁ actions-from 1 (λ i. t .actions) f₂
       → FormFilled f₂ starts-from (t .states + 1) (λ i. sum i (run s (t .«counts_at») 1)) f₃
-      → FormFilled f₃ entry-starts-from (t .transitions + 1) (λ i. sum i (run s (t .«transitions_at» + 1) 2)) f₄
+      → FormFilled f₃ entry-starts-from (t .transitions + 1) (λ i. sum i (run s (t .«transitions_at» + 2) 3)) f₄
       → Heads s f₄ × Between 0 codes-from f f₄
   unfolding start-of entry-start
   heads-by u v w x = (
@@ -110,9 +72,9 @@ module _ (s : List ℕ) (t : Layout) (p : Parts s t) where
       actions-are = x .kept 1 (inl (omega arith)) ∙ w .kept 1 (inl (omega arith)) ∙ v .filled 0 (omega arith) ∙ p .actions-are;
       starts-are = λ q l.
           x .kept (starts-from + q) (inl (omega (arith, p))) ∙ w .filled q (omega (arith, p))
-          ∙ sum-ext q (run s (t .«counts_at») 1) (count s) (λ i m. ap (byte s) (omega (arith, p .counts-from)));
+          ∙ sum-ext q (run s (t .«counts_at») 1) (count wide s) (λ i m. ap (byte s) (omega (arith, p .counts-from)));
       entry-starts-are = λ j l.
-          x .filled j (omega (arith, p)) ∙ sum-ext j (run s (t .«transitions_at» + 1) 2) (size s) (λ i m. ap (byte s) (omega (arith, p .transitions-from)));
+          x .filled j (omega (arith, p)) ∙ sum-ext j (run s (t .«transitions_at» + 2) 3) (size wide s) (λ i m. ap (byte s) (omega (arith, p .transitions-from)));
     },
     between-trans (filled-between 0 codes-from u (omega arith) (omega arith))
         (between-trans (filled-between 0 codes-from v (omega arith) (omega arith))
@@ -121,22 +83,22 @@ module _ (s : List ℕ) (t : Layout) (p : Parts s t) where
 
   -- the columns, written one after the other
   pub columns-by : {f f₁ f₂ f₃ f₄ : List ℕ}
-      → FormFilled f codes-from (t .transitions) (run s (t .«transitions_at») 2) f₁
+      → FormFilled f codes-from (t .transitions) (λ i. half s (t .«transitions_at» + 3 * i)) f₁
       → FormFilled f₁ targets-from (t .entries) (run s (t .«entries_at») 3) f₂
       → FormFilled f₂ weights-from (t .entries) (λ i. half s (t .«entries_at» + 1 + 3 * i)) f₃
-      → FormFilled f₃ listed-from (t .actions) (run s 1 1) f₄
+      → FormFilled f₃ listed-from (t .actions) (λ i. half s (2 + 2 * i)) f₄
       → Columns s f₄ × Between codes-from form-size f f₄
   columns-by u v w x = (
     record {
       codes-are = λ j l.
           x .kept (codes-from + j) (inl (omega (arith, p))) ∙ w .kept (codes-from + j) (inl (omega (arith, p))) ∙ v .kept (codes-from + j) (inl (omega (arith, p)))
-          ∙ u .filled j (omega (arith, p)) ∙ ap (byte s) (omega (arith, p .transitions-from));
+          ∙ u .filled j (omega (arith, p)) ∙ ap (half s) (omega (arith, p .transitions-from)) ∙ sym (label-at-is wide s j ∙ half-field s _);
       targets-are = λ e l.
           x .kept (targets-from + e) (inl (omega (arith, p))) ∙ w .kept (targets-from + e) (inl (omega (arith, p)))
           ∙ v .filled e (omega (arith, p)) ∙ ap (byte s) (omega (arith, p .entries-from));
       weights-are = λ e l.
           x .kept (weights-from + e) (inl (omega (arith, p))) ∙ w .filled e (omega (arith, p)) ∙ ap (half s) (omega (arith, p .entries-from));
-      listed-are = λ i l. x .filled i (omega (arith, p)) ∙ ap (byte s) (omega arith);
+      listed-are = λ i l. x .filled i (omega (arith, p)) ∙ sym (code-at-is wide s i ∙ half-field s _);
     },
     between-trans (filled-between codes-from form-size u (omega arith) (omega (arith, p)))
         (between-trans (filled-between codes-from form-size v (omega arith) (omega (arith, p)))

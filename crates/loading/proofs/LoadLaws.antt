@@ -9,6 +9,7 @@ use lib.ListN.{length}
 use Rattle.simulation.specs.Sum.{below}
 use Rattle.simulation.specs.Table.{Entry, Transition}
 use Rattle.simulation.proofs.Finite.Lists.{below-ext}
+use Rattle.simulation.specs.Limits.{wide}
 use Rattle.table.specs.declared.parts.TableAnswer.{TableAnswer}
 use Rattle.table.specs.declared.parts.TableAnswer.the-variants.{Refused}
 use Rattle.form.specs.Valid.{Valid}
@@ -23,67 +24,67 @@ use Rattle.layout.proofs.ValidLaws.{valid}
 use Rattle.table.proofs.AnswerLaws.{refusal-told, answer-accepted}
 use Rattle.loading.proofs.FillLaws.{between-trans, between-wider, between-beyond}
 
-module _ (s : List ℕ) (octets : Octets s) (e : refusal s ≡ 0) where
-  number-bound : (q : ℕ) → q < states s → state-start s q + count s q ≤ transitions s
-  number-bound q l = omega (arith, sum-le q (states s) (count s) l, accepted-bounds s e .of-transitions .counted)
+module _ (s : List ℕ) (octets : Octets s) (e : refusal wide s ≡ 0) where
+  number-bound : (q : ℕ) → q < states wide s → state-start wide s q + count wide s q ≤ transitions wide s
+  number-bound q l = omega (arith, sum-le q (states wide s) (count wide s) l, accepted-bounds wide s e .of-transitions .counted)
 
   module _ (f : List ℕ) (h : Heads s f) (c : Columns s f) where
     -- the entries of a transition: where they begin, and how many there are
-    size-same : (j : ℕ) → j < transitions s → size-of f j ≡ size s j
-    size-same j l = omega (arith, h .entry-starts-are j (omega arith), h .entry-starts-are (j + 1) (omega arith), sum-more j (size s) refl)
+    size-same : (j : ℕ) → j < transitions wide s → size-of f j ≡ size wide s j
+    size-same j l = omega (arith, h .entry-starts-are j (omega arith), h .entry-starts-are (j + 1) (omega arith), sum-more j (size wide s) refl)
 
-    transition-same : (j : ℕ) → j < transitions s → transition-at f j ≡ decoded-transition s j
+    transition-same : (j : ℕ) → j < transitions wide s → transition-at f j ≡ decoded-transition wide s j
     unfolding transition-at decoded-transition
     transition-same j l =
         ap₂ (λ (a : ℕ) (es : List Entry). record { code = a; entries = es }) (c .codes-are j l)
         (ap₂ (λ (a n : ℕ). below a n (entry-at f)) (h .entry-starts-are j (omega arith)) (size-same j l)
-        ∙ below-ext (entry-at f) (decoded-entry s) (start s j) (size s j) (λ k a b. entry-same k (omega (arith, run-within s j e l))))
+        ∙ below-ext (entry-at f) (decoded-entry wide s) (start wide s j) (size wide s j) (λ k a b. entry-same k (omega (arith, run-within wide s j e l))))
       where
-        entry-same : (k : ℕ) → k < entries s → entry-at f k ≡ decoded-entry s k
+        entry-same : (k : ℕ) → k < entries wide s → entry-at f k ≡ decoded-entry wide s k
         entry-same k m = ap₂ (λ (t w : ℕ). record { target = t; weight = w }) (c .targets-are k m) (c .weights-are k m)
 
-    table-same : table-of f ≡ table s
+    table-same : table-of f ≡ table wide s
     unfolding table-of count-of table
     table-same =
         ap₂ (λ (cs : List ℕ) (ms : List (List Transition)). record { codes = cs; states = ms })
         (ap (λ (n : ℕ). below 0 n (λ i. at f (listed-from + i))) (h .actions-are)
-        ∙ below-ext (λ i. at f (listed-from + i)) (code s) 0 (actions s) (λ i a b. c .listed-are i (omega arith)))
-        (ap (λ (n : ℕ). below 0 n of-state) (h .states-are) ∙ below-ext of-state (λ q. below (state-start s q) (count s q) (decoded-transition s)) 0 (states s) (λ q a b. state-same q (omega arith)))
+        ∙ below-ext (λ i. at f (listed-from + i)) (code wide s) 0 (actions wide s) (λ i a b. c .listed-are i (omega arith)))
+        (ap (λ (n : ℕ). below 0 n of-state) (h .states-are) ∙ below-ext of-state (λ q. below (state-start wide s q) (count wide s q) (decoded-transition wide s)) 0 (states wide s) (λ q a b. state-same q (omega arith)))
       where
         of-state : ℕ → List Transition
         of-state q = below (start-of f q) (start-of f (q + 1) - start-of f q) (transition-at f)
 
-        state-same : (q : ℕ) → q < states s → of-state q ≡ below (state-start s q) (count s q) (decoded-transition s)
+        state-same : (q : ℕ) → q < states wide s → of-state q ≡ below (state-start wide s q) (count wide s q) (decoded-transition wide s)
         state-same q l =
             let a = h .starts-are q (omega arith) in
-            let more = sum-more q (count s) refl in
-            let n : start-of f (q + 1) - start-of f q ≡ count s q = omega (arith, a, h .starts-are (q + 1) (omega arith)) in
+            let more = sum-more q (count wide s) refl in
+            let n : start-of f (q + 1) - start-of f q ≡ count wide s q = omega (arith, a, h .starts-are (q + 1) (omega arith)) in
             ap₂ (λ (a n : ℕ). below a n (transition-at f)) a n
-            ∙ below-ext (transition-at f) (decoded-transition s) (state-start s q) (count s q) (λ j a b. transition-same j (omega (arith, number-bound q l)))
+            ∙ below-ext (transition-at f) (decoded-transition wide s) (state-start wide s q) (count wide s q) (λ j a b. transition-same j (omega (arith, number-bound q l)))
 
     loaded : form-size ≤ length f → Loaded f
     unfolding transitions-of count-of
     loaded room =
-        let a = accepted-bounds s e in
-        let all : transitions-of f ≡ transitions s = ap (start-of f) (h .states-are) ∙ h .starts-are (states s) (omega arith) ∙ sym (a .of-transitions .counted) in
-        let last : entry-start f (transitions-of f) ≡ entries s = ap (entry-start f) all ∙ h .entry-starts-are (transitions s) (omega arith) ∙ sym (a .of-entries .counted) in
+        let a = accepted-bounds wide s e in
+        let all : transitions-of f ≡ transitions wide s = ap (start-of f) (h .states-are) ∙ h .starts-are (states wide s) (omega arith) ∙ sym (a .of-transitions .counted) in
+        let last : entry-start f (transitions-of f) ≡ entries wide s = ap (entry-start f) all ∙ h .entry-starts-are (transitions wide s) (omega arith) ∙ sym (a .of-entries .counted) in
         record {
           room = room;
-          from-zero = h .starts-are 0 (omega arith) ∙ sym (sum-none (count s));
+          from-zero = h .starts-are 0 (omega arith) ∙ sym (sum-none (count wide s));
           ordered = λ q l.
-              let m : q < states s = omega (arith, h .states-are) in
-              omega (arith, h .starts-are q (omega arith), h .starts-are (q + 1) (omega arith), sum-more q (count s) refl);
+              let m : q < states wide s = omega (arith, h .states-are) in
+              omega (arith, h .starts-are q (omega arith), h .starts-are (q + 1) (omega arith), sum-more q (count wide s) refl);
           few-transitions = omega (arith, a .of-transitions .few);
-          entries-ordered = λ j l. omega (arith, h .entry-starts-are j (omega arith), h .entry-starts-are (j + 1) (omega arith), sum-more j (size s) refl);
+          entries-ordered = λ j l. omega (arith, h .entry-starts-are j (omega arith), h .entry-starts-are (j + 1) (omega arith), sum-more j (size wide s) refl);
           few-entries = omega (arith, a .of-entries .few);
-          valid = subst Valid (sym table-same) (valid s octets e);
+          valid = subst (Valid wide) (sym table-same) (valid wide s octets e);
         }
 
   -- what is written later leaves it alone
   heads-kept : {f f′ : List ℕ} → Heads s f → Between codes-from form-size f f′ → Heads s f′
   unfolding start-of entry-start
   heads-kept h u =
-      let a = accepted-bounds s e in
+      let a = accepted-bounds wide s e in
       record {
         states-are = u .kept states-from (inl (omega arith)) ∙ h .states-are;
         actions-are = u .kept actions-from (inl (omega arith)) ∙ h .actions-are;
@@ -106,13 +107,13 @@ module _ (s : List ℕ) (octets : Octets s) (e : refusal s ≡ 0) where
       }
 
 -- what the answer to the bytes tells of a form
-pub read-refused : (s f : List ℕ) {r : TableAnswer} {k : ℕ} → r ≡ answer s → r ≡ Refused k → Reads s f k f
+pub read-refused : (s f : List ℕ) {r : TableAnswer} {k : ℕ} → r ≡ answer wide s → r ≡ Refused k → Reads s f k f
 read-refused s f {r} {k} e q =
     record {
-      number = refusal-told s e q;
-      accepted = λ p. let t = answer-accepted s p refl in let z : _≡_ {A = ℕ} 0 1 = cc in absurd (omega arith);
+      number = refusal-told wide s e q;
+      accepted = λ p. let t = answer-accepted wide s p refl in let z : _≡_ {A = ℕ} 0 1 = cc in absurd (omega arith);
       refused = λ p. refl;
     }
 
-pub read-accepted : (s f f′ : List ℕ) → refusal s ≡ 0 → Loads s f f′ → Reads s f 0 f′
+pub read-accepted : (s f f′ : List ℕ) → refusal wide s ≡ 0 → Loads s f f′ → Reads s f 0 f′
 read-accepted s f f′ e l = record { number = sym e; accepted = λ p. l; refused = λ p. absurd (p e) }

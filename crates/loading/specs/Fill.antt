@@ -5,6 +5,7 @@ use mathlib.Core.Logic.{_⊎_, _≢_}
 use mathlib.Core.List.{List}
 use Prim.Native.Nat.{ℕ, _+_, _*_, _≤_, _<_}
 use lib.ListN.{length, drop}
+use Rattle.simulation.specs.Limits.{wide}
 use Rattle.layout.specs.Bytes.{byte, actions, code, states, transitions, label, state-start, start, entries, entry-target, entry-weight, refusal, table}
 use Rattle.form.specs.Form.{form-size, states-from, actions-from, codes-from, targets-from, weights-from, listed-from, at, start-of, entry-start, Loaded, table-of}
 
@@ -25,17 +26,17 @@ pub record Runs (s : List ℕ) (from step n : ℕ) (f : List ℕ) (to : ℕ) : T
 
 -- the form has the counts and the starts of the bytes s
 pub record Heads (s f : List ℕ) : Type 0 where
-  pub states-are : at f states-from ≡ states s
-  pub actions-are : at f actions-from ≡ actions s
-  pub starts-are : (q : ℕ) → q ≤ states s → start-of f q ≡ state-start s q
-  pub entry-starts-are : (j : ℕ) → j ≤ transitions s → entry-start f j ≡ start s j
+  pub states-are : at f states-from ≡ states wide s
+  pub actions-are : at f actions-from ≡ actions wide s
+  pub starts-are : (q : ℕ) → q ≤ states wide s → start-of f q ≡ state-start wide s q
+  pub entry-starts-are : (j : ℕ) → j ≤ transitions wide s → entry-start f j ≡ start wide s j
 
 -- the form has the columns of the bytes s
 pub record Columns (s f : List ℕ) : Type 0 where
-  pub codes-are : (j : ℕ) → j < transitions s → at f (codes-from + j) ≡ label s j
-  pub targets-are : (e : ℕ) → e < entries s → at f (targets-from + e) ≡ entry-target s e
-  pub weights-are : (e : ℕ) → e < entries s → at f (weights-from + e) ≡ entry-weight s e
-  pub listed-are : (i : ℕ) → i < actions s → at f (listed-from + i) ≡ code s i
+  pub codes-are : (j : ℕ) → j < transitions wide s → at f (codes-from + j) ≡ label wide s j
+  pub targets-are : (e : ℕ) → e < entries wide s → at f (targets-from + e) ≡ entry-target wide s e
+  pub weights-are : (e : ℕ) → e < entries wide s → at f (weights-from + e) ≡ entry-weight wide s e
+  pub listed-are : (i : ℕ) → i < actions wide s → at f (listed-from + i) ≡ code wide s i
 
 -- f and f′ are equally long, and differ at the places from a on, below b, only
 pub record Between (a b : ℕ) (f f′ : List ℕ) : Type 0 where
@@ -45,12 +46,12 @@ pub record Between (a b : ℕ) (f f′ : List ℕ) : Type 0 where
 -- f′ holds the table of the accepted bytes s, and is f past the end of a form
 pub record Loads (s f f′ : List ℕ) : Type 0 where
   pub loaded : Loaded f′
-  pub same : table-of f′ ≡ table s
+  pub same : table-of f′ ≡ table wide s
   pub long : length f′ ≡ length f
   pub beyond : drop form-size f′ ≡ drop form-size f
 
 -- r is the refusal of the bytes s; f′ is loaded where there is none, and f as it was otherwise
 pub record Reads (s f : List ℕ) (r : ℕ) (f′ : List ℕ) : Type 0 where
-  pub number : r ≡ refusal s
-  pub accepted : refusal s ≡ 0 → Loads s f f′
-  pub refused : refusal s ≢ 0 → f′ ≡ f
+  pub number : r ≡ refusal wide s
+  pub accepted : refusal wide s ≡ 0 → Loads s f f′
+  pub refused : refusal wide s ≢ 0 → f′ ≡ f

@@ -1,6 +1,7 @@
 // Loads the table of bytes into its decoded form, a column at a time.
 use form::Form;
 use items::cursor::half_at;
+use simulation::Width;
 use table::parts::Layout;
 use table::parts::TableAnswer;
 use table::read;
@@ -8,7 +9,7 @@ ghost use mathlib.Core.Path.{_≡_};
 ghost use Prim.Native.Nat.{_+_, _*_, _≤_, _<_};
 ghost use lib.ListN.{length};
 ghost use Rattle.simulation.specs.Sum.{sum};
-ghost use Rattle.simulation.specs.Limits.{most-transitions};
+ghost use Rattle.simulation.specs.Limits.{wide, most-transitions};
 ghost use Rattle.layout.specs.Bytes.{half, refusal};
 ghost use Rattle.table.specs.Stages.{layout};
 ghost use Rattle.form.specs.Form.{form-size, codes-from};
@@ -63,7 +64,7 @@ fn put_halves(form: &mut [u16], to: usize, s: &[u8], from: usize, step: usize, n
 
 // The counts and the starts.
 fn put_heads(form: &mut [u16], s: &[u8], t: Layout)
-    requires { ⌜ (refusal (now s) ≡ 0) × (t ≡ layout (now s)) × (form-size ≤ length (now form)) ⌝ }
+    requires { ⌜ (refusal wide (now s) ≡ 0) × (t ≡ layout wide (now s)) × (form-size ≤ length (now form)) ⌝ }
     ensures { λ _. ⌜ Heads (now (s .entry)) (now (form .exit)) × Between 0 codes-from (now (form .entry)) (now (form .exit)) ⌝ }
 {
     put(form, Form::STATES_AT, t.states as u16);
@@ -73,26 +74,40 @@ fn put_heads(form: &mut [u16], s: &[u8], t: Layout)
         form,
         Form::ENTRY_STARTS_AT,
         s,
-        t.transitions_at + 1,
-        2,
+        t.transitions_at + Width::WIDE,
+        Width::WIDE + 1,
         t.transitions,
     );
 }
 
 // The columns of transitions, entries and listed codes.
 fn put_columns(form: &mut [u16], s: &[u8], t: Layout)
-    requires { ⌜ (refusal (now s) ≡ 0) × (t ≡ layout (now s)) × (form-size ≤ length (now form)) ⌝ }
+    requires { ⌜ (refusal wide (now s) ≡ 0) × (t ≡ layout wide (now s)) × (form-size ≤ length (now form)) ⌝ }
     ensures { λ _. ⌜ Columns (now (s .entry)) (now (form .exit)) × Between codes-from form-size (now (form .entry)) (now (form .exit)) ⌝ }
 {
-    put_bytes(form, Form::CODES_AT, s, t.transitions_at, 2, t.transitions);
+    put_halves(
+        form,
+        Form::CODES_AT,
+        s,
+        t.transitions_at,
+        Width::WIDE + 1,
+        t.transitions,
+    );
     put_bytes(form, Form::TARGETS_AT, s, t.entries_at, 3, t.entries);
     put_halves(form, Form::WEIGHTS_AT, s, t.entries_at + 1, 3, t.entries);
-    put_bytes(form, Form::LISTED_AT, s, 1, 1, t.actions);
+    put_halves(
+        form,
+        Form::LISTED_AT,
+        s,
+        Width::WIDE,
+        Width::WIDE,
+        t.actions,
+    );
 }
 
 // The whole form.
 fn fill(form: &mut [u16], s: &[u8], t: Layout)
-    requires { ⌜ (refusal (now s) ≡ 0) × (t ≡ layout (now s)) × (form-size ≤ length (now form)) ⌝ }
+    requires { ⌜ (refusal wide (now s) ≡ 0) × (t ≡ layout wide (now s)) × (form-size ≤ length (now form)) ⌝ }
     ensures { λ _. ⌜ Loads (now (s .entry)) (now (form .entry)) (now (form .exit)) ⌝ }
 {
     put_heads(form, s, t);
@@ -104,7 +119,7 @@ pub fn load(bytes: &[u8], form: &mut [u16]) -> u8
     requires { ⌜ form-size ≤ length (now form) ⌝ }
     ensures { λ r. ⌜ Reads (now (bytes .entry)) (now (form .entry)) r (now (form .exit)) ⌝ }
 {
-    let answer = read(bytes);
+    let answer = read(bytes, Width::WIDE);
     match answer {
         TableAnswer::Refused(number) => number,
         TableAnswer::Accepted(t) => {

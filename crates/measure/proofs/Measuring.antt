@@ -16,7 +16,7 @@ use Rattle.simulation.specs.Sum.{sum, any, when}
 use Rattle.simulation.specs.Table.{Table, targets, target-at, states-of}
 use Rattle.simulation.specs.Round.{pairs}
 use Rattle.simulation.specs.Tree.{chosen, set-of}
-use Rattle.simulation.specs.Length.{one-length, pair-length, tree-length}
+use Rattle.simulation.specs.Length.{head-length, one-length, pair-length, tree-length}
 use Rattle.simulation.proofs.Finite.Sums.{sum-bound, sum-term, sum-none, sum-more, when-most}
 use Rattle.simulation.proofs.Finite.Tests.{and-left, and-right, and-both, same-eqb, any-some, some-any}
 use Rattle.simulation.proofs.Trees.Length.{pair-length-step}
@@ -151,17 +151,17 @@ module _ {tables ranks lengths sets amounts : List ℕ} {s t : ℕ} (g : PairGiv
           (g .below i v (omega (arith, count-is pair-choice et)) (subst (λ (X : Test). T (X v)) (set-at pair-choice et z i b) h)))
           ∙ min-same most _)
 
-      pair-total : min most (2 + children-length (states-of N) lengths ts sets′ (length ts)) ≡ min most (pair-length M N s t)
+      pair-total : min most (head-length + children-length (states-of N) lengths ts sets′ (length ts)) ≡ min most (pair-length M N s t)
       pair-total =
-          min-plus most 2 _ _ (min-sum most (length ts) _ _ (λ i b. min-plus most 4 _ _ (min-sum most (states-of N) _ _ (λ v _. same-child i v b))))
+          min-plus most head-length _ _ (min-sum most (length ts) _ _ (λ i b. min-plus most 4 _ _ (min-sum most (states-of N) _ _ (λ v _. same-child i v b))))
           ∙ ap (min most) (sym (length-parts pair-choice et z))
 
       module _ (r : ℕ) (er : r ≡ children-length (states-of N) lengths ts sets′ (length ts)) where
         -- the sum, cut at the greatest number, is the pair's length
-        pub pair-over : most < 2 + r → most ≡ min most (pair-length M N s t)
+        pub pair-over : most < head-length + r → most ≡ min most (pair-length M N s t)
         pair-over h = omega (arith, er, pair-total)
 
-        pub pair-under : 2 + r ≤ most → 2 + r ≡ min most (pair-length M N s t)
+        pub pair-under : head-length + r ≤ most → head-length + r ≡ min most (pair-length M N s t)
         pair-under h = omega (arith, er, pair-total)
 
 -- ---- the walk up the list

@@ -1,6 +1,7 @@
 // How many bytes a tree takes: the lengths of the pairs that it meets, from the pairs with none below them up.
 use choice::find_sets;
 use choice::rank_at;
+use counting::count::HEAD;
 use counting::count::LONGEST;
 use counting::pair::number;
 use form::Form;
@@ -89,7 +90,7 @@ fn measure_pair(
 {
     let r = rank_at(tables, ranks, s, t);
     find_sets(tables, ranks, s, t, r, j, sets, amounts);
-    let len = 2
+    let len = HEAD
         + children_length(
             tables,
             lengths,

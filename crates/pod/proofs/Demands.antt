@@ -9,6 +9,7 @@ use native.Mathlib.Omega.{arith}
 use lib.Dec.{T, eqb, eqb→eq}
 use lib.ListN.{length, getD, List·getD-append}
 use Rattle.simulation.specs.Fit.{Amounts}
+use Rattle.simulation.specs.Limits.{wide}
 use Rattle.simulation.specs.Table.{Table, states-of}
 use Rattle.simulation.specs.Round.{rank, rank-list, maximum, zeros}
 use Rattle.simulation.specs.Demands.{Kept, Told, Demands as TheoryDemands}
@@ -153,7 +154,7 @@ module _ (first second : List ℕ) (s t : ℕ) (b : Buffers) (r : Result) (h : C
         ∙ rank-list-at M N u v a c
 
     demands : TheoryDemands M N
-    demands = theory.demands M N (accepted-sound first M e) (accepted-sound second N f)
+    demands = theory.demands M N (accepted-sound wide first M e) (accepted-sound wide second N f)
 
     accepted-here : r .answer .number ≡ 0 → Accepted M N s t b (h .amounts) r
     accepted-here = accepted-call M N s t b (h .amounts) r call-outcome

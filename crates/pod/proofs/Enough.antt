@@ -8,16 +8,17 @@ use native.Mathlib.Omega.{arith}
 use lib.Dec.{ltb, eqb}
 use lib.ListN.{length}
 use Rattle.simulation.specs.Fit.{Amounts}
+use Rattle.simulation.specs.Limits.{wide}
 use Rattle.simulation.specs.Table.{Table, states-of}
 use Rattle.simulation.specs.Sum.{sum, any}
-use Rattle.layout.specs.Bytes.{Octets, refuse_unless_, _then_, first, section, byte, size-from, actions, code, end, target-right, weight-right, code-refusal, actions-refusal, states-refusal, transition-refusal, transitions-refusal, entry-refusal, run-refusal, entries-refusal, refusal, refused, number, decode}
+use Rattle.layout.specs.Bytes.{Octets, refuse_unless_, _then_, first, section, byte, field, size-from, actions, code, end, target-right, weight-right, code-refusal, actions-refusal, states-refusal, transition-refusal, transitions-refusal, entry-refusal, run-refusal, entries-refusal, refusal, refused, number, decode-as}
 use Rattle.layout.proofs.DecodeLaws.{number-is}
 use Rattle.layout.proofs.Accepted.{accepted-shaped, accepted-valid}
 use Rattle.flows.specs.Flow.{most-flow}
 use Rattle.flows.proofs.FlowRoom.{room-most}
 use Rattle.counting.specs.Count.{longest}
 use Rattle.compare.specs.Outcome.{Buffers, Result, success}
-use Rattle.pod.specs.Check.{Checked, state-count, states-in}
+use Rattle.pod.specs.Check.{Checked, StatesCounted}
 use Rattle.pod.specs.Demands.{Call, first-refused, second-refused, both-accepted, call-result}
 use Rattle.compare.specs.Condition.{Condition, outside, short-ranks, short-flow, short-tree, long-tree, flow-fits, tree-fits}
 use Rattle.pod.proofs.Demands.{demand-1}
@@ -48,46 +49,46 @@ section-most present rule whole items a b =
 either-most : (j k : ℕ) (a b : Bool) → j ≤ 10 → k ≤ 10 → (refuse j unless a then refuse k unless b) ≤ 10
 either-most j k a b lj lk = then-most (refuse j unless a) (refuse k unless b) (refuse-most j a lj) (refuse-most k b lk)
 
-module _ (s : List ℕ) where
-  code-most : (i : ℕ) → code-refusal s i ≤ 10
+module _ (w : ℕ) (s : List ℕ) where
+  code-most : (i : ℕ) → code-refusal w s i ≤ 10
   unfolding code-refusal
-  code-most i = refuse-most 3 (ltb (code s i) (code s (i + 1))) (omega arith)
+  code-most i = refuse-most 3 (ltb (code w s i) (code w s (i + 1))) (omega arith)
 
-  transition-most : (p : ℕ) → transition-refusal s p ≤ 10
+  transition-most : (p : ℕ) → transition-refusal w s p ≤ 10
   unfolding transition-refusal
-  transition-most p = either-most 6 8 (any (actions s) (λ i. eqb (code s i) (byte s p))) (ltb 0 (byte s (p + 1))) (omega arith) (omega arith)
+  transition-most p = either-most 6 8 (any (actions w s) (λ i. eqb (code w s i) (field w s p))) (ltb 0 (byte s (p + w))) (omega arith) (omega arith)
 
   entry-most : (n p k : ℕ) → entry-refusal s n p k ≤ 10
   unfolding entry-refusal
   entry-most n p k = either-most 9 10 (target-right s n p k) (weight-right s p k) (omega arith) (omega arith)
 
-  run-most : (n q p j : ℕ) → run-refusal s n q p j ≤ 10
+  run-most : (n q p j : ℕ) → run-refusal w s n q p j ≤ 10
   unfolding run-refusal
-  run-most n q p j = let at = p + 3 * sum j (size-from s q) in first-most (entry-refusal s n at) (entry-most n at) 0 (size-from s q j)
+  run-most n q p j = let at = p + 3 * sum j (size-from w s q) in first-most (entry-refusal s n at) (entry-most n at) 0 (size-from w s q j)
 
-  actions-most : actions-refusal s ≤ 10
-  actions-most = section-most _ _ _ _ zero-le (first-most (code-refusal s) code-most _ _)
+  actions-most : actions-refusal w s ≤ 10
+  actions-most = section-most _ _ _ _ (refuse-most 3 _ (omega arith)) (first-most (code-refusal w s) code-most _ _)
 
-  states-most : states-refusal s ≤ 10
+  states-most : states-refusal w s ≤ 10
   states-most = section-most _ _ _ _ (refuse-most 4 _ (omega arith)) zero-le
 
-  transitions-most : transitions-refusal s ≤ 10
+  transitions-most : transitions-refusal w s ≤ 10
   transitions-most = section-most _ _ _ _ (refuse-most 5 _ (omega arith)) (first-most _ (λ j. transition-most _) _ _)
 
-  entries-most : entries-refusal s ≤ 10
+  entries-most : entries-refusal w s ≤ 10
   entries-most = section-most _ _ _ _ (refuse-most 7 _ (omega arith)) (first-most _ (run-most _ _ _) _ _)
 
-  refusal-most : refusal s ≤ 10
+  refusal-most : refusal w s ≤ 10
   unfolding refusal
   refusal-most =
-      let two = actions-refusal s then states-refusal s in
-      let three = two then transitions-refusal s in
-      then-most (three then entries-refusal s) (refuse 2 unless eqb (end s) (length s))
-      (then-most three (entries-refusal s) (then-most two (transitions-refusal s) (then-most (actions-refusal s) (states-refusal s) actions-most states-most) transitions-most) entries-most)
-      (refuse-most 2 (eqb (end s) (length s)) (omega arith))
+      let two = actions-refusal w s then states-refusal w s in
+      let three = two then transitions-refusal w s in
+      then-most (three then entries-refusal w s) (refuse 2 unless eqb (end w s) (length s))
+      (then-most three (entries-refusal w s) (then-most two (transitions-refusal w s) (then-most (actions-refusal w s) (states-refusal w s) actions-most states-most) transitions-most) entries-most)
+      (refuse-most 2 (eqb (end w s) (length s)) (omega arith))
 
-  refused-most : {k : ℕ} → decode s ≡ refused k → k ≤ 10
-  refused-most e = omega (arith, refusal-most, number-is s, ap number e)
+  refused-most : {k : ℕ} → decode-as w s ≡ refused k → k ≤ 10
+  refused-most e = omega (arith, refusal-most, number-is w s, ap number e)
 
 -- ---- no call on long enough buffers gives 20 or 22
 
@@ -117,19 +118,18 @@ module _ {first second : List ℕ} {s t : ℕ} {b : Buffers} where
 
   -- a number above 10 names no table
   pub of-both : {n k : ℕ} → 10 < n → Call first second s t b n k → Call first second s t b n 0
-  of-both lt (first-refused e) = absurd (omega (arith, refused-most first e))
-  of-both lt (second-refused e f) = absurd (omega (arith, refused-most second f))
+  of-both lt (first-refused e) = absurd (omega (arith, refused-most wide first e))
+  of-both lt (second-refused e f) = absurd (omega (arith, refused-most wide second f))
   of-both lt (both-accepted e f c) = both-accepted e f c
 
-  pub ranks-enough : {n k : ℕ} → states-in first * states-in second ≤ length (b .ranks) → Call first second s t b n k → n ≡ 20 → ⊥
-  unfolding state-count
-  ranks-enough le (first-refused e) z = omega (arith, refused-most first e)
-  ranks-enough le (second-refused e f) z = omega (arith, refused-most second f)
-  ranks-enough le (both-accepted e f c) z = ranks-few (omega (arith, ap₂ (λ (p q : ℕ). p * q) (ap state-count e) (ap state-count f))) c z
+  pub ranks-enough : {n k p q : ℕ} → StatesCounted first p → StatesCounted second q → p * q ≤ length (b .ranks) → Call first second s t b n k → n ≡ 20 → ⊥
+  ranks-enough m n le (first-refused e) z = omega (arith, refused-most wide first e)
+  ranks-enough m n le (second-refused e f) z = omega (arith, refused-most wide second f)
+  ranks-enough m n le (both-accepted {M} {N} e f c) z = ranks-few (omega (arith, ap₂ (λ (p q : ℕ). p * q) (m .right M e) (n .right N f))) c z
 
   pub tree-enough : {n k : ℕ} → longest ≤ length (b .tree) → Call first second s t b n k → n ≡ 22 → ⊥
-  tree-enough le (first-refused e) z = omega (arith, refused-most first e)
-  tree-enough le (second-refused e f) z = omega (arith, refused-most second f)
+  tree-enough le (first-refused e) z = omega (arith, refused-most wide first e)
+  tree-enough le (second-refused e f) z = omega (arith, refused-most wide second f)
   tree-enough le (both-accepted e f c) z = tree-short le c z
 
 -- ---- how long a flow buffer 21 asks for
@@ -142,8 +142,8 @@ module _ {first second : List ℕ} {s t : ℕ} {b : Buffers} (bytes : Octets fir
   needed-most x (both-accepted e f (outside h)) z = zero-le
   needed-most x (both-accepted e f (short-ranks i h)) z = absurd (omega arith)
   needed-most x (both-accepted {M} {N} e f (short-flow r k h)) z =
-      let v = accepted-valid first bytes M e in
-      room-most M N s (v .few-each s (r .0 .0)) (v .shape .few-entries) (accepted-shaped second N f .few-states)
+      let v = accepted-valid wide first bytes M e in
+      room-most M N s (v .few-each s (r .0 .0)) (v .shape .few-entries) (accepted-shaped wide second N f .few-states)
   needed-most x (both-accepted e f (flow-fits r k h)) z = zero-le
   needed-most x (both-accepted e f (long-tree r k h)) z = zero-le
   needed-most x (both-accepted e f (short-tree r k h g)) z = absurd (omega arith)

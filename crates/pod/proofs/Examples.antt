@@ -13,7 +13,7 @@ use Rattle.simulation.specs.Round.{between, round, rank}
 use Rattle.simulation.specs.Demands.{Kept}
 use Rattle.simulation.specs.Tree.{node-bytes, tree}
 use Rattle.simulation.specs.Examples as tables
-use Rattle.layout.specs.Bytes.{decode}
+use Rattle.layout.specs.Bytes.{decode-as}
 use Rattle.fit.specs.Partner.{place}
 use Rattle.flows.specs.Flow.{Right, flow-record, flow-row, flow-records, amounts-count, flow-of, flow-bytes}
 use Rattle.compare.specs.Outcome.{success, with-flow, outcome, kept-outcome, left}
@@ -63,15 +63,15 @@ module _ (x : ℕ → Amounts) (right : Right tables.C tables.P 0 0 x) where
       at-11 = omega (arith, unrelated, column-1)
 
 on-tree-fits : Covered tree-fits
-unfolding checked decode node-bytes tree
+unfolding checked decode-as node-bytes tree
 on-tree-fits r h = h .result
 
 on-tree-short : Covered tree-short
-unfolding checked decode node-bytes tree
+unfolding checked decode-as node-bytes tree
 on-tree-short r h = h .result
 
 on-itself : Covered itself
-unfolding checked decode node-bytes tree
+unfolding checked decode-as node-bytes tree
 on-itself r h = h .result
 
 kept-CP : Kept tables.C tables.P 0 0
@@ -83,37 +83,37 @@ unfolding success
 written-CP = refl
 
 on-flow-fits : Covered flow-fits
-unfolding checked outcome kept-outcome decode RightFor
+unfolding checked outcome kept-outcome decode-as RightFor
 on-flow-fits r h =
     let bytes-are : flow-bytes tables.C tables.P 0 0 (h .amounts) ≡ flow-CP = flow-is (h .amounts) (h .right (omega arith) (omega arith) kept-CP) in
     h .result ∙ ap (λ (l : List ℕ). left (success tables.C tables.P 0 0 (length l)) (with-flow tables.C tables.P l (flow-fits .buffers))) bytes-are ∙ written-CP
 
 on-flow-short : Covered flow-short
-unfolding checked decode node-bytes tree
+unfolding checked decode-as node-bytes tree
 on-flow-short r h = h .result
 
 on-one-state : Covered one-state
-unfolding checked decode node-bytes tree
+unfolding checked decode-as node-bytes tree
 on-one-state r h = h .result
 
 on-no-bytes : Covered no-bytes
-unfolding checked decode node-bytes tree
+unfolding checked decode-as node-bytes tree
 on-no-bytes r h = h .result
 
 on-cut-short : Covered cut-short
-unfolding checked decode node-bytes tree
+unfolding checked decode-as node-bytes tree
 on-cut-short r h = h .result
 
 on-byte-more : Covered byte-more
-unfolding checked decode node-bytes tree
+unfolding checked decode-as node-bytes tree
 on-byte-more r h = h .result
 
 on-codes-exchanged : Covered codes-exchanged
-unfolding checked decode node-bytes tree
+unfolding checked decode-as node-bytes tree
 on-codes-exchanged r h = h .result
 
 on-second-cut-short : Covered second-cut-short
-unfolding checked decode node-bytes tree
+unfolding checked decode-as node-bytes tree
 on-second-cut-short r h = h .result
 
 pub starred : All Covered rows

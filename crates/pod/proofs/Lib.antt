@@ -4,4 +4,5 @@ pub mod TableLaws
 pub mod Demands
 pub mod Enough
 pub mod Reading
+pub mod Widening
 pub mod Examples

@@ -12,6 +12,7 @@ use Rattle.buffer.specs.Buffer.{with-part}
 use Rattle.buffer.proofs.Parts.{part-size, part-is, part-before, part-length}
 use Rattle.form.specs.Form.{form-size, table-of, Loaded}
 use Rattle.form.specs.Tables.{first-form, second-form, first-table, second-table, BothLoaded}
+use Rattle.simulation.specs.Limits.{wide}
 use Rattle.layout.specs.Bytes.{Decoded, refused, accepted, decode, table, refusal as refused-by}
 use Rattle.loading.specs.Fill.{Reads}
 use Rattle.layout.proofs.DecodeLaws.{decode-accepted}
@@ -97,17 +98,17 @@ module _ (first second : List ℕ) (s t : ℕ) (b : Buffers) {f f′ : List ℕ}
   read-first-refused d e = subst (λ (q : Answer). Checked first second s t b (left q b)) (sym e) (first-is-refused first second s t b (decodes-refused first m (p .number) d))
 
   module _ (accepted-first : m ≡ 0) {g g′ : List ℕ} {n : ℕ} (q : Reads second g n g′) where
-    first-passed : refused-by first ≡ 0
+    first-passed : refused-by wide first ≡ 0
     first-passed = sym (p .number) ∙ accepted-first
 
     pub read-second-refused : {r : Answer} → n ≢ 0 → r ≡ refusal n 2 0 → Checked first second s t b (left r b)
     read-second-refused d e =
         subst (λ (q : Answer). Checked first second s t b (left q b)) (sym e)
-        (second-is-refused first second s t b (decode-accepted first first-passed) (decodes-refused second n (q .number) d))
+        (second-is-refused first second s t b (decode-accepted wide first first-passed) (decodes-refused second n (q .number) d))
 
     pub read-compared : n ≡ 0 → {r : Result} → Compared (table-of f′) (table-of g′) s t b r → Checked first second s t b r
     read-compared z {r} h =
-        let passed : refused-by second ≡ 0 = sym (q .number) ∙ z in
-        both-compared first second s t b (decode-accepted first first-passed) (decode-accepted second passed)
-        (subst (λ (N : Table). Compared (table first) N s t b r) (q .accepted passed .same)
+        let passed : refused-by wide second ≡ 0 = sym (q .number) ∙ z in
+        both-compared first second s t b (decode-accepted wide first first-passed) (decode-accepted wide second passed)
+        (subst (λ (N : Table). Compared (table wide first) N s t b r) (q .accepted passed .same)
         (subst (λ (M : Table). Compared M (table-of g′) s t b r) (p .accepted first-passed .same) h))

@@ -2,9 +2,10 @@
 -- Assumes nothing.
 use mathlib.Core.Path.{_≡_}
 use mathlib.Core.List.{List}
-use Prim.Native.Nat.{ℕ, _<_}
+use Prim.Native.Nat.{ℕ, _≤_, _<_}
 use Rattle.simulation.specs.Fit.{Amounts}
-use Rattle.simulation.specs.Table.{states-of}
+use Rattle.simulation.specs.Limits.{most-states}
+use Rattle.simulation.specs.Table.{Table, states-of}
 use Rattle.simulation.specs.Demands.{Kept}
 use Rattle.layout.specs.Bytes.{Decoded, refused, accepted, decode}
 use Rattle.flows.specs.Flow.{Right}
@@ -44,3 +45,8 @@ state-count (accepted M) = states-of M
 
 abbrev pub states-in : List ℕ → ℕ
 states-in bytes = state-count (decode bytes)
+
+-- the contract of `states_of`: r is how many states the table has, if the bytes are accepted
+pub record StatesCounted (bytes : List ℕ) (r : ℕ) : Type 0 where
+  pub right : (M : Table) → decode bytes ≡ accepted M → r ≡ states-of M
+  pub few : r ≤ most-states

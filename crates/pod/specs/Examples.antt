@@ -11,7 +11,7 @@ use Rattle.answer.specs.declared.answer.Answer.{Answer}
 
 -- P and C differ in the first weight; the codes of P are 0A and 14
 abbrev pub bytes : (code₁ code₂ weight : ℕ) → List ℕ
-bytes a c w = 2 ∷ a ∷ c ∷ 3 ∷ 1 ∷ 1 ∷ 0 ∷ 2 ∷ 0 ∷ 0x0A ∷ 2 ∷ 0x14 ∷ 1 ∷ 3 ∷ 0 ∷ 1 ∷ w ∷ 0 ∷ 2 ∷ 1 ∷ 0 ∷ 1 ∷ 1 ∷ 0 ∷ []
+bytes a c w = 2 ∷ 0 ∷ a ∷ 0 ∷ c ∷ 0 ∷ 3 ∷ 1 ∷ 1 ∷ 0 ∷ 2 ∷ 0 ∷ 0x0A ∷ 0 ∷ 2 ∷ 0x14 ∷ 0 ∷ 1 ∷ 3 ∷ 0 ∷ 1 ∷ w ∷ 0 ∷ 2 ∷ 1 ∷ 0 ∷ 1 ∷ 1 ∷ 0 ∷ []
 
 abbrev pub P : List ℕ
 P = bytes 0x0A 0x14 3
@@ -21,7 +21,7 @@ C = bytes 0x0A 0x14 1
 
 -- one state without transitions
 abbrev pub lone : List ℕ
-lone = 0 ∷ 1 ∷ 0 ∷ 0 ∷ 0 ∷ 0 ∷ 0 ∷ []
+lone = 0 ∷ 0 ∷ 1 ∷ 0 ∷ 0 ∷ 0 ∷ 0 ∷ 0 ∷ []
 
 -- a call for the pair (s, t), with buffers full of 7 of the given lengths
 pub record Row : Type 0 where
@@ -44,7 +44,7 @@ call f g s t a b c r l = record { first = f; second = g; s = s; t = t; buffers =
 
 -- a refusal that changes no buffer
 abbrev pub refuses : (first second : List ℕ) (number table : ℕ) → Row
-refuses f g n k = call f g 0 0 9 40 17 (refusal n k 0) (sevens 9 40 17)
+refuses f g n k = call f g 0 0 9 40 19 (refusal n k 0) (sevens 9 40 19)
 
 abbrev pub ranks-PC : List ℕ
 ranks-PC = 2 ∷ 1 ∷ 1 ∷ 1 ∷ 0 ∷ 1 ∷ 0 ∷ 0 ∷ 0 ∷ []
@@ -53,20 +53,20 @@ abbrev pub ranks-PP : List ℕ
 ranks-PP = 0 ∷ 1 ∷ 1 ∷ 1 ∷ 0 ∷ 1 ∷ 0 ∷ 0 ∷ 0 ∷ []
 
 abbrev pub tree-PC : List ℕ
-tree-PC = 0x01 ∷ 0x0A ∷ 0x02 ∷ 0x01 ∷ 0x03 ∷ 0x00 ∷ 0x01 ∷ 0x14 ∷ 0x01 ∷ 0x01 ∷ 0x01 ∷ 0x00 ∷ 0x00 ∷ 0x02 ∷ 0x01 ∷ 0x00 ∷ 0x00 ∷ []
+tree-PC = 0x01 ∷ 0x0A ∷ 0x00 ∷ 0x02 ∷ 0x01 ∷ 0x03 ∷ 0x00 ∷ 0x01 ∷ 0x14 ∷ 0x00 ∷ 0x01 ∷ 0x01 ∷ 0x01 ∷ 0x00 ∷ 0x00 ∷ 0x02 ∷ 0x01 ∷ 0x00 ∷ 0x00 ∷ []
 
 -- one transition of (0, 0), place 0, three records: (1, 1) 4, (2, 1) 2, (2, 2) 2
 abbrev pub flow-CP : List ℕ
 flow-CP = 1 ∷ 0 ∷ 3 ∷ 0 ∷ 1 ∷ 1 ∷ 4 ∷ 0 ∷ 0 ∷ 0 ∷ 2 ∷ 1 ∷ 2 ∷ 0 ∷ 0 ∷ 0 ∷ 2 ∷ 2 ∷ 2 ∷ 0 ∷ 0 ∷ 0 ∷ []
 
 abbrev pub tree-fits : Row
-tree-fits = call P C 0 0 9 0 17 (answered 2 4 0 2 17) (lent ranks-PC [] tree-PC)
+tree-fits = call P C 0 0 9 0 19 (answered 2 4 0 2 19) (lent ranks-PC [] tree-PC)
 
 abbrev pub tree-short : Row
-tree-short = call P C 0 0 9 0 16 (refusal 22 0 17) (lent ranks-PC [] (replicate 16 7))
+tree-short = call P C 0 0 9 0 18 (refusal 22 0 19) (lent ranks-PC [] (replicate 18 7))
 
 abbrev pub itself : Row
-itself = call P P 0 1 9 0 11 (answered 1 5 1 1 11) (lent ranks-PP [] (1 ∷ 10 ∷ 2 ∷ 1 ∷ 3 ∷ 0 ∷ 0 ∷ 2 ∷ 1 ∷ 0 ∷ 0 ∷ []))
+itself = call P P 0 1 9 0 12 (answered 1 5 1 1 12) (lent ranks-PP [] (1 ∷ 10 ∷ 0 ∷ 2 ∷ 1 ∷ 3 ∷ 0 ∷ 0 ∷ 2 ∷ 1 ∷ 0 ∷ 0 ∷ []))
 
 abbrev pub flow-fits : Row
 flow-fits = call C P 0 0 9 40 0 (answered 1 5 1 0 22) (lent ranks-PP (flow-CP ++ replicate 18 7) [])
@@ -81,7 +81,7 @@ abbrev pub no-bytes : Row
 no-bytes = refuses [] P 1 1
 
 abbrev pub cut-short : Row
-cut-short = refuses (take 23 P) P 1 1
+cut-short = refuses (take 28 P) P 1 1
 
 abbrev pub byte-more : Row
 byte-more = refuses (P ++ 0 ∷ []) P 2 1
@@ -90,7 +90,7 @@ abbrev pub codes-exchanged : Row
 codes-exchanged = refuses (bytes 0x14 0x0A 3) P 3 1
 
 abbrev pub second-cut-short : Row
-second-cut-short = refuses P (take 23 P) 1 2
+second-cut-short = refuses P (take 28 P) 1 2
 
 abbrev pub rows : List Row
 rows = tree-fits ∷ tree-short ∷ itself ∷ flow-fits ∷ flow-short ∷ one-state ∷ no-bytes ∷ cut-short ∷ byte-more ∷ codes-exchanged ∷ second-cut-short ∷ []

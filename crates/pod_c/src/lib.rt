@@ -4,7 +4,7 @@ ghost use Rattle.layout.specs.Bytes.{decode};
 ghost use Rattle.pod.specs.Check.{table-answer};
 ghost use Rattle.compare.specs.Outcome.{lent};
 ghost use Rattle.answer.specs.Numbers.{answer-into};
-ghost use Rattle.pod_c.specs.Numbers.{CheckedInto};
+ghost use Rattle.pod_c.specs.Numbers.{CheckedInto, WidenedInto};
 
 // Checks a lone table. An answer buffer of fewer than eight numbers gets nothing.
 #[no_mangle]
@@ -37,4 +37,15 @@ pub extern "C" fn pod_check(
         return;
     }
     answer::put(pod::check(first, second, s, t, ranks, flow, tree), answer);
+}
+
+// Widens a table of the old layout. An answer buffer of fewer than eight numbers gets nothing, and then nothing else is touched.
+#[no_mangle]
+pub extern "C" fn pod_widen(old: &[u8], out: &mut [u8], answer: &mut [u32])
+    ensures { λ _. ⌜ WidenedInto (now (old .entry)) (now (out .entry)) (now (out .exit)) (now (answer .entry)) (now (answer .exit)) ⌝ }
+{
+    if answer.len() < answer::FIELDS {
+        return;
+    }
+    answer::put(pod::widen(old, out), answer);
 }

@@ -11,17 +11,17 @@ use bytes;
 use libc::STDIN_FILENO;
 use libc::STDOUT_FILENO;
 use simulation::Table;
+use simulation::Width;
 
 // Two tables of at most 65,535 bytes, each after two bytes of length.
 const INPUT: usize = 2 * (2 + 65_535);
 
 // The most bytes of an accepted table: four sections, each after its count.
-const TABLE: usize = 1
-    + Table::CODES
+const TABLE: usize = Width::WIDE * (1 + Table::CODES)
     + 1
     + Table::STATES
     + 2
-    + 2 * Table::TRANSITIONS
+    + (Width::WIDE + 1) * Table::TRANSITIONS
     + 2
     + 3 * Table::ENTRIES;
 

@@ -1,24 +1,32 @@
 -- From the tables, the answer and the text for it to what is printed.
 -- Assumes nothing.
-use mathlib.Core.Path.{_≡_, refl, ap, ap₂, _∙_, subst, subst₂}
+use mathlib.Core.Path.{_≡_, refl, sym, ap, ap₂, _∙_, subst, subst₂}
 use mathlib.Core.List.{List}
 use mathlib.Core.Logic.{_≢_}
 use Prim.Native.Nat.{ℕ, _*_, _≤_}
 use native.Mathlib.Decide.{ℕ-discrete}
 use native.Mathlib.Omega.{arith}
 use lib.ListN.{length}
-use Rattle.simulation.specs.Limits.{most-states}
 use Rattle.answer.specs.declared.answer.Answer.{Answer}
 use Rattle.counting.specs.Count.{longest}
-use Rattle.compare.specs.Outcome.{lent, left}
-use Rattle.pod.specs.Check.{Checked, states-in}
-use Rattle.pod.specs.Demands.{Call}
+use Rattle.compare.specs.Outcome.{Buffers, lent, left}
+use Rattle.pod.specs.Check.{Checked, state-count, states-in, StatesCounted}
+use Rattle.pod.specs.Demands.{Call, first-refused, second-refused, both-accepted}
 use Rattle.pod.proofs.Enough.{call-of, of-both, ranks-enough, tree-enough}
 use Rattle.report.specs.Input.{first-of-input, second-of-input}
 use Rattle.report.specs.Text.{answer-text}
 use Rattle.buffer.specs.Buffer.{Filled}
 use Rattle.report.proofs.Bounds.{some-text}
 use Rattle.printout.specs.Printed.{Counted, Printed, Answered}
+
+-- only the text for two accepted tables shows how many states they have
+same-text : {first second : List ℕ} {b : Buffers} {p q number table : ℕ} → StatesCounted first p → StatesCounted second q → Call first second 0 0 b number table
+    → (written : ℕ) (ranks tree : List ℕ) → answer-text table number written p q ranks tree ≡ answer-text table number written (states-in first) (states-in second) ranks tree
+unfolding answer-text state-count
+same-text m n (first-refused e) written ranks tree = refl
+same-text m n (second-refused e f) written ranks tree = refl
+same-text {number = number} m n (both-accepted {M} {N} e f c) written ranks tree =
+    ap₂ (λ (p q : ℕ). answer-text 0 number written p q ranks tree) (m .right M e ∙ sym (ap state-count e)) (n .right N f ∙ sym (ap state-count f))
 
 module _ (input : List ℕ) {first second ranks₀ flow₀ tree₀ ranks flow tree : List ℕ} {a : Answer}
     (ef : first ≡ first-of-input input) (es : second ≡ second-of-input input)
@@ -44,9 +52,9 @@ module _ (input : List ℕ) {first second ranks₀ flow₀ tree₀ ranks flow tr
           answer = a;
           buffers = lent ranks flow tree;
           checked = checked;
-          ranks-fit = ranks-enough (omega (arith, ap₂ (λ (m n : ℕ). m * n) (sizes .first-states) (sizes .second-states))) (call-of checked);
+          ranks-fit = ranks-enough (sizes .first-states) (sizes .second-states) room (call-of checked);
           tree-fits = d;
-          text = subst₂ (λ (m n : ℕ). Filled (answer-text (a .table) (a .number) (a .written) m n ranks tree) written before after) (sizes .first-states) (sizes .second-states) over;
+          text = subst (λ (text : List ℕ). Filled text written before after) (same-text (sizes .first-states) (sizes .second-states) (call-of checked) (a .written) ranks tree) over;
         };
         short = λ z. absurd (omega (arith, over .count, some-text (a .table) (a .number) (a .written) p q ranks tree));
       }
@@ -61,6 +69,6 @@ always {input} {tree} {before} {after} {written} le h = go (ℕ-discrete written
 
 -- the tables of an input, counted
 pub counted : (input : List ℕ) {first second : List ℕ} {p q : ℕ} → first ≡ first-of-input input → second ≡ second-of-input input
-    → (p ≡ states-in first) × (p ≤ most-states) → (q ≡ states-in second) × (q ≤ most-states) → Counted input p q
-counted input ef es p q =
-    record { first-states = p .0 ∙ ap states-in ef; second-states = q .0 ∙ ap states-in es; first-few = p .1; second-few = q .1 }
+    → StatesCounted first p → StatesCounted second q → Counted input p q
+counted input {p = p} {q = q} ef es m n =
+    record { first-states = subst (λ (bytes : List ℕ). StatesCounted bytes p) ef m; second-states = subst (λ (bytes : List ℕ). StatesCounted bytes q) es n }

@@ -5,21 +5,18 @@ use mathlib.Core.List.{List}
 use mathlib.Core.Logic.{_≢_}
 use Prim.Native.Nat.{ℕ, _≤_}
 use lib.ListN.{length, take}
-use Rattle.simulation.specs.Limits.{most-states}
 use Rattle.answer.specs.declared.answer.Answer.{Answer}
 use Rattle.compare.specs.Outcome.{Buffers, lent, left}
-use Rattle.pod.specs.Check.{Checked, states-in}
+use Rattle.pod.specs.Check.{Checked, states-in, StatesCounted}
 use Rattle.pod.specs.Demands.{Call}
 use Rattle.report.specs.Input.{first-of-input, second-of-input}
 use Rattle.report.specs.Text.{answer-text}
 use Rattle.buffer.specs.Buffer.{Filled}
 
--- the tables in the input have p and q states
+-- the tables in the input, as far as they are accepted, have p and q states
 pub record Counted (input : List ℕ) (p q : ℕ) : Type 0 where
-  pub first-states : p ≡ states-in (first-of-input input)
-  pub second-states : q ≡ states-in (second-of-input input)
-  pub first-few : p ≤ most-states
-  pub second-few : q ≤ most-states
+  pub first-states : StatesCounted (first-of-input input) p
+  pub second-states : StatesCounted (second-of-input input) q
 
 -- the text for an answer and the ranks and tree that came with it
 abbrev pub text-of : List ℕ → Answer → Buffers → List ℕ

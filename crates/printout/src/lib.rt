@@ -13,8 +13,8 @@ const RANKS: usize = Table::PAIRS;
 
 const TREE: usize = Table::TREE_BYTES as usize;
 
-// The text for the two tables in the input, which have p and q states, at the start of `text`. Returns its length, 0 where the tree is
-// longer than `tree`. No flow is asked for: the text shows none.
+// The text for the two tables in the input, which have p and q states if they are accepted, at the start of `text`. Returns its length,
+// 0 where the tree is longer than `tree`. No flow is asked for: the text shows none.
 fn answer(
     input: &[u8],
     p: usize,

@@ -10,17 +10,17 @@ use Rattle.digits.specs.Digits.{digits, decimal}
 use Rattle.report.specs.Text.{pair-line, ranks-text, row-line, rows-text, summary-line, bytes-text, tree-line, tree-text, report-text, answer-text}
 
 unfoldable P : List ℕ
-P = 2 ∷ 10 ∷ 20 ∷ 3 ∷ 1 ∷ 1 ∷ 0 ∷ 2 ∷ 0 ∷ 10 ∷ 2 ∷ 20 ∷ 1 ∷ 3 ∷ 0 ∷ 1 ∷ 3 ∷ 0 ∷ 2 ∷ 1 ∷ 0 ∷ 1 ∷ 1 ∷ 0 ∷ []
+P = 2 ∷ 0 ∷ 10 ∷ 0 ∷ 20 ∷ 0 ∷ 3 ∷ 1 ∷ 1 ∷ 0 ∷ 2 ∷ 0 ∷ 10 ∷ 0 ∷ 2 ∷ 20 ∷ 0 ∷ 1 ∷ 3 ∷ 0 ∷ 1 ∷ 3 ∷ 0 ∷ 2 ∷ 1 ∷ 0 ∷ 1 ∷ 1 ∷ 0 ∷ []
 
 unfoldable C : List ℕ
-C = 2 ∷ 10 ∷ 20 ∷ 3 ∷ 1 ∷ 1 ∷ 0 ∷ 2 ∷ 0 ∷ 10 ∷ 2 ∷ 20 ∷ 1 ∷ 3 ∷ 0 ∷ 1 ∷ 1 ∷ 0 ∷ 2 ∷ 1 ∷ 0 ∷ 1 ∷ 1 ∷ 0 ∷ []
+C = 2 ∷ 0 ∷ 10 ∷ 0 ∷ 20 ∷ 0 ∷ 3 ∷ 1 ∷ 1 ∷ 0 ∷ 2 ∷ 0 ∷ 10 ∷ 0 ∷ 2 ∷ 20 ∷ 0 ∷ 1 ∷ 3 ∷ 0 ∷ 1 ∷ 1 ∷ 0 ∷ 2 ∷ 1 ∷ 0 ∷ 1 ∷ 1 ∷ 0 ∷ []
 
 -- two bytes of length before each table; what follows is ignored
-first-example : first-of-input ((24 ∷ 0 ∷ []) ++ P ++ (24 ∷ 0 ∷ []) ++ C ++ (7 ∷ [])) ≡ P
+first-example : first-of-input ((29 ∷ 0 ∷ []) ++ P ++ (29 ∷ 0 ∷ []) ++ C ++ (7 ∷ [])) ≡ P
 unfolding P C
 first-example = refl
 
-second-example : second-of-input ((24 ∷ 0 ∷ []) ++ P ++ (24 ∷ 0 ∷ []) ++ C ++ (7 ∷ [])) ≡ C
+second-example : second-of-input ((29 ∷ 0 ∷ []) ++ P ++ (29 ∷ 0 ∷ []) ++ C ++ (7 ∷ [])) ≡ C
 unfolding P C
 second-example = refl
 
@@ -44,7 +44,7 @@ ranks-PC : List ℕ
 ranks-PC = 2 ∷ 1 ∷ 1 ∷ 1 ∷ 0 ∷ 1 ∷ 0 ∷ 0 ∷ 0 ∷ []
 
 tree-PC : List ℕ
-tree-PC = 1 ∷ 10 ∷ 2 ∷ 1 ∷ 3 ∷ 0 ∷ 1 ∷ 20 ∷ 1 ∷ 1 ∷ 1 ∷ 0 ∷ 0 ∷ 2 ∷ 1 ∷ 0 ∷ 0 ∷ []
+tree-PC = 1 ∷ 10 ∷ 0 ∷ 2 ∷ 1 ∷ 3 ∷ 0 ∷ 1 ∷ 20 ∷ 0 ∷ 1 ∷ 1 ∷ 1 ∷ 0 ∷ 0 ∷ 2 ∷ 1 ∷ 0 ∷ 0 ∷ []
 
 lines-PC : List ℕ
 lines-PC =
@@ -56,9 +56,9 @@ lines-PC =
 
 tree-line-PC : List ℕ
 tree-line-PC =
-    (116 ∷ 114 ∷ 101 ∷ 101 ∷ 32 ∷ 48 ∷ 49 ∷ 32 ∷ 48 ∷ 97 ∷ 32 ∷ 48 ∷ 50 ∷ 32 ∷ 48 ∷ 49 ∷ 32 ∷ 48 ∷ 51 ∷ 32 ∷ 48 ∷ 48 ∷ 32 ∷ 48 ∷ 49 ∷ 32 ∷ 49 ∷ 52 ∷ 32 ∷ 48 ∷ 49 ∷ 32 ∷ 48 ∷ 49 ∷ 32 ∷ 48 ∷ 49 ∷ 32 ∷ 48 ∷ 48 ∷ 32 ∷ 48 ∷ 48 ∷ 32 ∷ 48 ∷ 50 ∷ 32 ∷ 48 ∷ 49 ∷ 32 ∷ 48 ∷ 48 ∷ 32 ∷ 48 ∷ 48 ∷ 10 ∷ [])  -- tree 01 0a 02 01 03 00 01 14 01 01 01 00 00 02 01 00 00
+    (116 ∷ 114 ∷ 101 ∷ 101 ∷ 32 ∷ 48 ∷ 49 ∷ 32 ∷ 48 ∷ 97 ∷ 32 ∷ 48 ∷ 48 ∷ 32 ∷ 48 ∷ 50 ∷ 32 ∷ 48 ∷ 49 ∷ 32 ∷ 48 ∷ 51 ∷ 32 ∷ 48 ∷ 48 ∷ 32 ∷ 48 ∷ 49 ∷ 32 ∷ 49 ∷ 52 ∷ 32 ∷ 48 ∷ 48 ∷ 32 ∷ 48 ∷ 49 ∷ 32 ∷ 48 ∷ 49 ∷ 32 ∷ 48 ∷ 49 ∷ 32 ∷ 48 ∷ 48 ∷ 32 ∷ 48 ∷ 48 ∷ 32 ∷ 48 ∷ 50 ∷ 32 ∷ 48 ∷ 49 ∷ 32 ∷ 48 ∷ 48 ∷ 32 ∷ 48 ∷ 48 ∷ 10 ∷ [])  -- tree 01 0a 00 02 01 03 00 01 14 00 01 01 01 00 00 02 01 00 00
 
-PC-example : answer-text 0 0 17 3 3 (ranks-PC ++ (7 ∷ [])) (tree-PC ++ (7 ∷ [])) ≡ lines-PC ++ tree-line-PC
+PC-example : answer-text 0 0 19 3 3 (ranks-PC ++ (7 ∷ [])) (tree-PC ++ (7 ∷ [])) ≡ lines-PC ++ tree-line-PC
 unfolding ranks-PC tree-PC lines-PC tree-line-PC maximum zeros pieces digits decimal pair-line ranks-text row-line rows-text summary-line bytes-text tree-line tree-text report-text answer-text
 PC-example = refl
 
@@ -77,6 +77,6 @@ lines-yes =
     ++ (114 ∷ 111 ∷ 119 ∷ 32 ∷ 48 ∷ 32 ∷ 48 ∷ 32 ∷ 49 ∷ 10 ∷ [])  -- row 0 0 1
     ++ (114 ∷ 111 ∷ 117 ∷ 110 ∷ 100 ∷ 115 ∷ 32 ∷ 49 ∷ 32 ∷ 107 ∷ 101 ∷ 112 ∷ 116 ∷ 32 ∷ 49 ∷ 32 ∷ 118 ∷ 101 ∷ 114 ∷ 100 ∷ 105 ∷ 99 ∷ 116 ∷ 32 ∷ 121 ∷ 101 ∷ 115 ∷ 10 ∷ [])  -- rounds 1 kept 1 verdict yes
 
-yes-example : answer-text 0 0 17 1 2 (0 ∷ 1 ∷ []) tree-PC ≡ lines-yes
+yes-example : answer-text 0 0 19 1 2 (0 ∷ 1 ∷ []) tree-PC ≡ lines-yes
 unfolding lines-yes maximum zeros pieces digits decimal pair-line ranks-text row-line rows-text summary-line bytes-text tree-line tree-text report-text answer-text
 yes-example = refl

@@ -56,11 +56,11 @@ together = refl
 
 -- trees
 
-pc-tree : node-bytes (tree P C 0 0) ≡ 1 ∷ 10 ∷ 2 ∷ 1 ∷ 3 ∷ 0 ∷ 1 ∷ 20 ∷ 1 ∷ 1 ∷ 1 ∷ 0 ∷ 0 ∷ 2 ∷ 1 ∷ 0 ∷ 0 ∷ []
+pc-tree : node-bytes (tree P C 0 0) ≡ 1 ∷ 10 ∷ 0 ∷ 2 ∷ 1 ∷ 3 ∷ 0 ∷ 1 ∷ 20 ∷ 0 ∷ 1 ∷ 1 ∷ 1 ∷ 0 ∷ 0 ∷ 2 ∷ 1 ∷ 0 ∷ 0 ∷ []
 unfolding node-bytes tree
 pc-tree = refl
 
-pc-length : tree-length P C 0 0 ≡ 17
+pc-length : tree-length P C 0 0 ≡ 19
 unfolding pair-length
 pc-length = refl
 
@@ -71,7 +71,7 @@ pod = record { codes = 10 ∷ 20 ∷ 30 ∷ []; states = (fork 1 ∷ []) ∷ (st
 abbrev pub contract : Table
 contract = record { codes = 10 ∷ 20 ∷ 30 ∷ []; states = (stay 10 1 ∷ fork 1 ∷ []) ∷ (stay 20 1 ∷ []) ∷ [] ∷ [] }
 
-both-beaten : node-bytes (tree pod contract 0 0) ≡ 1 ∷ 10 ∷ 2 ∷ 1 ∷ 1 ∷ 0 ∷ 0 ∷ 2 ∷ 1 ∷ 0 ∷ 2 ∷ 30 ∷ 1 ∷ 2 ∷ 1 ∷ 0 ∷ 0 ∷ 30 ∷ 1 ∷ 2 ∷ 1 ∷ 0 ∷ 0 ∷ []
+both-beaten : node-bytes (tree pod contract 0 0) ≡ 1 ∷ 10 ∷ 0 ∷ 2 ∷ 1 ∷ 1 ∷ 0 ∷ 0 ∷ 2 ∷ 1 ∷ 0 ∷ 2 ∷ 30 ∷ 0 ∷ 1 ∷ 2 ∷ 1 ∷ 0 ∷ 0 ∷ 30 ∷ 0 ∷ 1 ∷ 2 ∷ 1 ∷ 0 ∷ 0 ∷ []
 unfolding node-bytes tree
 both-beaten = refl
 
@@ -83,18 +83,18 @@ two-deep = refl
 abbrev pub returning : ℕ → Table
 returning w = record { codes = 10 ∷ 20 ∷ []; states = (on 10 (entry 0 1 ∷ entry 1 w ∷ []) ∷ []) ∷ (stay 20 1 ∷ []) ∷ [] }
 
-round-before : node-bytes (tree (returning 3) (returning 1) 0 0) ≡ 1 ∷ 10 ∷ 2 ∷ 0 ∷ 1 ∷ 0 ∷ 0 ∷ 1 ∷ 3 ∷ 0 ∷ 1 ∷ 20 ∷ 1 ∷ 1 ∷ 1 ∷ 0 ∷ 0 ∷ []
+round-before : node-bytes (tree (returning 3) (returning 1) 0 0) ≡ 1 ∷ 10 ∷ 0 ∷ 2 ∷ 0 ∷ 1 ∷ 0 ∷ 0 ∷ 1 ∷ 3 ∷ 0 ∷ 1 ∷ 20 ∷ 0 ∷ 1 ∷ 1 ∷ 1 ∷ 0 ∷ 0 ∷ []
 unfolding node-bytes tree
 round-before = refl
 
--- two transitions that the contract has no answer to: the first is chosen
+-- two transitions that the contract has no answer to: the first is chosen, whose code needs both its bytes
 abbrev pub two-ways : Table
-two-ways = record { codes = 10 ∷ 20 ∷ []; states = (stay 10 0 ∷ stay 20 0 ∷ []) ∷ [] }
+two-ways = record { codes = 20 ∷ 522 ∷ []; states = (stay 522 0 ∷ stay 20 0 ∷ []) ∷ [] }
 
 abbrev pub no-way : Table
 no-way = record { codes = []; states = [] ∷ [] }
 
-first-chosen : node-bytes (tree two-ways no-way 0 0) ≡ 1 ∷ 10 ∷ 1 ∷ 0 ∷ 1 ∷ 0 ∷ 0 ∷ []
+first-chosen : node-bytes (tree two-ways no-way 0 0) ≡ 1 ∷ 10 ∷ 2 ∷ 1 ∷ 0 ∷ 1 ∷ 0 ∷ 0 ∷ []
 unfolding node-bytes tree
 first-chosen = refl
 

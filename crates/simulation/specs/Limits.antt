@@ -2,8 +2,15 @@
 -- Assumes nothing.
 use Prim.Native.Nat.{ℕ, _*_}
 
+-- the bytes of a code in the old layout and in the wide one
+abbrev pub narrow : ℕ
+narrow = 1
+
+abbrev pub wide : ℕ
+wide = 2
+
 abbrev pub most-codes : ℕ
-most-codes = 255
+most-codes = 1024
 
 abbrev pub most-states : ℕ
 most-states = 128

@@ -6,7 +6,7 @@ use lib.ListN.{length}
 use Rattle.simulation.specs.Sum.{concat}
 use Rattle.simulation.specs.Table.{Table, states-of}
 use Rattle.form.specs.Items.{all-transitions, all-entries}
-use Rattle.layout.specs.Bytes.{Decoded, refused, accepted, decode, _then_, actions, states-at, states, transitions-at, transitions, entries-at, entries, end, actions-refusal, states-refusal, transitions-refusal, entries-refusal}
+use Rattle.layout.specs.Bytes.{Decoded, refused, accepted, decode-as, _then_, actions, states-at, states, transitions-at, transitions, entries-at, entries, end, actions-refusal, states-refusal, transitions-refusal, entries-refusal}
 use Rattle.table.specs.declared.parts.Layout.{Layout}
 use Rattle.table.specs.declared.parts.Stage.{Stage}
 use Rattle.table.specs.declared.parts.Stage.the-variants.{Refused, At}
@@ -34,36 +34,36 @@ abbrev pub stage : ℕ → Layout → ℕ → Stage
 stage zero t a = At t (record { at = a })
 stage (suc k) t a = Refused (suc k)
 
-module _ (s : List ℕ) where
+module _ (w : ℕ) (s : List ℕ) where
   abbrev pub actions-read : Layout
-  actions-read = with-actions (actions s) unread
+  actions-read = with-actions (actions w s) unread
 
   abbrev pub states-read : Layout
-  states-read = with-states (states s) (states-at s + 1) actions-read
+  states-read = with-states (states w s) (states-at w s + 1) actions-read
 
   abbrev pub transitions-read : Layout
-  transitions-read = with-transitions (transitions s) (transitions-at s + 2) states-read
+  transitions-read = with-transitions (transitions w s) (transitions-at w s + 2) states-read
 
   abbrev pub layout : Layout
-  layout = with-entries (entries s) (entries-at s + 2) transitions-read
+  layout = with-entries (entries w s) (entries-at w s + 2) transitions-read
 
   abbrev pub after-actions : Stage
-  after-actions = stage (actions-refusal s) actions-read (states-at s)
+  after-actions = stage (actions-refusal w s) actions-read (states-at w s)
 
   abbrev pub after-states : Stage
-  after-states = stage (actions-refusal s then states-refusal s) states-read (transitions-at s)
+  after-states = stage (actions-refusal w s then states-refusal w s) states-read (transitions-at w s)
 
   abbrev pub after-transitions : Stage
-  after-transitions = stage (actions-refusal s then states-refusal s then transitions-refusal s) transitions-read (entries-at s)
+  after-transitions = stage (actions-refusal w s then states-refusal w s then transitions-refusal w s) transitions-read (entries-at w s)
 
   abbrev pub after-entries : Stage
-  after-entries = stage (actions-refusal s then states-refusal s then transitions-refusal s then entries-refusal s) layout (end s)
+  after-entries = stage (actions-refusal w s then states-refusal w s then transitions-refusal w s then entries-refusal w s) layout (end w s)
 
 -- where the parts of a table lie in its bytes
-unfoldable pub layout-of : Table → Layout
+unfoldable pub layout-of : ℕ → Table → Layout
 unfolding concat
-layout-of M =
-    let counts : ℕ = 2 + length (M .codes) in
+layout-of w M =
+    let counts : ℕ = w + w * length (M .codes) + 1 in
     let transitions : ℕ = counts + states-of M + 2 in
     record {
       actions = length (M .codes);
@@ -72,13 +72,13 @@ layout-of M =
       entries = length (all-entries M);
       «counts_at» = counts;
       «transitions_at» = transitions;
-      «entries_at» = transitions + 2 * length (all-transitions M) + 2;
+      «entries_at» = transitions + (w + 1) * length (all-transitions M) + 2;
     }
 
 -- the refusal's number, or where the parts of the table lie
-abbrev pub answer-of : Decoded → TableAnswer
-answer-of (refused k) = Refusal k
-answer-of (accepted t) = Accepted (layout-of t)
+abbrev pub answer-of : ℕ → Decoded → TableAnswer
+answer-of w (refused k) = Refusal k
+answer-of w (accepted t) = Accepted (layout-of w t)
 
-abbrev pub answer : List ℕ → TableAnswer
-answer s = answer-of (decode s)
+abbrev pub answer : ℕ → List ℕ → TableAnswer
+answer w s = answer-of w (decode-as w s)

@@ -11,6 +11,7 @@ use items::items::transitions_refusal;
 use simulation::Table;
 ghost use mathlib.Core.Path.{_≡_};
 ghost use Prim.Native.Nat.{_≤_, _<_};
+ghost use Rattle.layout.specs.Bytes.{CodeWidth};
 ghost use Rattle.table.specs.Answers.{items-read};
 ghost use Rattle.table.specs.Stages.{after-actions, after-states, after-transitions, after-entries, answer};
 
@@ -40,17 +41,21 @@ fn counted(s: &[u8], c: Cursor, limit: usize, total: usize, number: u8, width: u
     Items::At(n, at, c)
 }
 
-// Section 1: the action codes.
-pub fn actions(s: &[u8]) -> Stage
-    ensures { λ r. ⌜ r ≡ after-actions (now (s .entry)) ⌝ }
+// Section 1: the action codes, of width bytes each, as is their count.
+pub fn actions(s: &[u8], width: usize) -> Stage
+    requires { ⌜ CodeWidth width ⌝ }
+    ensures { λ r. ⌜ r ≡ after-actions width (now (s .entry)) ⌝ }
 {
-    let Read::Value(n, c) = Cursor::new().byte(s) else {
+    let Read::Value(n, c) = Cursor::new().field(s, width) else {
         return Stage::Refused(1);
     };
-    let Read::Value(_, c) = c.part(s, n) else {
+    if Table::CODES < n {
+        return Stage::Refused(3);
+    }
+    let Read::Value(_, c) = c.part(s, width * n) else {
         return Stage::Refused(1);
     };
-    let refusal = codes_refusal(s, n);
+    let refusal = codes_refusal(s, width, n);
     if refusal != 0 {
         return Stage::Refused(refusal);
     }
@@ -60,9 +65,9 @@ pub fn actions(s: &[u8]) -> Stage
 }
 
 // Section 2: how many transitions each state has.
-pub fn states(s: &[u8], stage: Stage) -> Stage
-    requires { ⌜ stage ≡ after-actions (now s) ⌝ }
-    ensures { λ r. ⌜ r ≡ after-states (now (s .entry)) ⌝ }
+pub fn states(s: &[u8], width: usize, stage: Stage) -> Stage
+    requires { ⌜ stage ≡ after-actions width (now s) ⌝ }
+    ensures { λ r. ⌜ r ≡ after-states width (now (s .entry)) ⌝ }
 {
     let Stage::At(t, c) = stage else {
         return stage;
@@ -86,19 +91,19 @@ pub fn states(s: &[u8], stage: Stage) -> Stage
 }
 
 // Section 3: the transitions.
-pub fn transitions(s: &[u8], stage: Stage) -> Stage
-    requires { ⌜ stage ≡ after-states (now s) ⌝ }
-    ensures { λ r. ⌜ r ≡ after-transitions (now (s .entry)) ⌝ }
+pub fn transitions(s: &[u8], width: usize, stage: Stage) -> Stage
+    requires { ⌜ CodeWidth width × (stage ≡ after-states width (now s)) ⌝ }
+    ensures { λ r. ⌜ r ≡ after-transitions width (now (s .entry)) ⌝ }
 {
     let Stage::At(t, c) = stage else {
         return stage;
     };
     let total = sum_of(s, t.counts_at, 1, t.states);
-    let items = counted(s, c, Table::TRANSITIONS, total, 5, 2);
+    let items = counted(s, c, Table::TRANSITIONS, total, 5, width + 1);
     match items {
         Items::Refused(number) => Stage::Refused(number),
         Items::At(m, at, c) => {
-            let refusal = transitions_refusal(s, t.actions, at, m);
+            let refusal = transitions_refusal(s, width, t.actions, at, m);
             if refusal != 0 {
                 return Stage::Refused(refusal);
             }
@@ -111,20 +116,20 @@ pub fn transitions(s: &[u8], stage: Stage) -> Stage
 }
 
 // Section 4: the entries.
-pub fn entries(s: &[u8], stage: Stage) -> Stage
-    requires { ⌜ stage ≡ after-transitions (now s) ⌝ }
-    ensures { λ r. ⌜ r ≡ after-entries (now (s .entry)) ⌝ }
+pub fn entries(s: &[u8], width: usize, stage: Stage) -> Stage
+    requires { ⌜ CodeWidth width × (stage ≡ after-transitions width (now s)) ⌝ }
+    ensures { λ r. ⌜ r ≡ after-entries width (now (s .entry)) ⌝ }
 {
     let Stage::At(t, c) = stage else {
         return stage;
     };
-    let sizes = t.transitions_at + 1;
-    let total = sum_of(s, sizes, 2, t.transitions);
+    let sizes = t.transitions_at + width;
+    let total = sum_of(s, sizes, width + 1, t.transitions);
     let items = counted(s, c, Table::ENTRIES, total, 7, 3);
     match items {
         Items::Refused(number) => Stage::Refused(number),
         Items::At(n, at, c) => {
-            let refusal = entries_refusal(s, t.states, sizes, t.transitions, at);
+            let refusal = entries_refusal(s, width, t.states, sizes, t.transitions, at);
             if refusal != 0 {
                 return Stage::Refused(refusal);
             }
@@ -137,9 +142,9 @@ pub fn entries(s: &[u8], stage: Stage) -> Stage
 }
 
 // Nothing may follow section 4.
-pub fn end(s: &[u8], stage: Stage) -> TableAnswer
-    requires { ⌜ stage ≡ after-entries (now s) ⌝ }
-    ensures { λ r. ⌜ r ≡ answer (now (s .entry)) ⌝ }
+pub fn end(s: &[u8], width: usize, stage: Stage) -> TableAnswer
+    requires { ⌜ stage ≡ after-entries width (now s) ⌝ }
+    ensures { λ r. ⌜ r ≡ answer width (now (s .entry)) ⌝ }
 {
     match stage {
         Stage::Refused(number) => TableAnswer::Refused(number),

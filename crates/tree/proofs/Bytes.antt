@@ -21,7 +21,7 @@ use Rattle.simulation.proofs.Finite.Sums.{sum-ext, sum-zero, members}
 use Rattle.simulation.proofs.Finite.Tests.{is-false}
 use Rattle.simulation.proofs.Trees.Nodes.{kids, kids-weights, steps-in, steps-out, node-count, targets-of}
 use Rattle.word.specs.Mask.{Lowest, without-member}
-use Rattle.tree.specs.Begin.{entry-bytes}
+use Rattle.tree.specs.Begin.{transition-head, head-bytes, entry-bytes}
 
 abbrev pub weights-of : List Entry → ℕ → ℕ
 weights-of es i = getD (map (λ (e : Entry). e .weight) es) i 0
@@ -93,7 +93,7 @@ module _ (M N : Table) (sub : ℕ → States → Tree) (s : ℕ) where
   step-first : (t : ℕ) (τ : Tree) → transition-bytes (before t τ) ≡ transition-bytes (own-step M N sub s t leaf) ++ transition-bytes τ
   unfolding own-step transition-bytes
   step-first t τ =
-      ap (λ l. chosen M N s t .code ∷ length (child-weights (kids M N sub s t)) ∷ l ++ transition-bytes τ)
+      ap (λ l. transition-head (chosen M N s t .code) (length (child-weights (kids M N sub s t))) ++ (l ++ transition-bytes τ))
       (sym (append-nil (child-bytes (kids M N sub s t))))
 
   -- the bytes of the transitions of a set: those of its lowest member's, then those of the others'
@@ -136,12 +136,12 @@ module _ (M N : Table) (sub : ℕ → States → Tree) (s t : ℕ) where
   kids-length : length (child-weights (kids M N sub s t)) ≡ length (chosen M N s t .entries)
   kids-length = ap length (kids-weights M N sub s t) ∙ length-map (chosen M N s t .entries) (λ (e : Entry). e .weight)
 
-  -- the bytes of a transition: its code, the number of its children, and they
+  -- the bytes of a transition: its head and its children
   pub step-is : transition-bytes (own-step M N sub s t leaf)
-      ≡ chosen M N s t .code ∷ length (chosen M N s t .entries) ∷ children-from sub (set-of M N s t) 0 (chosen M N s t .entries)
+      ≡ head-bytes (chosen M N s t) ++ children-from sub (set-of M N s t) 0 (chosen M N s t .entries)
   unfolding own-step transition-bytes
   step-is =
-      ap₂ (λ (w : ℕ) (l : List ℕ). chosen M N s t .code ∷ w ∷ l) kids-length (append-nil (child-bytes (kids M N sub s t)))
+      ap₂ (λ (w : ℕ) (l : List ℕ). transition-head (chosen M N s t .code) w ++ l) kids-length (append-nil (child-bytes (kids M N sub s t)))
 
 module _ (M N : Table) (s : ℕ) (X : States) where
   -- the transitions of a node's set

@@ -14,7 +14,7 @@ use Rattle.simulation.specs.Sum.{sum, when}
 use Rattle.simulation.specs.Table.{target-at, states-of}
 use Rattle.simulation.specs.Round.{pairs}
 use Rattle.simulation.specs.Tree.{chosen, set-of, own-node}
-use Rattle.simulation.specs.Length.{one-length, pair-length}
+use Rattle.simulation.specs.Length.{head-length, one-length, pair-length}
 use Rattle.simulation.proofs.Finite.Sums.{sum-one, sum-add, sum-mul, members-most}
 use Rattle.simulation.proofs.Simulation.Ranks.{rank-law}
 use Rattle.simulation.proofs.Trees.Length.{pair-length-step}
@@ -59,8 +59,8 @@ module _ {tables ranks choices lengths amounts : List ℕ} (g : WriteGiven table
       let low = lost-low pair-lost (g .ranked .loaded) in
       (g .ranked .loaded, low .0, low .1, lt-of-lt-of-le (lost-place pair-lost) (g .enough))
 
-  -- a pair takes two bytes, and four at least for each child
-  pub pair-long : 2 + 4 * length (chosen (first-table tables) (second-table tables) s t .entries) ≤ length (step-of tables s t)
+  -- a pair takes its head, and four bytes at least for each child
+  pub pair-long : head-length + 4 * length (chosen (first-table tables) (second-table tables) s t .entries) ≤ length (step-of tables s t)
   unfolding one-length
   pair-long =
       let M = first-table tables in

@@ -12,6 +12,7 @@ use Rattle.simulation.specs.Limits.{most-states}
 use Rattle.simulation.specs.Table.{Transition, Table, weights, target-at, states-of, transition}
 use Rattle.simulation.specs.Round.{pairs, rank}
 use Rattle.simulation.specs.Tree.{chosen, set-of, own-node, node-bytes}
+use Rattle.simulation.specs.Length.{head-length}
 use Rattle.simulation.proofs.Finite.Sums.{sum-ext, when-same}
 use Rattle.simulation.proofs.Simulation.Ranks.{rank-law}
 use Rattle.simulation.proofs.Trees.Choice.{RanksUpTo, chosen-law, chosen-target}
@@ -52,7 +53,7 @@ half-deep (suc l) limit some d =
     subst (λ (k : ℕ). limit / 2 < 2 ^ k) e (omega (arith, pow-suc 2 l))
 
 -- a transition leaves the words for the calls below it
-words-next : (levels limit n : ℕ) → n ≤ most-states → 2 + 4 * n ≤ limit → limit < 2 ^ levels → words * n + words-for (levels - 1) ≤ words-for levels
+words-next : (levels limit n : ℕ) → n ≤ most-states → head-length + 4 * n ≤ limit → limit < 2 ^ levels → words * n + words-for (levels - 1) ≤ words-for levels
 unfolding words-for
 words-next zero limit n few long d = absurd (omega (arith, pow-zero 2))
 words-next (suc l) limit n few long d =
@@ -88,7 +89,7 @@ module _ (tables : List ℕ) where
     pub sets : SetsChosen tables (step .s) (step .t) stack
     pub place : At (step-of tables (step .s) (step .t)) at (children-left step i)
     pub ends : at + length (children-left step i) ≡ length (step-of tables (step .s) (step .t))
-    pub stands : PartLoop tables choices lengths (step-of tables (step .s) (step .t)) (step .limit / 2) 2 at rest buf
+    pub stands : PartLoop tables choices lengths (step-of tables (step .s) (step .t)) (step .limit / 2) head-length at rest buf
 
 module _ {tables ranks choices lengths : List ℕ} {step : Step} {amounts stack buf : List ℕ} (g : StepGiven tables ranks choices lengths step amounts stack buf) where
   step-parts : step-of tables (step .s) (step .t) ≡ head-bytes (chosen-of tables step) ++ children-left tables step 0
@@ -120,8 +121,8 @@ module _ {tables ranks choices lengths : List ℕ} {step : Step} {amounts stack 
       }
 
   module _ (short : length buf ≤ step .limit) where
-    -- the limit has room for two bytes, and four for each child
-    pub step-long : 2 + 4 * length (chosen-of tables step .entries) ≤ step .limit
+    -- the limit has room for the head, and four bytes for each child
+    pub step-long : head-length + 4 * length (chosen-of tables step .entries) ≤ step .limit
     step-long = omega (arith, pair-long (g .given) (g .measured), g .size)
 
     -- past the sets of the n children the stack has the words for the calls below
@@ -140,7 +141,7 @@ module _ {tables ranks choices lengths : List ℕ} {step : Step} {amounts stack 
     -- the head is written, and the sets are on the stack
     pub around-begins : {j : ℕ} {amounts₁ stack₁ buf₁ : List ℕ} → TransitionBegun tables (step .s) (step .t) j stack₁ buf buf₁ → (n : ℕ) → n ≡ length (first-step tables j .entries)
         → LengthsKept amounts stack buf amounts₁ stack₁ buf₁ → length buf < 2 ^ 64 → {rest : Rest} → rest ≡ nothing (step .s) (step .t)
-        → AroundLoop tables ranks choices lengths step j n amounts₁ stack₁ buf₁ amounts₁ stack₁ buf₁ rest 2 0
+        → AroundLoop tables ranks choices lengths step j n amounts₁ stack₁ buf₁ amounts₁ stack₁ buf₁ rest head-length 0
     around-begins b n en k small none =
         let head = head-bytes (chosen-of tables step) in
         let children = children-left tables step 0 in
@@ -152,7 +153,7 @@ module _ {tables ranks choices lengths : List ℕ} {step : Step} {amounts stack 
           place = at-back head children (at-is step-parts (at-self (step-of tables (step .s) (step .t))));
           ends = omega (arith, ap length step-parts);
           stands = stand-begins (step .s) (step .t) none (λ k lt. ap (λ (l : List ℕ). getD l k 0) (b .head)
-              ∙ List·getD-append head (drop 2 buf) 0 k lt
+              ∙ List·getD-append head (drop head-length buf) 0 k lt
               ∙ sym (ap (λ (l : List ℕ). getD l k 0) step-parts ∙ List·getD-append head children 0 k lt));
         }
 
@@ -244,7 +245,7 @@ module _ {tables ranks choices lengths : List ℕ} {step : Step} {j n : ℕ} {am
     buf′ = placed at (at + 3) buf ys
 
     -- the child's entry is in place
-    entry-stands : PartLoop tables choices lengths total (step .limit / 2) 2 (at + 3) rest buf′
+    entry-stands : PartLoop tables choices lengths total (step .limit / 2) head-length (at + 3) rest buf′
     entry-stands =
         stand-whole (l .stands) (entry-slot (child .more)) ys (child .same)
         (λ k b. ap (λ (z : List ℕ). getD z k 0) (child .put)

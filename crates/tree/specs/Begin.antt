@@ -7,15 +7,20 @@ use lib.ListN.{length, getD}
 use Rattle.simulation.specs.Limits.{most-pairs, most-states}
 use Rattle.simulation.specs.Table.{Transition, states-of}
 use Rattle.simulation.specs.Tree.{chosen}
+use Rattle.simulation.specs.Length.{head-length}
 use Rattle.form.specs.Tables.{first-table, second-table}
 use Rattle.relation.specs.Rows.{height}
 use Rattle.buffer.specs.Buffer.{over}
 use Rattle.relate.specs.Ranked.{RanksRight}
 use Rattle.choice.specs.Choice.{Lost, Choice, SetsChosen}
 
--- the code and the number of children of a transition
+-- a code and a number of children
+abbrev pub transition-head : ℕ → ℕ → List ℕ
+transition-head a n = a % 256 ∷ a / 256 ∷ n ∷ []
+
+-- those of a transition
 abbrev pub head-bytes : Transition → List ℕ
-head-bytes m = m .code ∷ length (m .entries) ∷ []
+head-bytes m = transition-head (m .code) (length (m .entries))
 
 -- the state and the weight of a child
 abbrev pub entry-bytes : ℕ → ℕ → List ℕ
@@ -29,7 +34,7 @@ pub record BeginGiven (tables ranks choices : List ℕ) (s t : ℕ) (amounts sta
   pub choice : Choice tables s t (getD choices (s * states-of (second-table tables) + t) 0)
   pub amounts-room : most-pairs ≤ length amounts
   pub words : 2 * most-states ≤ height stack
-  pub room : 2 ≤ length buf
+  pub room : head-length ≤ length buf
 
 -- the transition j of the pair is begun
 pub record TransitionBegun (tables : List ℕ) (s t j : ℕ) (stack old new : List ℕ) : Type 0 where

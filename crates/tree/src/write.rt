@@ -2,6 +2,7 @@
 // order, so that a call is made for parts of at most half the length only, and a longer part is left for a loop: the depth of calls is the
 // logarithm of the length.
 use choice::find_sets;
+use counting::count::HEAD;
 use counting::count::LONGEST;
 use counting::pair::number;
 use form::Form;
@@ -18,6 +19,7 @@ ghost use Prim.Native.Nat.{_+_, _/_, _^_, _≤_, _<_};
 ghost use lib.ListN.{length, getD};
 ghost use Rattle.simulation.specs.Table.{weights, target-at};
 ghost use Rattle.simulation.specs.Tree.{tree, node-bytes};
+ghost use Rattle.simulation.specs.Length.{head-length};
 ghost use Rattle.form.specs.Form.{transitions-of};
 ghost use Rattle.form.specs.Tables.{first-form, first-table, second-table, first-step, BothLoaded};
 ghost use Rattle.buffer.specs.Buffer.{over, Filled};
@@ -52,13 +54,15 @@ pub struct Node {
     pub half: usize,
 }
 
-// The code of the transition j and the number of its targets.
+// The code of the transition j, low byte first, and the number of its targets.
 fn put_head(tables: &[u16], j: usize, buf: &mut [u8])
-    requires { ⌜ BothLoaded (now tables) × (j < transitions-of (first-form (now tables))) × (2 ≤ length (now buf)) ⌝ }
+    requires { ⌜ BothLoaded (now tables) × (j < transitions-of (first-form (now tables))) × (head-length ≤ length (now buf)) ⌝ }
     ensures { λ _. ⌜ now (buf .exit) ≡ over (head-bytes (first-step (now (tables .entry)) j)) (now (buf .entry)) ⌝ }
 {
-    buf[0] = tables::code(tables, Form::FIRST, j) as u8;
-    buf[1] = tables::targets(tables, Form::FIRST, j).len() as u8;
+    let code = tables::code(tables, Form::FIRST, j);
+    buf[0] = (code % 256) as u8;
+    buf[1] = (code / 256) as u8;
+    buf[2] = tables::targets(tables, Form::FIRST, j).len() as u8;
 }
 
 // The target and the weight at place i of the transition j; the target is returned.
@@ -190,7 +194,7 @@ fn write_around(
     let j = begin_transition(tables, ranks, choices, step.s, step.t, amounts, stack, buf);
     let n = tables::targets(tables, Form::FIRST, j).len();
     let mut rest = nothing(step.s, step.t);
-    let mut at = 2;
+    let mut at = HEAD;
     for i in 0..n {
         let start = at + 3;
         let target = put_entry(tables, j, i, &mut buf[at..start]);

@@ -19,7 +19,7 @@ fill-requires : tie.Need-fill-requires
 fill-requires c κs =
     let a = c .before .before in
     let r = a .before .before in
-    let told = accepted-told _ (r .read .ensures) (a .answer2 .given .1) in
+    let told = accepted-told _ _ (r .read .ensures) (a .answer2 .given .1) in
     (told .passed, told .laid, r .before .before .before .pre)
 
 returns : tie.Need-returns
@@ -32,7 +32,7 @@ returns-2 : tie.Need-returns-2
 returns-2 c =
     let d = c .before .before in
     let a = d .before .before .before in
-    let told = accepted-told _ (a .before .before .read .ensures) (a .answer2 .given .1) in
+    let told = accepted-told _ _ (a .before .before .read .ensures) (a .answer2 .given .1) in
     read-accepted _ _ _ (told .passed) (d .fill .ensures)
 
 pub load-spec : {M : Type 1} → statement M

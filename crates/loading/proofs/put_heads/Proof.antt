@@ -5,12 +5,14 @@ use lib.ListN.{length}
 use native.Mathlib.Omega.{arith}
 use borrow.Author.Needs.{needs}
 use denote.Ref.{now}
-use Rattle.loading.proofs.FillLaws.{Parts, parts-known, heads-by}
+use Rattle.simulation.specs.Limits.{wide}
+use Rattle.table.proofs.PartLaws.{Parts, parts-known}
+use Rattle.loading.proofs.FillLaws.{heads-by}
 use Rattle.loading.proofs.put_heads.Statement.{statement}
 use Rattle.loading.proofs.put_heads.Tie as tie
 
-known : (c : tie.After-shared-slice-known) → let s = c .before .before in Parts (now (s .args .s)) (s .args .t)
-known c = let s = c .before .before in parts-known (now (s .args .s)) (s .args .t) (λ i. omega (arith, c .shared-slice-known .given i)) (s .pre .0) (s .pre .1)
+known : (c : tie.After-shared-slice-known) → let s = c .before .before in Parts wide (now (s .args .s)) (s .args .t)
+known c = let s = c .before .before in parts-known wide (now (s .args .s)) (s .args .t) (s .pre .0) (s .pre .1)
 
 cast-put : tie.Need-cast-put
 cast-put c = let p = known (c .before .before) in omega arith
@@ -38,6 +40,9 @@ add-put-sums c =
     let c₁ = c₃ .before .before .before .before .before .before .before .before .before in
     let p = known (c₁ .before .before .before) in
     omega arith
+
+add-put-sums-2 : tie.Need-add-put-sums-2
+add-put-sums-2 c = search needs
 
 put-sums-requires-2 : tie.Need-put-sums-requires-2
 put-sums-requires-2 c κs =
@@ -69,6 +74,7 @@ put-heads-spec =
     put-requires-2
     put-sums-requires
     add-put-sums
+    add-put-sums-2
     put-sums-requires-2
     same-length
     returns)

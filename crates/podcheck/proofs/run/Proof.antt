@@ -28,7 +28,7 @@ mul-if1 : tie.Need-mul-if1
 mul-if1 c =
     let q = c .states-of2 in
     let p = c .before .before .states-of in
-    omega (arith, p .ensures .1, q .ensures .1, mul-le-mul-right (q .result) (p .ensures .1))
+    omega (arith, p .ensures .few, q .ensures .few, mul-le-mul-right (q .result) (p .ensures .few))
 
 print-short-requires : tie.Need-print-short-requires
 print-short-requires c κs = (sizes (c .before), omega arith)

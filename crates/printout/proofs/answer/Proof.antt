@@ -44,7 +44,7 @@ print-requires c κs =
     let check = c .before .before .before .before .before .before .before .before .before .before in
     let p = check .before .before .before .before .before .before .before .before .before .before .pre in
     let kept = check .check .kept .1 .1 .1 .1 in
-    (p .0 .first-few, p .0 .second-few, omega (arith, p .1, kept .0), omega (arith, p .2, kept .1 .1 .0))
+    (p .0 .first-states .few, p .0 .second-states .few, omega (arith, p .1, kept .0), omega (arith, p .2, kept .1 .1 .0))
 
 same-length-3 : tie.Need-same-length-3
 same-length-3 c = search needs

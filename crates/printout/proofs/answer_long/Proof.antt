@@ -20,8 +20,8 @@ answer-requires c κs =
     let n = k .pre .0 in
     let tree = slice-aggregate-answer-2 (c .before) in (
       n,
-      omega (arith, n .second-few, mul-le-mul-right (k .args .q) (n .first-few), slice-aggregate-answer (c .before .before)),
-      omega (arith, k .pre .1, tree, bound-longest (k .args .p) (k .args .q) most-tree-bytes (n .first-few) (n .second-few) (le-refl most-tree-bytes)),
+      omega (arith, n .second-states .few, mul-le-mul-right (k .args .q) (n .first-states .few), slice-aggregate-answer (c .before .before)),
+      omega (arith, k .pre .1, tree, bound-longest (k .args .p) (k .args .q) most-tree-bytes (n .first-states .few) (n .second-states .few) (le-refl most-tree-bytes)),
     )
 
 same-length : tie.Need-same-length

@@ -19,7 +19,7 @@ answer-requires c κs =
     let tree = slice-aggregate-answer-2 (c .before) in (
       k .pre .0,
       omega (arith, k .pre .1, slice-aggregate-answer (c .before .before)),
-      omega (arith, k .pre .2, tree, bound-short (k .args .p) (k .args .q) short-tree (k .pre .0 .first-few) (k .pre .1) (le-refl short-tree)),
+      omega (arith, k .pre .2, tree, bound-short (k .args .p) (k .args .q) short-tree (k .pre .0 .first-states .few) (k .pre .1) (le-refl short-tree)),
     )
 
 same-length : tie.Need-same-length

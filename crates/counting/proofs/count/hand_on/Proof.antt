@@ -4,6 +4,7 @@ use Prim.Native.Nat.{_+_, _*_, _^_, _≤_, _<_}
 use native.Mathlib.Omega.{arith}
 use lib.ListN.{length, length-set, getD}
 use Rattle.simulation.specs.Limits.{most-states, most-pairs}
+use Rattle.simulation.specs.Length.{head-length}
 use Rattle.counting.specs.Count.{longest}
 use Rattle.counting.proofs.Targets.{step-number, few-targets}
 use Rattle.counting.proofs.Counting.{hand-choice, hand-place, hand-low, hand-fits, hand-counts, handed-on}
@@ -33,7 +34,7 @@ few : (c : tie.After-targets) → length (c .targets .result .now) ≤ most-stat
 few c = few-targets (hand-choice (entry (c .before .before) .pre)) (c .targets .ensures)
 
 fits : (c : tie.After-targets) → let a = entry (c .before .before) .args in
-    a .bytes + getD (a .counts .now) (a .s * c .before .states .result + a .t) 0 * (2 + 4 * length (c .targets .result .now)) < 2 ^ 30
+    a .bytes + getD (a .counts .now) (a .s * c .before .states .result + a .t) 0 * (head-length + 4 * length (c .targets .result .now)) < 2 ^ 30
 fits c = hand-fits (entry (c .before .before) .pre) (under (c .before .before)) (c .targets .ensures) _ (c .before .states .ensures)
 
 returns : tie.Need-returns
@@ -69,14 +70,14 @@ add-counts-requires c κs =
     let at-states = at-targets .before in
     hand-counts (entry (at-states .before) .pre) (under (at-states .before)) (at-targets .targets .ensures) _ (at-states .states .ensures)
 
-cast-result : tie.Need-cast-result
-cast-result c = record { fits = omega (arith, few (read c)) }
-
 mul-result : tie.Need-mul-result
 mul-result c = record { fits = omega (arith, few (read c)) }
 
 add-result : tie.Need-add-result
 add-result c = record { fits = omega (arith, few (read c)) }
+
+cast-result : tie.Need-cast-result
+cast-result c = record { fits = omega (arith, few (read c)) }
 
 mul-result-2 : tie.Need-mul-result-2
 mul-result-2 c = record { fits = omega (arith, fits (read c)) }
@@ -107,9 +108,9 @@ hand-on-spec =
     mul-counts
     slice-write-counts
     add-counts-requires
-    cast-result
     mul-result
     add-result
+    cast-result
     mul-result-2
     add-result-2
     same-length

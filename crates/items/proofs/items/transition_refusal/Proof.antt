@@ -7,19 +7,19 @@ use lib.Dec.{eqb}
 use denote.Ref.{now}
 use borrow.Author.Needs.{needs}
 use Rattle.simulation.specs.Sum.{any}
-use Rattle.layout.specs.Bytes.{_then_, refuse_unless_, actions, byte, code, transition-refusal}
+use Rattle.layout.specs.Bytes.{_then_, refuse_unless_, actions, field, code, transition-refusal}
 use Rattle.items.proofs.items.transition_refusal.Statement.{statement}
 use Rattle.items.proofs.items.transition_refusal.Tie as tie
 
 -- the search of the list tells whether the code is known
-known : (c : tie.After-listed) → let a = c .before .before .before .args in let s = now (a .s) in any (actions s) (λ i. eqb (code s i) (byte s (a .p))) ≡ c .listed .result
+known : (c : tie.After-listed) → let a = c .before .before .before .args in let s = now (a .s) in any (actions (a .width) s) (λ i. eqb (code (a .width) s i) (field (a .width) s (a .p))) ≡ c .listed .result
 known c =
     let a = c .before .before .before .args in
     let s = now (a .s) in
-    ap (λ (m : ℕ). any m (λ i. eqb (code s i) (byte s (a .p)))) (sym (c .before .before .before .pre .0)) ∙ sym (c .listed .ensures)
+    ap₂ (λ (m x : ℕ). any m (λ i. eqb (code (a .width) s i) x)) (sym (c .before .before .before .pre .0 .1)) (sym (c .before .field-at .ensures .is)) ∙ sym (c .listed .ensures)
 
-shared-slice-read-listed : tie.Need-shared-slice-read-listed
-shared-slice-read-listed c = search needs
+field-at-requires : tie.Need-field-at-requires
+field-at-requires c κs = search needs
 
 listed-requires : tie.Need-listed-requires
 listed-requires c κs = search needs
@@ -51,7 +51,7 @@ pub transition-refusal-spec : {M : Type 1} → statement M
 transition-refusal-spec =
     tie.close
     (tie.spec
-    shared-slice-read-listed
+    field-at-requires
     listed-requires
     add-size
     shared-slice-read-size

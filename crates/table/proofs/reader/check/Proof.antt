@@ -16,10 +16,10 @@ enum-told : tie.Need-enum-told
 enum-told c = search needs
 
 returns : tie.Need-returns
-returns c = refusal-told _ (c .before .before .before .read .ensures) (c .before .answer .given .1)
+returns c = refusal-told _ _ (c .before .before .before .read .ensures) (c .before .answer .given .1)
 
 returns-2 : tie.Need-returns-2
-returns-2 c = sym (accepted-told _ (c .before .before .read .ensures) (c .enum-told .given .1) .passed)
+returns-2 c = sym (accepted-told _ _ (c .before .before .read .ensures) (c .enum-told .given .1) .passed)
 
 pub check-spec : {M : Type 1} → statement M
 check-spec = tie.close (tie.spec read-requires enum-known-answer enum-told returns returns-2)

@@ -24,6 +24,9 @@ use Rattle.table.proofs.sections.states.Tie as tie
 abbrev bytes : tie.After-stage → List ℕ
 bytes c = now (c .before .before .before .args .s)
 
+abbrev width : tie.After-stage → ℕ
+width c = c .before .before .before .args .width
+
 abbrev at-count : tie.After-n → tie.After-stage
 at-count c = c .before .before .before .before
 
@@ -33,24 +36,24 @@ at-rule c = c .before .before .before
 abbrev at-part : tie.After-at → tie.Else2
 at-part c = c .before .before .before
 
-reach : (c : tie.After-stage) → let s = bytes c in StageTold (actions-refusal s) (actions-read s) (states-at s) (c .stage .given .0 .0) (c .stage .given .0 .1 .0)
+reach : (c : tie.After-stage) → let w = width c in let s = bytes c in StageTold (actions-refusal w s) (actions-read w s) (states-at w s) (c .stage .given .0 .0) (c .stage .given .0 .1 .0)
 reach c = stage-told _ _ _ (c .before .before .before .pre) (c .stage .given .1)
 
 -- where this section refuses with suc k
-refusal-here : (c : tie.After-stage) (k : ℕ) → let s = bytes c in states-refusal s ≡ suc k → actions-refusal s then states-refusal s ≡ suc k
+refusal-here : (c : tie.After-stage) (k : ℕ) → let w = width c in let s = bytes c in states-refusal w s ≡ suc k → actions-refusal w s then states-refusal w s ≡ suc k
 refusal-here c k e = then-zero _ (reach c .passed) ∙ e
 
-counted : (c : tie.After-n) → let s = bytes (at-count c) in ValueTold (leb (states-at s + 1) (length s)) (states s) (states-at s + 1) (c .n .given .0 .0) (c .n .given .0 .1 .0)
+counted : (c : tie.After-n) → let w = width (at-count c) in let s = bytes (at-count c) in ValueTold (leb (states-at w s + 1) (length s)) (states w s) (states-at w s + 1) (c .n .given .0 .0) (c .n .given .0 .1 .0)
 unfolding states
 counted c = byte-told (bytes (at-count c)) _ (reach (at-count c) .place) (c .before .before .byte .ensures) (c .n .given .1)
 
-rule : (c : tie.Else2) → let s = bytes (at-count (at-rule c)) in refuse 4 unless (ltb 0 (states s) && leb (states s) most-states) ≡ 0
+rule : (c : tie.Else2) → let w = width (at-count (at-rule c)) in let s = bytes (at-count (at-rule c)) in refuse 4 unless (ltb 0 (states w s) && leb (states w s) most-states) ≡ 0
 rule c =
-    let n = states (bytes (at-count (at-rule c))) in
+    let n = states (width (at-count (at-rule c))) (bytes (at-count (at-rule c))) in
     let is = counted (at-rule c) .value in
     not-refused 4 (both-hold (lt-ltb 0 n (omega arith)) (le-leb n most-states (omega arith)))
 
-whole : (c : tie.After-at) → let s = bytes (at-count (at-rule (at-part c))) in ValueTold (leb (states-at s + 1 + states s) (length s)) (states-at s + 1) (states-at s + 1 + states s) (c .at .given .0 .0) (c .at .given .0 .1 .0)
+whole : (c : tie.After-at) → let w = width (at-count (at-rule (at-part c))) in let s = bytes (at-count (at-rule (at-part c))) in ValueTold (leb (states-at w s + 1 + states w s) (length s)) (states-at w s + 1) (states-at w s + 1 + states w s) (c .at .given .0 .0) (c .at .given .0 .1 .0)
 whole c =
     let n = counted (at-rule (at-part c)) in
     part-told (bytes (at-count (at-rule (at-part c)))) _ (n .place) _ (n .value) (c .before .before .part .ensures) (c .at .given .1)
@@ -82,14 +85,14 @@ returns-3 : tie.Need-returns-3
 returns-3 c =
     let d = c .before .before in
     let n = counted d in
-    let none = le-ltb 0 (states (bytes (at-count d))) (omega (arith, n .value)) in
+    let none = le-ltb 0 (states (width (at-count d)) (bytes (at-count d))) (omega (arith, n .value)) in
     stage-refused _ 3 _ _ (refusal-here (at-count d) 3 (section-rule _ _ _ _ 3 (n .present) (refused-unless 4 (rw none))))
 
 returns-4 : tie.Need-returns-4
 returns-4 c =
     let d = c .before .before .before in
     let n = counted d in
-    let k = states (bytes (at-count d)) in
+    let k = states (width (at-count d)) (bytes (at-count d)) in
     let some = lt-ltb 0 k (omega (arith, n .value)) in
     let many = lt-leb k most-states (omega (arith, n .value)) in
     stage-refused _ 3 _ _ (refusal-here (at-count d) 3 (section-rule _ _ _ _ 3 (n .present) (refused-unless 4 (rw (some, many)))))
@@ -113,11 +116,11 @@ returns-5 c =
 returns-6 : tie.Need-returns-6
 unfolding transitions-at
 returns-6 c =
-    let w = whole (c .before) in
+    let y = whole (c .before) in
     let d = at-part (c .before) in
     let n = counted (at-rule d) in
     let r = reach (at-count (at-rule d)) in
-    stage-at _ _ _ (then-zero _ (r .passed) ∙ section-items _ _ _ _ (n .present) (rule d) (w .present)) (λ i. with-states (n .value i) (w .value i) (r .table i)) (w .place)
+    stage-at _ _ _ (then-zero _ (r .passed) ∙ section-items _ _ _ _ (n .present) (rule d) (y .present)) (λ i. with-states (n .value i) (y .value i) (r .table i)) (y .place)
 
 pub states-spec : {M : Type 1} → statement M
 states-spec =

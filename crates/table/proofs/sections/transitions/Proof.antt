@@ -16,13 +16,16 @@ use Rattle.table.specs.Answers.{count-refusal, items-read}
 use Rattle.table.specs.Stages.{with-transitions, states-read}
 use Rattle.table.proofs.StageLaws.{StageTold, stage-told, stage-fault, stage-at, stays, ItemsTold, items-told, items-refused-told}
 use Rattle.layout.proofs.SectionLaws.{then-zero, then-parts, section-whole, section-past, section-before}
-use Rattle.layout.proofs.Bounds.{actions-bytes, states-bounds, sum-of-counts}
+use Rattle.layout.proofs.Bounds.{actions-bounds, states-bounds, sum-of-counts}
 use Rattle.table.proofs.sections.transitions.Statement.{statement}
 use Rattle.table.proofs.sections.transitions.Tie as tie
 
 -- the bytes, and each place by the one before it
 abbrev bytes : tie.After-stage → List ℕ
 bytes c = now (c .before .before .before .args .s)
+
+abbrev width : tie.After-stage → ℕ
+width c = c .before .before .before .args .width
 
 abbrev at-stage : tie.After-counted → tie.After-stage
 at-stage c = c .before .before .before
@@ -33,36 +36,37 @@ at-count c = c .before .before
 abbrev at-items : tie.After-transitions-refusal → tie.After-items2
 at-items c = c .before .before
 
-abbrev before : List ℕ → ℕ
-before s = actions-refusal s then states-refusal s
+abbrev before : ℕ → List ℕ → ℕ
+before w s = actions-refusal w s then states-refusal w s
 
 -- what this section needs up to its items
-abbrev own : List ℕ → ℕ
-own s = count-refusal s (transitions-at s) most-transitions (sum (states s) (count s)) 5 2
+abbrev own : ℕ → List ℕ → ℕ
+own w s = count-refusal s (transitions-at w s) most-transitions (sum (states w s) (count w s)) 5 (w + 1)
 
-reach : (c : tie.After-stage) → let s = bytes c in StageTold (before s) (states-read s) (transitions-at s) (c .stage .given .0 .0) (c .stage .given .0 .1 .0)
-reach c = stage-told _ _ _ (c .before .before .before .pre) (c .stage .given .1)
+reach : (c : tie.After-stage) → let w = width c in let s = bytes c in StageTold (before w s) (states-read w s) (transitions-at w s) (c .stage .given .0 .0) (c .stage .given .0 .1 .0)
+reach c = stage-told _ _ _ (c .before .before .before .pre .1) (c .stage .given .1)
 
-summed : (c : tie.After-counted) → let s = bytes (at-stage c) in c .before .sum-of .result ≡ sum (states s) (count s)
+summed : (c : tie.After-counted) → let w = width (at-stage c) in let s = bytes (at-stage c) in c .before .sum-of .result ≡ sum (states w s) (count w s)
 summed c =
     let r = reach (at-stage c) in
-    sum-of-counts (bytes (at-stage c)) (ap (λ (t : Layout). t .states) (r .table)) (ap (λ (t : Layout). t .«counts_at») (r .table)) (c .before .sum-of .ensures)
+    sum-of-counts (width (at-stage c)) (bytes (at-stage c)) (ap (λ (t : Layout). t .states) (r .table)) (ap (λ (t : Layout). t .«counts_at») (r .table)) (c .before .sum-of .ensures)
 
 -- what the count's reading says, at this section's place and with its sum
-counts : (c : tie.After-counted) → let s = bytes (at-stage c) in c .counted .result ≡ items-read s (transitions-at s) most-transitions (sum (states s) (count s)) 5 2
-counts c = c .counted .ensures ∙ ap₂ (λ (p t : ℕ). items-read (bytes (at-stage c)) p most-transitions t 5 2) (reach (at-stage c) .place) (summed c)
+counts : (c : tie.After-counted) → let w = width (at-stage c) in let s = bytes (at-stage c) in c .counted .result ≡ items-read s (transitions-at w s) most-transitions (sum (states w s) (count w s)) 5 (w + 1)
+counts c = c .counted .ensures ∙ ap₂ (λ (p t : ℕ). items-read (bytes (at-stage c)) p most-transitions t 5 (width (at-stage c) + 1)) (reach (at-stage c) .place) (summed c)
 
-told : (c : tie.After-items2) → let s = bytes (at-stage (at-count c)) in let p = transitions-at s in
-    ItemsTold (own s) (half s p) (p + 2) (p + 2 + 2 * half s p) (c .items2 .given .0 .0) (c .items2 .given .0 .1 .0) (c .items2 .given .0 .1 .1 .0)
+told : (c : tie.After-items2) → let w = width (at-stage (at-count c)) in let s = bytes (at-stage (at-count c)) in let p = transitions-at w s in
+    ItemsTold (own w s) (half s p) (p + 2) (p + 2 + (w + 1) * half s p) (c .items2 .given .0 .0) (c .items2 .given .0 .1 .0) (c .items2 .given .0 .1 .1 .0)
 told c = items-told _ _ _ _ (counts (at-count c)) (c .items2 .given .1)
 
-items : (c : tie.After-transitions-refusal) → c .transitions-refusal .result ≡ transitions-refusal (bytes (at-stage (at-count (at-items c))))
+items : (c : tie.After-transitions-refusal) → c .transitions-refusal .result ≡ transitions-refusal (width (at-stage (at-count (at-items c)))) (bytes (at-stage (at-count (at-items c))))
 unfolding transitions
 items c =
+    let w = width (at-stage (at-count (at-items c))) in
     let s = bytes (at-stage (at-count (at-items c))) in
     let i = told (at-items c) in
     c .transitions-refusal .ensures
-    ∙ ap₂ (λ (p n : ℕ). first 0 n (λ j. transition-refusal s (p + 2 * j))) (i .from) (i .count)
+    ∙ ap₂ (λ (p n : ℕ). first 0 n (λ j. transition-refusal w s (p + (w + 1) * j))) (i .from) (i .count)
     ∙ sym (section-past _ _ _ _ (i .passed))
 
 enum-known-stage : tie.Need-enum-known-stage
@@ -72,16 +76,19 @@ enum-told : tie.Need-enum-told
 enum-told c = search needs
 
 returns : tie.Need-returns
-returns c = stays _ _ _ _ _ _ (c .before .before .before .pre) (c .enum-told .given .1)
+returns c = stays _ _ _ _ _ _ (c .before .before .before .pre .1) (c .enum-told .given .1)
 
 sum-of-requires : tie.Need-sum-of-requires
 sum-of-requires c κs =
     let d = c .before in
     let r = reach d in
-    let b = states-bounds (bytes d) (then-parts _ _ (r .passed) .1) in
+    let b = states-bounds (width d) (bytes d) (then-parts _ _ (r .passed) .1) in
     let n = ap (λ (t : Layout). t .states) (r .table) in
     let a = ap (λ (t : Layout). t .«counts_at») (r .table) in
     (omega arith, λ i h. omega arith)
+
+add-counted : tie.Need-add-counted
+add-counted c = search needs
 
 counted-requires : tie.Need-counted-requires
 counted-requires c κs = search needs
@@ -95,15 +102,19 @@ enum-known-items-2 c = search needs
 transitions-refusal-requires : tie.Need-transitions-refusal-requires
 transitions-refusal-requires c κs =
     let d = at-stage (at-count (c .before)) in
+    let w = width d in
     let s = bytes d in
     let r = reach d in
     let i = told (c .before) in
     let a = ap (λ (t : Layout). t .actions) (r .table) in
-    let b = actions-bytes s (then-parts _ _ (r .passed) .0) in
-    let h = leb-true (transitions-at s + 2 + 2 * half s (transitions-at s)) (length s) (section-whole _ _ _ _ (i .passed) .all-present) in
+    let passed = then-parts _ _ (r .passed) .0 in
+    let b = actions-bounds w s passed in
+    let h = leb-true (transitions-at w s + 2 + (w + 1) * half s (transitions-at w s)) (length s) (section-whole _ _ _ _ (i .passed) .all-present) in
     let n = i .count in
     let p = i .from in
-    (a, omega arith, omega arith)
+    let m = ap (_*_ (w + 1)) (i .count) in
+    let k = ap (_*_ w) a in
+    ((d .before .before .before .pre .0, a, omega arith, omega arith), rw a (section-whole _ _ _ _ passed .items-pass))
 
 returns-2 : tie.Need-returns-2
 returns-2 c =
@@ -132,6 +143,7 @@ transitions-spec =
     enum-told
     returns
     sum-of-requires
+    add-counted
     counted-requires
     enum-known-items
     enum-known-items-2
