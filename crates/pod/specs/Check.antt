@@ -1,13 +1,16 @@
 -- What a call of the check must do, from the bytes of two tables on.
 -- Assumes nothing.
 use mathlib.Core.Path.{_≡_}
+use mathlib.Core.Bool.{cond}
 use mathlib.Core.List.{List}
-use Prim.Native.Nat.{ℕ, _≤_, _<_}
+use Prim.Native.Nat.{ℕ, _+_, _≤_, _<_}
+use lib.Dec.{leb}
+use lib.ListN.{length}
 use Rattle.simulation.specs.Fit.{Amounts}
-use Rattle.simulation.specs.Limits.{most-states}
+use Rattle.simulation.specs.Limits.{wide, most-states}
 use Rattle.simulation.specs.Table.{Table, states-of}
 use Rattle.simulation.specs.Demands.{Kept}
-use Rattle.layout.specs.Bytes.{Decoded, refused, accepted, decode}
+use Rattle.layout.specs.Bytes.{states-at, states, Decoded, refused, accepted, decode}
 use Rattle.flows.specs.Flow.{Right}
 use Rattle.compare.specs.Outcome.{Buffers, Result, outcome}
 use Rattle.answer.specs.Numbers.{refusal}
@@ -46,7 +49,13 @@ state-count (accepted M) = states-of M
 abbrev pub states-in : List ℕ → ℕ
 states-in bytes = state-count (decode bytes)
 
--- the contract of `states_of`: r is how many states the table has, if the bytes are accepted
+-- the byte where the count of states stands; 0 where the bytes end before it, or where it is above the limit
+unfoldable pub states-stated : List ℕ → ℕ
+unfolding states
+states-stated s = cond (leb (states-at wide s + 1) (length s)) (cond (leb (states wide s) most-states) (states wide s) 0) 0
+
+-- the contract of `states_of`: that number, which is how many states the table has, if the bytes are accepted
 pub record StatesCounted (bytes : List ℕ) (r : ℕ) : Type 0 where
+  pub stated : r ≡ states-stated bytes
   pub right : (M : Table) → decode bytes ≡ accepted M → r ≡ states-of M
   pub few : r ≤ most-states

@@ -1,6 +1,6 @@
 -- `pod::states_of` meets its contract: a lemma at each place says what has been read there, and each return cites them.
 -- Assumes nothing.
-use Prim.Native.Nat.{ℕ, _*_}
+use Prim.Native.Nat.{ℕ, _+_, _*_}
 use mathlib.Core.Path.{_≡_, ap}
 use mathlib.Core.List.{List}
 use native.Mathlib.Omega.{arith}
@@ -41,9 +41,9 @@ sized c = ap (_*_ wide) (codes c .value)
 part : (c : tie.After-c) → let s = bytes (at-start (at-codes c)) in ValueTold (leb (states-at wide s) (length s)) wide (states-at wide s) (c .c .given .0 .0) (c .c .given .0 .1 .0)
 part c = part-told (bytes (at-start (at-codes c))) _ (codes (at-codes c) .place) _ (sized (at-codes c)) (c .before .before .part .ensures) (c .c .given .1)
 
-count : (c : tie.After-n) → c .n .given .0 .0 ≡ states wide (bytes (at-start (at-codes (at-part c))))
+count : (c : tie.After-n) → let s = bytes (at-start (at-codes (at-part c))) in ValueTold (leb (states-at wide s + 1) (length s)) (states wide s) (states-at wide s + 1) (c .n .given .0 .0) (c .n .given .0 .1 .0)
 unfolding states
-count c = byte-told (bytes (at-start (at-codes (at-part c)))) _ (part (at-part c) .place) (c .before .before .byte .ensures) (c .n .given .1) .value
+count c = byte-told (bytes (at-start (at-codes (at-part c)))) _ (part (at-part c) .place) (c .before .before .byte .ensures) (c .n .given .1)
 
 new-requires : tie.Need-new-requires
 new-requires c κs = search needs
@@ -99,10 +99,10 @@ returns-3 c =
     ended-before s _ (byte-ended s _ (part d .place) (c .before .before .byte .ensures) (c .enum-told3 .given .1)) (omega arith)
 
 returns-4 : tie.Need-returns-4
-returns-4 c = too-many _ (count (c .before .before)) (omega arith)
+returns-4 c = let n = count (c .before .before) in too-many _ (n .present) (n .value) (omega arith)
 
 returns-5 : tie.Need-returns-5
-returns-5 c = counted _ (count (c .before .before)) (omega arith)
+returns-5 c = let n = count (c .before .before) in counted _ (n .present) (n .value) (omega arith)
 
 pub states-of-spec : {M : Type 1} → statement M
 states-of-spec =
