@@ -25,7 +25,7 @@ mod tree;
 use make::Shape;
 use random::Random;
 use std::path::Path;
-use table::{parse, Table, Transition, C, CODES, NARROW, OLD_P, P, TRANSITIONS};
+use table::{parse, Table, Transition, C, CODES, ENTRIES, NARROW, OLD_P, P, STATES, TRANSITIONS};
 
 /// A random table and a near copy: of some tries the one with most rounds
 /// among those whose starts are told apart late.
@@ -143,6 +143,13 @@ fn listed() -> (Table, Table) {
     (table.clone(), table)
 }
 
+/// What a tester writes that watches many outcomes of each step, most of which
+/// never occur: 512 entries, and few of them with a weight.
+fn watching(random: &mut Random) -> Table {
+    let table = of_states(32)(random);
+    make::sprinkled(random, &make::padded(table, STATES), ENTRIES)
+}
+
 /// The largest table of the old layout.
 fn largest_old() -> Vec<u8> {
     let mut table = make::limit(&mut Random::new(7), 25, true);
@@ -187,6 +194,7 @@ fn main() {
         ("255 steps", many(255)),
         ("watched counter", watched_counter(63)),
         ("1024 codes", listed()),
+        ("zeros", near(5, 40, watching)),
     ];
     for (name, (first, second)) in cases {
         let input = program::input(&first.bytes(), &second.bytes());

@@ -141,9 +141,11 @@ Table parse(const Bytes& bytes) {
         last = entry.target;
         entry.weight = reader.two();
         step.total += entry.weight;
-        rule(entry.weight >= 1 && step.total <= max_total, 10);
-        successors |= Set(1) << entry.target;
+        rule(step.total <= max_total, 10);
+        successors |= Set(entry.weight > 0) << entry.target;
       }
+      rule(step.total > 0, 10);
+      std::erase_if(step.entries, [](const Entry& e) { return e.weight == 0; });
     }
     table.successors.push_back(successors);
   }

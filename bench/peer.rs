@@ -19,6 +19,7 @@ struct Step<S> {
     total: u32,
     /// States with a weight above 0.
     targets: S,
+    /// The same with their weights.
     entries: Vec<(u8, u16)>,
 }
 
@@ -133,21 +134,27 @@ impl<S: Set> Step<S> {
             targets: S::empty(),
             entries: Vec::with_capacity(bytes.len() / 3),
         };
+        let mut lowest = 0;
         for entry in bytes.chunks_exact(3) {
             let target = entry[0];
-            let rises = step.entries.last().is_none_or(|last| last.0 < target);
-            if target as usize >= states || !rises {
+            if target as usize >= states || target < lowest {
                 return Err(9);
             }
+            lowest = target + 1;
             let weight = two(&entry[1..]);
             step.total += weight as u32;
-            if weight == 0 || step.total > TOTAL {
+            if step.total > TOTAL {
                 return Err(10);
             }
-            step.targets |= S::one(target as usize);
-            step.entries.push((target, weight));
+            if weight > 0 {
+                step.targets |= S::one(target as usize);
+                step.entries.push((target, weight));
+            }
         }
-        Ok(step)
+        match step.total {
+            0 => Err(10),
+            _ => Ok(step),
+        }
     }
 }
 

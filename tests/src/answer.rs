@@ -80,6 +80,9 @@ pub enum Shown {
 /// All there is to know about two accepted tables.
 pub struct Pair {
     pub bytes: (Vec<u8>, Vec<u8>),
+    /// The first table with its entries of weight 0.
+    listed: Table,
+    /// The tables without these.
     pub first: Table,
     pub second: Table,
     pub ranking: Ranking,
@@ -98,17 +101,34 @@ impl Pair {
 
     /// Two tables that a call is handed in these bytes.
     pub fn in_bytes(subsets: usize, bytes: (Vec<u8>, Vec<u8>), tables: (Table, Table)) -> Pair {
-        let (first, second) = tables;
+        let (listed, second) = (tables.0, tables.1.supported());
+        let first = listed.supported();
         let ranking = rank(subsets, &first, &second);
         let trees = Trees::new(subsets, &first, &second, &ranking);
         Pair {
             bytes,
+            listed,
             first,
             second,
             ranking,
             trees,
             subsets,
         }
+    }
+
+    /// Hands the same tables over with these entries of weight 0.
+    pub fn hand(&mut self, (first, second): &(Table, Table)) {
+        assert_eq!(first.supported(), self.first);
+        assert_eq!(second.supported(), self.second);
+        self.bytes = (first.bytes(), second.bytes());
+        self.listed = first.clone();
+    }
+
+    /// The trees of these tables if entries of weight 0 were targets: those
+    /// of the first, and those of the second.
+    pub fn wrong_trees(&self, (first, second): &(Table, Table)) -> [Trees; 2] {
+        [(first, &self.second), (&self.first, second)]
+            .map(|(first, second)| Trees::new(self.subsets, first, second, &self.ranking))
     }
 
     /// Two tables that keep the rules, of any size: all fits by a flow.
@@ -126,6 +146,10 @@ impl Pair {
         must_split(self.subsets, first, second, self.ranking.last(), (s, t))
     }
 
+    fn flow_needed(&self, s: usize) -> u32 {
+        needed(&self.listed, &self.second, s)
+    }
+
     /// The shortest buffers that serve a pair of states.
     pub fn lengths(&self, s: usize, t: usize) -> Lengths {
         let tree = match self.rank(s, t) {
@@ -134,7 +158,7 @@ impl Pair {
         };
         Lengths {
             ranks: self.ranking.ranks.len(),
-            flow: needed(&self.first, &self.second, s) as usize,
+            flow: self.flow_needed(s) as usize,
             tree,
         }
     }
@@ -157,7 +181,7 @@ impl Pair {
         }
         let rank = self.rank(s, t);
         let shown = if rank == 0 {
-            let needed = needed(&self.first, &self.second, s);
+            let needed = self.flow_needed(s);
             if lengths.flow < needed as usize {
                 return Self::refuse(21, needed);
             }

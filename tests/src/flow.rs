@@ -3,7 +3,8 @@
 use crate::ranks::{between, fit_steps, weights, Relation};
 use crate::table::{has, Set, Table, Transition};
 
-/// The length that the flow buffer must have for a state of the first table.
+/// The length that the flow buffer must have for a state of the first table,
+/// whose entries of weight 0 count too.
 pub fn needed(first: &Table, second: &Table, s: usize) -> u32 {
     let steps = &first.states[s];
     let room = |m: &Transition| 3 + 6 * m.entries.len() * second.states.len();

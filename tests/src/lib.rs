@@ -2,6 +2,7 @@
 //! its definitions by the plainest means, and the means to hold the library
 //! and the program against it.
 
+pub mod alike;
 pub mod answer;
 pub mod fit;
 pub mod flow;

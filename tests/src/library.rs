@@ -264,6 +264,7 @@ pub struct Judged {
     pub answer: Answer,
     /// Targets whose weight had to be shared out over several.
     pub split: usize,
+    pub flow: Vec<u8>,
     pub tree: Vec<u8>,
     /// Bytes of stack taken.
     pub stack: usize,
@@ -353,6 +354,7 @@ fn compare(
     Ok(Judged {
         answer,
         split,
+        flow: flow.to_vec(),
         tree: tree.to_vec(),
         stack: call.stack,
     })

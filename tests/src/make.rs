@@ -30,15 +30,43 @@ pub fn to(code: u16, state: usize) -> Transition {
     }
 }
 
-fn targets(random: &mut Random, states: usize, count: usize) -> Vec<u8> {
-    let mut all: Vec<u8> = (0..states as u8).collect();
-    for i in 0..count {
-        let j = random.between(i, states - 1);
-        all.swap(i, j);
+/// A table of so many states whose start has one transition, with these
+/// entries.
+pub fn one_step(states: usize, entries: Vec<(u8, u16)>) -> Table {
+    let start = vec![Transition { code: 1, entries }];
+    padded(Table::new(vec![start]), states)
+}
+
+/// The same with these weights, and with as many states.
+pub fn weighing(weights: &[u16]) -> Table {
+    one_step(weights.len(), (0..).zip(weights.iter().copied()).collect())
+}
+
+/// A table of so many entries, four or fewer to a transition.
+pub fn full(entries: usize) -> Table {
+    let mut states = vec![Vec::new(); STATES];
+    for i in 0..entries.div_ceil(4) {
+        let width = (entries - 4 * i).min(4) as u8;
+        let entries = (0..width).map(|target| (target, 1)).collect();
+        states[i % STATES].push(Transition { code: 1, entries });
     }
-    all.truncate(count);
-    all.sort();
-    all
+    Table::new(states)
+}
+
+/// So many of a list, in any order.
+fn some<T>(random: &mut Random, mut list: Vec<T>, count: usize) -> Vec<T> {
+    for i in 0..count {
+        let j = random.between(i, list.len() - 1);
+        list.swap(i, j);
+    }
+    list.truncate(count);
+    list
+}
+
+fn targets(random: &mut Random, states: usize, count: usize) -> Vec<u8> {
+    let mut targets = some(random, (0..states as u8).collect(), count);
+    targets.sort();
+    targets
 }
 
 fn random_step(random: &mut Random, shape: Shape, states: usize) -> Transition {
@@ -134,6 +162,43 @@ pub fn listing_more(random: &mut Random, width: usize, mut table: Table) -> Tabl
     table
 }
 
+/// The same table with up to so many entries of weight 0 more, for states
+/// that a transition does not list, as far as there is room for them.
+pub fn sprinkled(random: &mut Random, table: &Table, count: usize) -> Table {
+    let mut table = table.clone();
+    let room = ENTRIES - table.entries();
+    let states = table.states.len() as u8;
+    let mut steps: Vec<&mut Transition> = table.states.iter_mut().flatten().collect();
+    let mut free = Vec::new();
+    for (k, step) in steps.iter().enumerate() {
+        let listed = |state: &u8| step.entries.iter().any(|entry| entry.0 == *state);
+        let others = (0..states).filter(|state| !listed(state));
+        free.extend(others.map(|state| (k, state)));
+    }
+    let count = count.min(room).min(free.len());
+    for (k, state) in some(random, free, count) {
+        steps[k].entries.push((state, 0));
+    }
+    steps.iter_mut().for_each(|step| step.entries.sort());
+    table
+}
+
+/// A table with the same targets listed and the same totals, in which most
+/// entries have weight 0: of each transition one stays with all that the
+/// others lose, and of these each stays once in `n` times.
+pub fn emptied(random: &mut Random, table: &Table, n: usize) -> Table {
+    let mut table = table.clone();
+    for step in table.states.iter_mut().flatten() {
+        let stays = random.below(step.entries.len());
+        for i in 0..step.entries.len() {
+            if i != stays && !random.once_in(n) {
+                step.entries[stays].1 += std::mem::take(&mut step.entries[i].1);
+            }
+        }
+    }
+    table
+}
+
 /// The table with other codes; unlike ones must stay unlike.
 pub fn recoded(table: &Table, code: impl Fn(u16) -> u16) -> Table {
     let mut table = table.clone();
@@ -148,11 +213,7 @@ pub fn recoded(table: &Table, code: impl Fn(u16) -> u16) -> Table {
 /// Renumbers the states, the start too.
 pub fn shuffled(random: &mut Random, table: &Table) -> Table {
     let states = table.states.len();
-    let mut place: Vec<usize> = (0..states).collect();
-    for i in 0..states {
-        let j = random.between(i, states - 1);
-        place.swap(i, j);
-    }
+    let place = some(random, (0..states).collect(), states);
     let mut list = vec![Vec::new(); states];
     for (s, steps) in table.states.iter().enumerate() {
         let mut steps = steps.clone();

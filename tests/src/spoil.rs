@@ -2,11 +2,17 @@
 
 use crate::make::{self, Shape};
 use crate::random::Random;
-use crate::table::{most_codes, Table, STATES, TRANSITIONS, WORD};
+use crate::table::{most_codes, Table, Transition, STATES, TRANSITIONS, WORD};
 
-/// Bytes of a table in the layout of that width: a random one, now and then a
-/// large one, with some faults or none.
+/// Bytes of a random table in the layout of that width, with some faults or
+/// none.
 pub fn faulty(random: &mut Random, width: usize) -> Vec<u8> {
+    let table = sound(random, width);
+    broken(random, width, table)
+}
+
+/// A random table for the layout of that width, now and then a large one.
+pub fn sound(random: &mut Random, width: usize) -> Table {
     let shape = Shape {
         states: random.between(1, 9),
         codes: random.between(1, 4),
@@ -14,15 +20,20 @@ pub fn faulty(random: &mut Random, width: usize) -> Vec<u8> {
         width: 4,
         weight: [3, 300, 16_000][random.below(3)],
     };
-    let mut table = match random.below(500) {
+    let table = match random.below(500) {
         0 => make::limit(random, 4, false),
         1 => make::limit(random, 4, true),
         2 => make::sized(random, WORD, 4, true),
         _ => make::random(random, shape),
     };
-    if random.once_in(16) {
-        table = make::listing_more(random, width, table);
+    match random.once_in(16) {
+        true => make::listing_more(random, width, table),
+        false => table,
     }
+}
+
+/// The bytes of a table, with some faults or none.
+pub fn broken(random: &mut Random, width: usize, mut table: Table) -> Vec<u8> {
     let kind = random.below(5);
     for _ in 0..random.below(3) * (kind > 1) as usize {
         spoil(random, width, &mut table);
@@ -72,25 +83,31 @@ fn spoil(random: &mut Random, width: usize, table: &mut Table) {
             table.codes.dedup();
             table.codes.truncate(count);
         }
-        kind => {
-            if table.states[s].is_empty() {
-                let code = random.byte().into();
-                return table.states[s].push(make::to(code, 0));
-            }
-            let k = random.below(table.states[s].len());
-            let step = &mut table.states[s][k];
-            let i = random.below(step.entries.len().max(1));
-            match kind {
-                5 => step.entries.clear(),
-                6 => step.entries.push((random.below(states + 2) as u8, 1)),
-                7 => step.code ^= 1 << random.below(8 * width),
-                8 if !step.entries.is_empty() => step.entries[i].1 = 0,
-                _ if !step.entries.is_empty() => {
-                    step.entries[i].1 = random.between(65_530, 65_535) as u16;
-                }
-                _ => {}
-            }
+        _ if table.states[s].is_empty() => {
+            let code = random.byte().into();
+            table.states[s].push(make::to(code, 0));
         }
+        _ => {
+            let k = random.below(table.states[s].len());
+            spoil_step(random, width, states, &mut table.states[s][k]);
+        }
+    }
+}
+
+/// The same for a transition of a table of so many states.
+fn spoil_step(random: &mut Random, width: usize, states: usize, step: &mut Transition) {
+    let (kind, count) = (random.below(8), step.entries.len());
+    match kind {
+        0 => step.entries.clear(),
+        1 => {
+            let (state, weight) = (random.below(states + 2), random.below(2));
+            step.entries.push((state as u8, weight as u16));
+        }
+        2 => step.code ^= 1 << random.below(8 * width),
+        _ if count == 0 => {}
+        3 | 4 => step.entries[random.below(count)].1 = 0,
+        5 => step.entries.iter_mut().for_each(|entry| entry.1 = 0),
+        _ => step.entries[random.below(count)].1 = random.between(65_530, 65_535) as u16,
     }
 }
 

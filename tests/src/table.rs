@@ -3,7 +3,7 @@
 #[derive(Clone, Debug, PartialEq)]
 pub struct Transition {
     pub code: u16,
-    /// Targets with their weights.
+    /// States with their weights. One of weight 0 is no target.
     pub entries: Vec<(u8, u16)>,
 }
 
@@ -86,10 +86,24 @@ pub const C: [u8; 29] = [
     0x00, 0x01, 0x03, 0x00, 0x01, 0x01, 0x00, 0x02, 0x01, 0x00, 0x01, 0x01, 0x00,
 ];
 
+/// The same with an entry for every state in each transition: those that the
+/// examples above do not list have weight 0.
+pub const ZEROS_P: [u8; 38] = [
+    0x02, 0x00, 0x0a, 0x00, 0x14, 0x00, 0x03, 0x01, 0x01, 0x00, 0x02, 0x00, 0x0a, 0x00, 0x03, 0x14,
+    0x00, 0x03, 0x06, 0x00, 0x00, 0x00, 0x00, 0x01, 0x03, 0x00, 0x02, 0x01, 0x00, 0x00, 0x00, 0x00,
+    0x01, 0x01, 0x00, 0x02, 0x00, 0x00,
+];
+
+pub const ZEROS_C: [u8; 38] = [
+    0x02, 0x00, 0x0a, 0x00, 0x14, 0x00, 0x03, 0x01, 0x01, 0x00, 0x02, 0x00, 0x0a, 0x00, 0x03, 0x14,
+    0x00, 0x03, 0x06, 0x00, 0x00, 0x00, 0x00, 0x01, 0x01, 0x00, 0x02, 0x01, 0x00, 0x00, 0x00, 0x00,
+    0x01, 0x01, 0x00, 0x02, 0x00, 0x00,
+];
+
 /// The smallest table: one state, no action.
 pub const LONE: [u8; 8] = [0, 0, 1, 0, 0, 0, 0, 0];
 
-/// The same three in the old layout.
+/// P, C and the smallest table in the old layout.
 pub const OLD_P: [u8; 24] = [
     0x02, 0x0a, 0x14, 0x03, 0x01, 0x01, 0x00, 0x02, 0x00, 0x0a, 0x02, 0x14, 0x01, 0x03, 0x00, 0x01,
     0x03, 0x00, 0x02, 0x01, 0x00, 0x01, 0x01, 0x00,
@@ -124,6 +138,15 @@ impl Table {
     pub fn entries(&self) -> usize {
         let steps = self.states.iter().flatten();
         steps.map(|step| step.entries.len()).sum()
+    }
+
+    /// The table without its entries of weight 0: what is judged.
+    pub fn supported(&self) -> Table {
+        let mut table = self.clone();
+        for step in table.states.iter_mut().flatten() {
+            step.entries.retain(|&(_, weight)| weight > 0);
+        }
+        table
     }
 
     /// The table in bytes, whether it keeps the rules or not. Codes and
@@ -264,8 +287,9 @@ fn transition<'a>(
         rule(entries.last().is_none_or(|last| last.0 < target), 9)?;
         let weight = u16::from_le_bytes([entry[1], entry[2]]);
         total += weight as u64;
-        rule(weight >= 1 && total <= TOTAL, 10)?;
+        rule(total <= TOTAL, 10)?;
         entries.push((target, weight));
     }
+    rule(total > 0, 10)?;
     Ok(Transition { code, entries })
 }

@@ -15,6 +15,8 @@ use pod_tests::table::{Table, Transition};
 struct Seen {
     kept: [usize; 4],
     fallen: [usize; 4],
+    /// Starts that list a weight of 0, on either side.
+    zeros: [usize; 2],
 }
 
 fn kind(p: usize, q: usize) -> usize {
@@ -39,12 +41,13 @@ fn start(steps: Vec<Transition>, codes: &[u8]) -> Table {
     Table::new(states)
 }
 
-/// A step to the states from 1 on, but for those of weight 0.
-fn step(weights: &[u16]) -> Transition {
+/// A step to the states from 1 on. Those of weight 0 are listed or not.
+fn step(random: &mut Random, weights: &[u16]) -> Transition {
+    let least = random.below(2) as u16;
     let entries = (1..).zip(weights.iter().copied());
     Transition {
         code: 100,
-        entries: entries.filter(|&(_, weight)| weight > 0).collect(),
+        entries: entries.filter(|&(_, weight)| weight >= least).collect(),
     }
 }
 
@@ -64,13 +67,14 @@ fn places(random: &mut Random, count: usize, draws: usize, ascend: bool) -> Vec<
 
 /// Two starts with p and q targets that share out by parcels, and then so
 /// many changes of the second side: a unit of weight moved, a code dropped.
+/// Up to three states more have weight 0, on each side.
 fn starts(random: &mut Random, p: usize, q: usize, changes: usize) -> (Table, Table) {
     let parcels = p.max(q) + random.below(3);
     let ascend = random.once_in(2);
     let from = places(random, p, parcels, ascend);
     let to = places(random, q, parcels, ascend);
     let (mut m, mut n) = (vec![0; p], vec![0; q]);
-    let first: Vec<u8> = (0..p).map(|_| random.below(256) as u8 & 0x1b).collect();
+    let mut first: Vec<u8> = (0..p).map(|_| random.below(256) as u8 & 0x1b).collect();
     let mut second = vec![0; q];
     for (&i, &j) in from.iter().zip(&to) {
         let weight = random.between(1, 3) as u16;
@@ -87,9 +91,14 @@ fn starts(random: &mut Random, p: usize, q: usize, changes: usize) -> (Table, Ta
             n[k] += 1;
         }
     }
+    for (weights, codes) in [(&mut m, &mut first), (&mut n, &mut second)] {
+        let count = weights.len() + random.below(4);
+        weights.resize(count, 0);
+        codes.resize(count, 0x1b);
+    }
     (
-        start(vec![step(&m)], &first),
-        start(vec![step(&n)], &second),
+        start(vec![step(random, &m)], &first),
+        start(vec![step(random, &n)], &second),
     )
 }
 
@@ -103,6 +112,8 @@ fn each_way() {
             let (first, second) = starts(&mut random, p, q, round as usize / 3);
             let pair = Pair::new(9, &first.bytes(), &second.bytes());
             let pair = pair.ok().unwrap();
+            seen.zeros[0] += (pair.first != first) as usize;
+            seen.zeros[1] += (pair.second != second) as usize;
             let judged = check(&pair, 0, 0, pair.lengths(0, 0), round);
             match judged.answer.rank {
                 0 => seen.kept[kind(p, q)] += 1,
@@ -117,6 +128,7 @@ fn each_way() {
     println!("{seen:?}");
     assert!(seen.kept.iter().all(|&count| count > 100));
     assert!(seen.fallen.iter().all(|&count| count > 30));
+    assert!(seen.zeros.iter().all(|&count| count > 300));
 }
 
 /// A step with some weight on some of six states.
@@ -125,14 +137,14 @@ fn light(random: &mut Random) -> Transition {
     for _ in 0..random.between(1, 4) {
         weights[random.below(6)] += random.between(1, 2) as u16;
     }
-    step(&weights)
+    step(random, &weights)
 }
 
 #[test]
 fn many_partners() {
     let codes = [0b000, 0b001, 0b010, 0b011, 0b101, 0b111];
     let mut random = Random::new(62);
-    let (mut kept, mut fallen) = (0, 0);
+    let (mut kept, mut fallen, mut zeros) = (0, 0, 0);
     for round in 0..400 {
         let count = random.between(14, 40);
         let first: Vec<_> = (0..count).map(|_| light(&mut random)).collect();
@@ -146,6 +158,7 @@ fn many_partners() {
         let (first, second) = (start(first, &codes), start(second, &codes));
         let pair = Pair::new(9, &first.bytes(), &second.bytes());
         let pair = pair.ok().unwrap();
+        zeros += (pair.first != first && pair.second != second) as usize;
         let judged = check(&pair, 0, 0, pair.lengths(0, 0), round);
         match judged.answer.rank {
             0 => kept += 1,
@@ -155,6 +168,6 @@ fn many_partners() {
             }
         }
     }
-    println!("{kept} kept, {fallen} fallen");
-    assert!(kept > 60 && fallen > 60);
+    println!("{kept} kept, {fallen} fallen, {zeros} with weights of 0");
+    assert!(kept > 60 && fallen > 60 && zeros > 300);
 }

@@ -1,16 +1,17 @@
 //! The second program against itself and against worked examples. Nothing
 //! here needs the library.
 
+use pod_tests::alike;
 use pod_tests::answer::{Lengths, Pair, Shown};
 use pod_tests::fit::{by_flow, by_subsets, Fit, SUBSETS};
 use pod_tests::flow::judge;
 use pod_tests::make::{self, Shape};
 use pod_tests::program::{input, output};
 use pod_tests::random::Random;
-use pod_tests::ranks::{fits_some, Relation};
+use pod_tests::ranks::{fits_some, rank, Relation};
 use pod_tests::table::{
-    has, largest, members, parse, parse_at, widen, Set, Table, C, LONE, NARROW, OLD_C, OLD_LONE,
-    OLD_P, P, PAIRS, STATES, WIDE, WORD,
+    has, largest, members, parse, parse_at, widen, Set, Table, C, ENTRIES, LONE, NARROW, OLD_C,
+    OLD_LONE, OLD_P, P, PAIRS, STATES, WIDE, WORD, ZEROS_C, ZEROS_P,
 };
 use pod_tests::tree::{replay, LONGEST};
 
@@ -230,6 +231,68 @@ fn layouts() {
     assert_eq!(parse(&[0, 4]), Err(1));
     assert_eq!(parse(&[1, 4]), Err(3));
     assert_eq!(parse(&[4]), Err(1));
+}
+
+#[test]
+fn weights_of_zero() {
+    let mut random = Random::new(8);
+    for (zeros, table) in [(ZEROS_P, P), (ZEROS_C, C)] {
+        let (zeros, table) = (parse(&zeros).unwrap(), parse(&table).unwrap());
+        assert_eq!(zeros.supported(), table);
+        assert_eq!(make::sprinkled(&mut random, &table, ENTRIES), zeros);
+    }
+    assert_eq!(output(&input(&ZEROS_P, &ZEROS_C)), P_C);
+    let number = |weights: &[u16]| parse(&make::weighing(weights).bytes()).err();
+    assert_eq!(number(&[0, 65_535, 0]), None);
+    assert_eq!(number(&[65_535, 0, 1]), Some(10));
+    assert_eq!(number(&[0, 0]), Some(10));
+    let entries = vec![(1, 0), (1, 0)];
+    assert_eq!(parse(&make::one_step(2, entries).bytes()), Err(9));
+    // All entries count in the length asked, and none of weight 0 may stand
+    // in a record.
+    let pair = Pair::new(SUBSETS, &ZEROS_C, &ZEROS_P).ok().unwrap();
+    assert_eq!(pair.lengths(0, 0).flow, 58);
+    for (from, to) in [(0, 0), (0, 1), (1, 0), (2, 0)] {
+        let bytes = [1, 0, 1, 0, from, to, 1, 0, 0, 0];
+        let (first, second, kept) = (&pair.first, &pair.second, pair.ranking.last());
+        let found = judge(SUBSETS, first, second, kept, (0, 0), &bytes);
+        assert_eq!(found, Err("record of no target".to_string()));
+    }
+}
+
+#[test]
+fn zeros_taken_for_targets() {
+    // They would change no rank: nothing is sent to them, and nothing is
+    // missed. Trees would have more children and larger sets.
+    let mut random = Random::new(9);
+    let mut larger = [0; 2];
+    for round in 0..1_000 {
+        let (first, second) = alike::small(&mut random, round % 7);
+        let dropped = Pair::of(&(first.clone(), second.clone()));
+        let [first, second] = [first, second].map(|table| make::sprinkled(&mut random, &table, 4));
+        for subsets in [0, SUBSETS] {
+            let ranking = rank(subsets, &first, &second);
+            assert_eq!(ranking.ranks, dropped.ranking.ranks);
+        }
+        let tables = (first, second);
+        let pair = Pair::of(&tables);
+        assert_eq!(pair.ranking.ranks, dropped.ranking.ranks);
+        let wrong = pair.wrong_trees(&tables);
+        let columns = pair.second.states.len();
+        for at in (0..pair.ranking.ranks.len()).filter(|&at| pair.ranking.ranks[at] > 0) {
+            let (s, t) = (at / columns, at % columns);
+            let length = pair.trees.length(s, t);
+            assert_eq!(length, dropped.trees.length(s, t));
+            if length < 1_000 {
+                assert_eq!(pair.trees.bytes(s, t), dropped.trees.bytes(s, t));
+            }
+            for (count, wrong) in larger.iter_mut().zip(&wrong) {
+                *count += (wrong.length(s, t) > length) as usize;
+            }
+        }
+    }
+    println!("{larger:?} larger trees");
+    assert!(larger.iter().all(|&count| count > 1_000));
 }
 
 #[test]

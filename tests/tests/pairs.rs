@@ -1,12 +1,13 @@
 //! Pairs of small tables: every answer and every lent buffer, against the
 //! second program, which tries all subsets.
 
+use pod_tests::alike;
 use pod_tests::answer::{Answer, Lengths, Pair};
 use pod_tests::fit::SUBSETS;
 use pod_tests::library::{check, Call, FIELDS};
 use pod_tests::make::{self, Shape};
 use pod_tests::random::Random;
-use pod_tests::table::{parse, Table, Transition, C, LONE, P, STATES, TRANSITIONS, WIDE};
+use pod_tests::table::{parse, Table, Transition, C, LONE, P, WIDE, ZEROS_C, ZEROS_P};
 
 const ROOMY: Lengths = Lengths {
     ranks: 12,
@@ -98,11 +99,15 @@ fn refused_before_buffers() {
 
 #[test]
 fn refused_tables() {
-    // A damaged table as first, as second and as both.
+    // A damaged table as first, as second and as both, also with weights of
+    // 0 in them.
     let mut random = Random::new(20);
     let mut seen = [0; 3];
     for round in 0..6_000 {
-        let mut tables = [P.to_vec(), C.to_vec()];
+        let mut tables = match round % 2 {
+            0 => [P.to_vec(), C.to_vec()],
+            _ => [ZEROS_P.to_vec(), ZEROS_C.to_vec()],
+        };
         for (k, table) in tables.iter_mut().enumerate() {
             if round % 3 != k {
                 let at = random.below(table.len());
@@ -133,52 +138,6 @@ fn short_answers() {
         for (first, second) in [(&P[..], &C[..]), (&C, &P), (&P[..3], &C)] {
             let call = Call::new((first, second), (0, 0), ROOMY, length, 9);
             assert!(call.untouched());
-        }
-    }
-}
-
-/// Tables of one kind or another, most of them alike.
-fn tables(random: &mut Random, kind: usize) -> (Table, Table) {
-    let shape = Shape {
-        states: random.between(1, 7),
-        codes: random.between(1, 2),
-        steps: random.between(1, 3),
-        width: random.between(1, 5),
-        weight: [1, 3, 6, 10_000][random.below(4)],
-    };
-    let edits = random.below(4);
-    let table = make::random(random, shape);
-    match kind {
-        0 => (table, make::random(random, shape)),
-        1 => {
-            let other = make::edited(random, &table, edits, 2);
-            (table, make::shuffled(random, &other))
-        }
-        2 => (make::edited(random, &table, edits, 2), table),
-        3 | 4 => {
-            let other = make::doubled(random, &table).unwrap_or_else(|| table.clone());
-            let other = make::edited(random, &other, edits / 2, 2);
-            match kind {
-                3 => (table, other),
-                _ => (other, table),
-            }
-        }
-        5 | 6 => {
-            let (p, q) = (random.between(1, 4), random.between(2, 5));
-            let (first, second) = match random.below(3) {
-                0 => make::cycles(p, q),
-                1 => make::counter(q),
-                _ => make::chain(p + 1),
-            };
-            let second = make::edited(random, &second, edits / 2, 2);
-            (first, make::shuffled(random, &second))
-        }
-        _ => {
-            let width = random.between(1, 5);
-            let most = TRANSITIONS / (width * width) + 1;
-            let most = most.min(STATES / width).min(12);
-            let layers = random.between(2, most.max(2));
-            make::layers(random, layers, width)
         }
     }
 }
@@ -217,7 +176,7 @@ fn random_pairs() {
     let mut seen = Seen::default();
     for round in 0..20_000 {
         let kind = if round % 25 == 24 { 7 } else { round % 7 };
-        let (first, mut second) = tables(&mut random, kind);
+        let (first, mut second) = alike::small(&mut random, kind);
         if random.once_in(8) {
             second = make::listing_more(&mut random, WIDE, second);
         }
@@ -374,7 +333,7 @@ fn same_table_twice() {
     // Every table keeps all pairs of a state with itself.
     let mut random = Random::new(23);
     for round in 0..300 {
-        let (table, _) = tables(&mut random, round % 7);
+        let (table, _) = alike::small(&mut random, round % 7);
         let bytes = table.bytes();
         assert_eq!(parse(&bytes).unwrap(), table);
         let pair = pair(&bytes, &bytes);

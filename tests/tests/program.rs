@@ -1,15 +1,17 @@
 //! The program podcheck: its output to the letter.
 
+use pod_tests::alike;
 use pod_tests::make::{self, Shape};
 use pod_tests::program::{input, output, output_by};
 use pod_tests::random::Random;
 use pod_tests::ranks::rank;
 use pod_tests::stack::deep;
 use pod_tests::table::{
-    largest, parse, Table, Transition, C, CODES, LONE, OLD_C, OLD_P, P, STATES, STEPS, WIDE, WORD,
+    largest, parse, Table, Transition, C, CODES, ENTRIES, LONE, OLD_C, OLD_P, P, STATES, STEPS,
+    WIDE, WORD, ZEROS_C, ZEROS_P,
 };
 use std::io::Write;
-use std::path::PathBuf;
+use std::path::{Path, PathBuf};
 use std::process::{Child, Command, Stdio};
 
 /// The program, or another one to hold against the same.
@@ -86,6 +88,67 @@ tree 01 0a 00 02 01 03 00 01 14 00 01 01 01 00 00 02 01 00 00
 }
 
 #[test]
+fn example_files() {
+    // The inputs in examples/. With an entry for every state in each of P's
+    // transitions the text is the same.
+    let file = |name: &str| {
+        let folder = Path::new(env!("CARGO_MANIFEST_DIR")).join("../examples");
+        std::fs::read(folder.join(name)).unwrap()
+    };
+    assert_eq!(file("p_c.bin"), input(&P, &C));
+    assert_eq!(file("c_p.bin"), input(&C, &P));
+    assert_eq!(file("zeros.bin"), input(&ZEROS_P, &C));
+    assert!(held(&file("c_p.bin")).ends_with("verdict yes\n"));
+    let text = held(&file("p_c.bin"));
+    assert!(text.ends_with("\ntree 01 0a 00 02 01 03 00 01 14 00 01 01 01 00 00 02 01 00 00\n"));
+    assert_eq!(run(&file("zeros.bin")), text);
+}
+
+#[test]
+fn weights_of_zero() {
+    let mut random = Random::new(47);
+    for tables in [[P, C], [C, P], [P, P]] {
+        let tables = tables.map(|bytes| parse(&bytes).unwrap());
+        let (_, zeros) = same_with_zeros(&mut random, &tables, ENTRIES);
+        assert_eq!(zeros, [3, 3]);
+    }
+    let (mut yes, mut no) = (0, 0);
+    for round in 0..60 {
+        let (first, second) = match round % 10 {
+            9 => alike::large(&mut random, round / 10 % 4),
+            kind => alike::small(&mut random, kind % 8),
+        };
+        let entries = first.entries() + second.entries();
+        let (text, zeros) = same_with_zeros(&mut random, &[first, second], entries);
+        // Those with such entries on both sides.
+        let both = zeros.iter().all(|&count| count > 0);
+        yes += (both && text.contains("verdict yes\n")) as usize;
+        no += (both && text.contains("\ntree 01 ")) as usize;
+    }
+    println!("{yes} yes, {no} no");
+    assert!(yes > 10 && no > 10);
+    let zero = make::weighing(&[0, 0]).bytes();
+    assert_eq!(held(&input(&zero, &zero)), "refused 1 10\n");
+    assert_eq!(held(&input(&P, &zero)), "refused 2 10\n");
+}
+
+/// The text for two tables, which stays the same with up to so many entries of
+/// weight 0 more on one side or on both, and how many there were.
+fn same_with_zeros(random: &mut Random, tables: &[Table; 2], count: usize) -> (String, [usize; 2]) {
+    let [first, second] = tables;
+    let [p, q] = [first, second].map(|table| make::sprinkled(random, table, count));
+    let text = held_large(first, second);
+    for (first, second) in [(&p, second), (first, &q), (&p, &q)] {
+        assert_eq!(held_large(first, second), text);
+    }
+    let zeros = [
+        p.entries() - first.entries(),
+        q.entries() - second.entries(),
+    ];
+    (text, zeros)
+}
+
+#[test]
 fn old_tables() {
     // The first two bytes of either are a count of 2,562 codes.
     assert_eq!(held(&input(&OLD_P, &OLD_C)), "refused 1 3\n");
@@ -158,8 +221,11 @@ fn lengths_that_lie() {
 fn damaged() {
     let mut random = Random::new(41);
     let mut refused = 0;
-    for _ in 0..300 {
-        let mut bytes = input(&P, &C);
+    for round in 0..300 {
+        let mut bytes = match round % 2 {
+            0 => input(&P, &C),
+            _ => input(&ZEROS_P, &ZEROS_C),
+        };
         for _ in 0..random.between(1, 3) {
             let at = random.below(bytes.len());
             bytes[at] = [0, 1, 2, 3, 10, 20, 255, random.byte()][random.below(8)];

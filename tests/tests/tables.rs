@@ -21,23 +21,12 @@ fn busy(shares: &[usize]) -> Vec<u8> {
     Table::new(states).bytes()
 }
 
-/// A table of so many entries, five or fewer to a transition.
 fn full(entries: usize) -> Vec<u8> {
-    let mut states = vec![Vec::new(); STATES];
-    for i in 0..entries.div_ceil(5) {
-        let width = (entries - 5 * i).min(5) as u8;
-        let entries = (0..width).map(|target| (target, 1)).collect();
-        states[i % STATES].push(Transition { code: 1, entries });
-    }
-    Table::new(states).bytes()
+    make::full(entries).bytes()
 }
 
-/// A table whose one transition has these weights.
 fn weighing(weights: &[u16]) -> Vec<u8> {
-    let entries = (0..).zip(weights.iter().copied()).collect();
-    let mut states = vec![Vec::new(); weights.len()];
-    states[0] = vec![Transition { code: 1, entries }];
-    Table::new(states).bytes()
+    make::weighing(weights).bytes()
 }
 
 #[test]
@@ -55,7 +44,8 @@ fn boundaries() {
     assert_eq!(number(&weighing(&[65_535, 1])), 10);
     assert_eq!(number(&weighing(&[32_768, 32_768])), 10);
     assert_eq!(number(&weighing(&[65_535, 65_535])), 10);
-    assert_eq!(number(&weighing(&[1, 0])), 10);
+    assert_eq!(number(&weighing(&[1, 0])), 0);
+    assert_eq!(number(&weighing(&[0, 0])), 10);
 }
 
 #[test]
@@ -159,9 +149,14 @@ fn order_of_refusals() {
     assert_eq!(one(&[1, 1], &[1, 0, 7, 0, 1, 1, 0, 9, 0, 0]), 9);
     assert_eq!(one(&[1, 1], &[1, 0, 7, 0, 1, 1, 0, 0, 0, 0, 1]), 10);
     assert_eq!(one(&[1, 1], &[1, 0, 7, 0, 1, 1, 0, 0, 1, 0, 1]), 2);
-    // A later entry's 9 after an earlier one's 10.
-    let two = [1, 0, 7, 0, 2, 2, 0, 1, 0, 0, 1, 1, 0];
-    assert_eq!(one(&[2, 1, 0], &two), 10);
+    // A later entry's 9 after an earlier one's 10, and before the 10 of a
+    // total of 0, unless that is of an earlier transition.
+    let three = [1, 0, 7, 0, 3, 3, 0, 0, 255, 255, 1, 1, 0, 1, 1, 0];
+    assert_eq!(one(&[2, 1, 0], &three), 10);
+    let two = [1, 0, 7, 0, 2, 2, 0, 1, 0, 0, 1, 0, 0];
+    assert_eq!(one(&[2, 1, 0], &two), 9);
+    let apart = [2, 0, 7, 0, 1, 7, 0, 1, 2, 0, 1, 0, 0, 9, 0, 0];
+    assert_eq!(one(&[2, 1, 1], &apart), 10);
 }
 
 #[test]

@@ -8,8 +8,8 @@ use pod_tests::make::{self, Shape};
 use pod_tests::random::Random;
 use pod_tests::spoil::faulty;
 use pod_tests::table::{
-    largest, parse, parse_at, Table, Transition, C, ENTRIES, LONE, NARROW, OLD_C, OLD_LONE, OLD_P,
-    P, STATES, STEPS, WORD,
+    largest, parse, parse_at, Table, C, ENTRIES, LONE, NARROW, OLD_C, OLD_LONE, OLD_P, P, STATES,
+    STEPS, WORD,
 };
 
 /// More than any wide table takes.
@@ -29,17 +29,6 @@ fn idle(states: usize) -> Table {
 fn busy(shares: &[usize]) -> Table {
     let steps = |&share| vec![make::to(1, 0); share];
     Table::new(shares.iter().map(steps).collect())
-}
-
-/// A table of so many entries, four or fewer to a transition.
-fn full(entries: usize) -> Table {
-    let mut states = vec![Vec::new(); STATES];
-    for i in 0..entries.div_ceil(4) {
-        let width = (entries - 4 * i).min(4) as u8;
-        let entries = (0..width).map(|target| (target, 1)).collect();
-        states[i % STATES].push(Transition { code: 1, entries });
-    }
-    Table::new(states)
 }
 
 #[test]
@@ -135,15 +124,20 @@ fn order_of_refusals() {
     assert_eq!(number(&[1, 7, 1, 1, 1, 0, 7, 1, 1, 0, 9, 0, 0]), 9);
     assert_eq!(number(&[1, 7, 1, 1, 1, 0, 7, 1, 1, 0, 0, 0, 0, 1]), 10);
     assert_eq!(number(&[1, 7, 1, 1, 1, 0, 7, 1, 1, 0, 0, 1, 0, 1]), 2);
-    // A later entry's 9 after an earlier one's 10.
-    let two = [1, 7, 2, 1, 0, 1, 0, 7, 2, 2, 0, 1, 0, 0, 1, 1, 0];
-    assert_eq!(number(&two), 10);
+    // A later entry's 9 after an earlier one's 10, and before the 10 of a
+    // total of 0.
+    let with = |entries: &[u8]| {
+        let count = entries.len() as u8 / 3;
+        number(&[&[1, 7, 2, 1, 0, 1, 0, 7, count, count, 0], entries].concat())
+    };
+    assert_eq!(with(&[0, 255, 255, 1, 1, 0, 1, 1, 0]), 10);
+    assert_eq!(with(&[1, 0, 0, 1, 0, 0]), 9);
 }
 
 #[test]
 fn truncations() {
     let mut random = Random::new(81);
-    let mut tables = vec![idle(STATES), busy(&[STEPS, 1]), full(ENTRIES)];
+    let mut tables = vec![idle(STATES), busy(&[STEPS, 1]), make::full(ENTRIES)];
     for states in [WORD, STATES] {
         let table = make::sized(&mut random, states, 25, true);
         tables.push(make::listing_more(&mut random, NARROW, table));
@@ -196,15 +190,12 @@ fn limits() {
     for shares in [[255, 2], [128, 129], [255, 255]] {
         assert_eq!(number(busy(&shares)), 5, "{shares:?}");
     }
-    assert_eq!(number(full(512)), 0);
-    assert_eq!(number(full(513)), 7);
-    let weighing = |weights: [u16; 2]| {
-        let entries = (0..).zip(weights).collect();
-        Table::new(vec![vec![Transition { code: 1, entries }], Vec::new()])
-    };
-    assert_eq!(number(weighing([65_534, 1])), 0);
-    assert_eq!(number(weighing([65_535, 1])), 10);
-    assert_eq!(number(weighing([1, 0])), 10);
+    assert_eq!(number(make::full(512)), 0);
+    assert_eq!(number(make::full(513)), 7);
+    assert_eq!(number(make::weighing(&[65_534, 1])), 0);
+    assert_eq!(number(make::weighing(&[65_535, 1])), 10);
+    assert_eq!(number(make::weighing(&[1, 0])), 0);
+    assert_eq!(number(make::weighing(&[0, 0])), 10);
 }
 
 #[test]

@@ -2,6 +2,7 @@
 //! bits: sizes on either side of a word, sets that lie in one word alone, and
 //! random tables.
 
+use pod_tests::alike;
 use pod_tests::answer::{Answer, Lengths, Pair};
 use pod_tests::library::{check, Call, FIELDS};
 use pod_tests::make::{self, Shape};
@@ -56,16 +57,6 @@ fn pair((first, second): &(Table, Table)) -> Pair {
     pair.ok().unwrap()
 }
 
-fn shape(random: &mut Random, width: usize) -> Shape {
-    Shape {
-        states: STATES,
-        codes: random.between(1, 3),
-        steps: random.between(1, 3),
-        width,
-        weight: [1, 3, 6, 10_000][random.below(4)],
-    }
-}
-
 #[test]
 fn sizes() {
     // Copies of one table with so many states each: the last state of a
@@ -78,7 +69,7 @@ fn sizes() {
             let states = random.between(1, p.min(q).min(40));
             let shape = Shape {
                 steps: 2,
-                ..shape(&mut random, 2)
+                ..alike::large_shape(&mut random, 2)
             };
             let table = make::random_of(&mut random, states, shape);
             let first = make::copied(&mut random, &table, p);
@@ -150,7 +141,7 @@ fn states_of_the_second_word_alone() {
     let lone = parse(&LONE).unwrap();
     for round in 0..60 {
         let (n, edits) = (random.between(2, 30), random.below(4));
-        let shape = shape(&mut random, 4);
+        let shape = alike::large_shape(&mut random, 4);
         let first = make::random_of(&mut random, n, shape);
         let second = make::edited(&mut random, &first, edits, 3);
         let own = pair(&(first.clone(), second.clone()));
@@ -270,47 +261,13 @@ fn flows_in_either_word() {
     }
 }
 
-/// Two tables of 65 to 128 states, most of them alike.
-fn large(random: &mut Random, kind: usize) -> (Table, Table) {
-    let states = random.between(WORD + 1, STATES);
-    let width = random.between(1, 5);
-    let shape = shape(random, width);
-    let edits = random.below(5);
-    let table = make::random_of(random, states, shape);
-    match kind {
-        0 => {
-            let states = random.between(WORD + 1, STATES);
-            (table, make::random_of(random, states, shape))
-        }
-        1 => {
-            let other = make::edited(random, &table, edits, 3);
-            (table, make::shuffled(random, &other))
-        }
-        2 => (make::edited(random, &table, edits, 3), table),
-        _ => {
-            // Two sets of copies, with fewer transitions for that.
-            let few = Shape {
-                steps: 2,
-                width: 2,
-                ..shape
-            };
-            let count = random.between(20, WORD);
-            let table = make::random_of(random, count, few);
-            let first = make::copied(random, &table, states);
-            let states = random.between(WORD + 1, STATES);
-            let second = make::copied(random, &table, states);
-            (first, make::edited(random, &second, edits, 3))
-        }
-    }
-}
-
 #[test]
 fn random_tables() {
     let mut random = Random::new(54);
     let mut seen = Seen::default();
     deep(|| {
         for round in 0..400 {
-            let pair = pair(&large(&mut random, round % 4));
+            let pair = pair(&alike::large(&mut random, round % 4));
             seen.judge(&pair, (0, 0));
             seen.sample(&mut random, &pair, 8);
         }

@@ -17,10 +17,9 @@ use Rattle.simulation.specs.Round.{pairs, rank, rank-list, maximum, zeros}
 use Rattle.simulation.specs.Demands.{Kept}
 use Rattle.simulation.proofs.Finite.Tests.{or-cases, or-left, or-right}
 use Rattle.simulation.proofs.Simulation.RankList.{rank-list-length, rank-list-at}
-use Rattle.form.specs.Tables.{first-form, second-form, first-table, second-table, BothLoaded}
+use Rattle.form.specs.Tables.{first-form, second-form, first-table, second-table}
 use Rattle.simulation.specs.Limits.{most-pairs, most-states}
 use Rattle.pair_tree.proofs.Putting.{count-small}
-use Rattle.flows.specs.Flow.{Right, flow-bytes, flow-room}
 use Rattle.ranking.specs.Rows.{Open, RanksFilled}
 use Rattle.word.specs.Mask.{Test}
 use Rattle.relation.specs.Rows.{height}
@@ -36,8 +35,8 @@ use Rattle.counting.proofs.Pairs.{place-below}
 use Rattle.compare.specs.Outcome.{Buffers, Result, success, lent, left}
 use Rattle.simulation.specs.Tree.{tree-bytes}
 use Rattle.witness.specs.Shown.{FlowShown, TreeShown}
-use Rattle.answer.specs.Numbers.{refusal, with-written}
-use Rattle.compare.specs.Steps.{found-answer, Compared}
+use Rattle.answer.specs.Numbers.{refusal}
+use Rattle.compare.specs.Steps.{RightIfKept, Compared, Chosen, PairRanked, found-answer}
 use Rattle.compare.specs.Condition.{Inside, Ready, outside, flow-fits, tree-fits, Condition, short-ranks, short-flow, short-tree, long-tree, result-of}
 use Rattle.answer.specs.declared.answer.Answer.{Answer}
 use Rattle.compare.proofs.Outcome.{met}
@@ -67,74 +66,59 @@ none-sent k i j = 0
 
 module _ (M N : Table) (s t : ℕ) where
   -- amounts that are right if the pair is kept
-  Fair : (ℕ → Amounts) → Type 0
-  Fair x = s < states-of M → t < states-of N → Kept M N s t → Right M N s t x
-
-  fair-amounts : (x : ℕ → Amounts) × Fair x
-  unfolding Fair
+  fair-amounts : (x : ℕ → Amounts) × RightIfKept M N s t x
   fair-amounts = go (decLt s (states-of M)) (decLt t (states-of N)) (ℕ-discrete (rank M N s t) 0)
     where
-      go : Dec (s < states-of M) → Dec (t < states-of N) → Dec (Kept M N s t) → (x : ℕ → Amounts) × Fair x
+      go : Dec (s < states-of M) → Dec (t < states-of N) → Dec (Kept M N s t) → (x : ℕ → Amounts) × RightIfKept M N s t x
       go (yes a) (yes c) (yes k) = let r = right-amounts M N s t a c k in (r .0, λ _ _ _. r .1)
       go (no a) d k = (none-sent, λ a′ _ _. absurd (a a′))
       go (yes a) (no c) k = (none-sent, λ _ c′ _. absurd (c c′))
       go (yes a) (yes c) (no k) = (none-sent, λ _ _ k′. absurd (k k′))
 
-  module _ (b : Buffers) where
-    -- the condition says what the call does, whatever amounts there are
-    by-condition : {n : ℕ} (c : Condition M N s t b n) {r : Result} (x : ℕ → Amounts) → Fair x → r ≡ result-of M N s t b x c → Compared M N s t b r
-    unfolding Fair
-    by-condition c x f e = record { amounts = x; right = f; result = e ∙ sym (met M N s t b x c) }
+module _ (M N : Table) (room s t : ℕ) (b : Buffers) where
+  -- the condition says what the call does, whatever amounts there are
+  by-condition : {n : ℕ} (c : Condition M N room s t b n) {r : Result} (x : ℕ → Amounts) → RightIfKept M N s t x → r ≡ result-of M N room s t b x c → Compared M N room s t b r
+  by-condition c x f e = record { amounts = x; right = f; result = e ∙ sym (met M N room s t b x c) }
 
-    pub is-outside : {r : Answer} → ¬ Inside M N s t b → r ≡ refusal 11 0 0 → Compared M N s t b (left r b)
-    is-outside h e = by-condition (outside h) (fair-amounts .0) (fair-amounts .1) (ap (λ (q : Answer). left q b) e)
+  pub is-outside : {r : Answer} → ¬ Inside M N s t b → r ≡ refusal 11 0 0 → Compared M N room s t b (left r b)
+  is-outside h e = let x = fair-amounts M N s t in by-condition (outside h) (x .0) (x .1) (ap (λ (q : Answer). left q b) e)
 
-    pub has-short-ranks : {r : Answer} {n : ℕ} → Inside M N s t b → n ≡ pairs M N → length (b .ranks) < n → r ≡ refusal 20 0 n → Compared M N s t b (left r b)
-    has-short-ranks i en h e =
-        by-condition (short-ranks i (omega arith)) (fair-amounts .0) (fair-amounts .1) (ap (λ (q : Answer). left q b) (e ∙ ap (refusal 20 0) en))
+  pub has-short-ranks : {r : Answer} {n : ℕ} → Inside M N s t b → n ≡ pairs M N → length (b .ranks) < n → r ≡ refusal 20 0 n → Compared M N room s t b (left r b)
+  has-short-ranks i en h e =
+      let x = fair-amounts M N s t in
+      by-condition (short-ranks i (omega arith)) (x .0) (x .1) (ap (λ (q : Answer). left q b) (e ∙ ap (refusal 20 0) en))
 
-    module _ (ready : Ready M N s t b) {a r : Answer} (done : (n : ℕ) → with-written n a ≡ success M N s t n) where
-      -- a kept pair: what was shown of its flow is what the call does
-      pub flow-compared : Kept M N s t → {flow′ : List ℕ} → FlowShown M N s t a r (b .flow) flow′ → Compared M N s t b (left r (lent (over (rank-list M N) (b .ranks)) flow′ (b .tree)))
-      unfolding Fair
-      flow-compared k {flow′} f = go (decLt (length (b .flow)) (flow-room M N s))
-        where
-          x : ℕ → Amounts
-          x = f .amounts
+  module _ (ready : Ready M N s t b) {r : Answer} where
+    -- a kept pair: what was shown of its flow is what the call does
+    flow-compared : Kept M N s t → {flow′ : List ℕ} → FlowShown M N room s t (success M N s t 0) r (b .flow) flow′ → Compared M N room s t b (left r (lent (over (rank-list M N) (b .ranks)) flow′ (b .tree)))
+    unfolding success
+    flow-compared k {flow′} f = go (decLt (length (b .flow)) room)
+      where
+        x : ℕ → Amounts
+        x = f .amounts
 
-          at : Answer → List ℕ → Result
-          at q l = left q (lent (over (rank-list M N) (b .ranks)) l (b .tree))
+        at : Answer → List ℕ → Result
+        at q l = left q (lent (over (rank-list M N) (b .ranks)) l (b .tree))
 
-          go : Dec (length (b .flow) < flow-room M N s) → Compared M N s t b (at r flow′)
-          go (yes h) = by-condition (short-flow ready k h) x (λ _ _ _. f .right) (ap₂ at (f .refused h .0) (f .refused h .1))
-          go (no h) =
-              let w = f .written (omega arith) in
-              by-condition (flow-fits ready k (omega arith)) x (λ _ _ _. f .right) (ap₂ at (w .0 ∙ done (length (flow-bytes M N s t x))) (w .1))
+        go : Dec (length (b .flow) < room) → Compared M N room s t b (at r flow′)
+        go (yes h) = by-condition (short-flow ready k h) x (λ _ _ _. f .right) (ap₂ at (f .refused h .0) (f .refused h .1))
+        go (no h) = let w = f .written (omega arith) in by-condition (flow-fits ready k (omega arith)) x (λ _ _ _. f .right) (ap₂ at (w .0) (w .1))
 
-      -- a pair that is not kept
-      pub tree-compared : ¬ Kept M N s t → {tree′ : List ℕ} → TreeShown M N s t a r (b .tree) tree′ → Compared M N s t b (left r (lent (over (rank-list M N) (b .ranks)) (b .flow) tree′))
-      unfolding Fair
-      tree-compared k {tree′} f = go (decLt longest (length (tree-bytes M N s t))) (decLt (length (b .tree)) (length (tree-bytes M N s t)))
-        where
-          at : Answer → List ℕ → Result
-          at q l = left q (lent (over (rank-list M N) (b .ranks)) (b .flow) l)
+    -- a pair that is not kept
+    tree-compared : ¬ Kept M N s t → {tree′ : List ℕ} → TreeShown M N s t (success M N s t 0) r (b .tree) tree′ → Compared M N room s t b (left r (lent (over (rank-list M N) (b .ranks)) (b .flow) tree′))
+    unfolding success
+    tree-compared k {tree′} f = go (decLt longest (length (tree-bytes M N s t))) (decLt (length (b .tree)) (length (tree-bytes M N s t)))
+      where
+        at : Answer → List ℕ → Result
+        at q l = left q (lent (over (rank-list M N) (b .ranks)) (b .flow) l)
 
-          fair : Fair none-sent
-          fair _ _ k′ = absurd (k k′)
+        fair : RightIfKept M N s t none-sent
+        fair _ _ k′ = absurd (k k′)
 
-          go : Dec (longest < length (tree-bytes M N s t)) → Dec (length (b .tree) < length (tree-bytes M N s t)) → Compared M N s t b (at r tree′)
-          go (yes h) d = let w = f .long h in by-condition (long-tree ready k h) none-sent fair (ap₂ at (w .0) (w .1))
-          go (no h) (yes g) = let w = f .refused (omega arith) g in by-condition (short-tree ready k (omega arith) g) none-sent fair (ap₂ at (w .0) (w .1))
-          go (no h) (no g) =
-              let w = f .written (omega arith) (omega arith) in
-              by-condition (tree-fits ready k (omega arith) (omega arith)) none-sent fair (ap₂ at (w .0 ∙ done (length (tree-bytes M N s t))) (w .1))
-
--- the places of pairs are small
-pub place-small : (tables : List ℕ) → BothLoaded tables → {q : ℕ} → q ≡ states-of (second-table tables) → (s t : ℕ) → s < states-of (first-table tables)
-    → t < states-of (second-table tables) → s * q + t < most-pairs
-place-small tables l {q} e s t a b =
-    let p = states-of (first-table tables) in
-    omega (arith, place-below s t p q a (omega arith), count-small (first-form tables) (second-form tables) (l .first) (l .second) {p = p} refl e)
+        go : Dec (longest < length (tree-bytes M N s t)) → Dec (length (b .tree) < length (tree-bytes M N s t)) → Compared M N room s t b (at r tree′)
+        go (yes h) d = let w = f .long h in by-condition (long-tree ready k h) none-sent fair (ap₂ at (w .0) (w .1))
+        go (no h) (yes g) = let w = f .refused (omega arith) g in by-condition (short-tree ready k (omega arith) g) none-sent fair (ap₂ at (w .0) (w .1))
+        go (no h) (no g) = let w = f .written (omega arith) (omega arith) in by-condition (tree-fits ready k (omega arith) (omega arith)) none-sent fair (ap₂ at (w .0) (w .1))
 
 -- the rows of the full relation have every pair
 pub all-open : (r : Relation) → related r ≡ all-below most-states most-states → most-states ≤ height (r .rows) → Open (r .rows)
@@ -145,75 +129,122 @@ all-open r e room =
       all = λ s t a b. ap (λ (R : ℕ → Test). R s t) e ∙ ap₂ _&&_ (lt-ltb s most-states a) (lt-ltb t most-states b);
     }
 
--- an accepted call's answer by its parts; z is the rank of (0, 0)
-abbrev answer-of : (rounds kept z rank written : ℕ) → Answer
-answer-of r k z p n = record { number = 0; table = 0; needed = 0; rounds = r; kept = k; verdict = cond (eqb z 0) 1 0; rank = p; written = n }
+-- an accepted call's answer by its parts, but for what is written; z is the rank of (0, 0)
+abbrev answer-of : (rounds kept z rank : ℕ) → Answer
+answer-of r k z p = record { number = 0; table = 0; needed = 0; rounds = r; kept = k; verdict = cond (eqb z 0) 1 0; rank = p; written = 0 }
 
--- once the ranks are there
-module _ (tables : List ℕ) (loaded : BothLoaded tables) (s t : ℕ) (left-in : s < states-of (first-table tables)) (right-in : t < states-of (second-table tables))
-    {old new rows : List ℕ} {rounds kept : ℕ} (room : pairs (first-table tables) (second-table tables) ≤ length old)
-    (found : RanksFilled tables old new rows rounds kept) where
+-- the chosen pair
+module _ {tables old : List ℕ} {s t : ℕ} (chosen : Chosen tables old s t) where
   abbrev M : Table
   M = first-table tables
 
   abbrev N : Table
   N = second-table tables
 
-  long-enough : pairs M N ≤ length new
-  long-enough = subst (λ (l : List ℕ). pairs M N ≤ length l) (sym (found .ranks-are)) (omega (arith, rank-list-length M N, length-append (rank-list M N) (drop (length (rank-list M N)) old)))
+  pub place-small : {w : ℕ} → w ≡ states-of N → s * w + t < most-pairs
+  place-small {w} e =
+      let all = count-small (first-form tables) (second-form tables) (chosen .loaded .first) (chosen .loaded .second) {p = states-of M} refl e in
+      omega (arith, place-below s t (states-of M) w (chosen .first) (omega (arith, chosen .second)), all)
 
-  here : (u v : ℕ) → u < states-of M → v < states-of N → getD new (u * states-of N + v) 0 ≡ rank M N u v
-  here u v a c =
-      ap (λ (l : List ℕ). getD l (u * states-of N + v) 0) (found .ranks-are)
-      ∙ List·getD-append (rank-list M N) _ 0 (u * states-of N + v) (omega (arith, rank-list-length M N, place-below u v (states-of M) (states-of N) a c))
-      ∙ rank-list-at M N u v a c
+  -- once the ranks are there
+  module _ {new : List ℕ} (are : new ≡ over (rank-list M N) old) where
+    long-enough : pairs M N ≤ length new
+    long-enough =
+        subst (λ (l : List ℕ). pairs M N ≤ length l) (sym are)
+        (omega (arith, chosen .ranks-room, rank-list-length M N, length-append (rank-list M N) (drop (length (rank-list M N)) old)))
 
-  pub ranked-after : RanksRight tables new
-  ranked-after = record { loaded = loaded; enough = long-enough; ranked = here }
+    here : (u v : ℕ) → u < states-of M → v < states-of N → getD new (u * states-of N + v) 0 ≡ rank M N u v
+    here u v a c =
+        ap (λ (l : List ℕ). getD l (u * states-of N + v) 0) are
+        ∙ List·getD-append (rank-list M N) _ 0 (u * states-of N + v) (omega (arith, rank-list-length M N, place-below u v (states-of M) (states-of N) a c))
+        ∙ rank-list-at M N u v a c
 
-  module _ {w : ℕ} (width : w ≡ states-of N) where
-    pub place-after : s * w + t < length new
-    place-after = subst (λ (v : ℕ). s * v + t < length new) (sym width) (omega (arith, place-below s t (states-of M) (states-of N) left-in right-in, long-enough))
+    pub ranked-after : RanksRight tables new
+    ranked-after = record { loaded = chosen .loaded; enough = long-enough; ranked = here }
 
-    pub rank-after : getD new (s * w + t) 0 ≡ rank M N s t
-    rank-after = ap (λ (v : ℕ). getD new (s * v + t) 0) width ∙ here s t left-in right-in
+    pub place-after : {w : ℕ} → w ≡ states-of N → s * w + t < length new
+    place-after width =
+        subst (λ (v : ℕ). s * v + t < length new) (sym width)
+        (omega (arith, place-below s t (states-of M) (states-of N) (chosen .first) (chosen .second), long-enough))
 
-    -- the pair, kept or not
-    pub chosen-after : {amounts : List ℕ} → most-states ≤ height rows → most-pairs ≤ length amounts → getD new (s * w + t) 0 ≡ 0 → KeptPair tables rows amounts s t
-    chosen-after a b z =
+  -- by what a ranking gives
+  module _ {new rows : List ℕ} {rounds kept w : ℕ} (found : RanksFilled tables old new rows rounds kept) (width : w ≡ states-of N) where
+    rank-here : getD new (s * w + t) 0 ≡ rank M N s t
+    rank-here = ap (λ (v : ℕ). getD new (s * v + t) 0) width ∙ here (found .ranks-are) s t (chosen .first) (chosen .second)
+
+    pub kept-after : {amounts : List ℕ} → most-states ≤ height rows → most-pairs ≤ length amounts → getD new (s * w + t) 0 ≡ 0 → KeptPair tables rows amounts s t
+    kept-after a b z =
         record {
-          loaded = loaded;
+          loaded = chosen .loaded;
           rows-room = a;
           rows-kept = found .rows-are;
           amounts-room = b;
-          first = left-in;
-          second = right-in;
-          kept = sym rank-after ∙ z;
+          first = chosen .first;
+          second = chosen .second;
+          kept = sym rank-here ∙ z;
         }
 
-    pub lost-after : getD new (s * w + t) 0 ≢ 0 → Lost tables s t
-    lost-after z = record { left = left-in; right = right-in; fell = omega (arith, rank-after, z) }
-
     module _ {a : Answer} (is : a ≡ found-answer new (s * w + t) rounds kept) where
-      done-after : (n : ℕ) → with-written n a ≡ success M N s t n
+      answer-after : a ≡ success M N s t 0
       unfolding success
-      done-after n =
-          ap (with-written n) is
-          ∙ ap₂ (λ (r k : ℕ). answer-of r k (getD new 0 0) (getD new (s * w + t) 0) n) (found .rounds-are) (found .kept-are)
-          ∙ ap₂ (λ (z p : ℕ). answer-of (maximum (rank-list M N)) (zeros (rank-list M N)) z p n) start rank-after
+      answer-after =
+          is
+          ∙ ap₂ (λ (r k : ℕ). answer-of r k (getD new 0 0) (getD new (s * w + t) 0)) (found .rounds-are) (found .kept-are)
+          ∙ ap₂ (λ (z p : ℕ). answer-of (maximum (rank-list M N)) (zeros (rank-list M N)) z p) start rank-here
         where
           start : getD new 0 0 ≡ rank M N 0 0
-          start = ap (λ (k : ℕ). getD new k 0) (let z : 0 ≡ 0 * states-of N + 0 = omega (arith, zero-mul (states-of N)) in z) ∙ here 0 0 (omega arith) (omega arith)
+          start =
+              ap (λ (k : ℕ). getD new k 0) (let z : 0 ≡ 0 * states-of N + 0 = omega (arith, zero-mul (states-of N)) in z)
+              ∙ here (found .ranks-are) 0 0 (omega (arith, chosen .first)) (omega (arith, chosen .second))
 
-      ready : (flow tree : List ℕ) → Ready M N s t (lent old flow tree)
-      ready flow tree = ((left-in, right-in), room)
+      -- what ranking leaves, of a kept pair and of another
+      module _ {room : ℕ} {flow : List ℕ} where
+        pub flow-ranked : {r : Answer} {flow′ : List ℕ} → getD new (s * w + t) 0 ≡ 0 → FlowShown M N room s t a r flow flow′ → PairRanked M N room s t r old new flow flow′
+        flow-ranked {r} {flow′} z h =
+            record {
+              ranks-are = found .ranks-are;
+              if-kept = λ _. subst (λ (q : Answer). FlowShown M N room s t q r flow flow′) answer-after h;
+              if-fallen = λ n. absurd (n (sym rank-here ∙ z));
+            }
 
-      pub flow-after : {q : Answer} {flow flow′ tree : List ℕ} → getD new (s * w + t) 0 ≡ 0 → FlowShown M N s t a q flow flow′ → Compared M N s t (lent old flow tree) (left q (lent new flow′ tree))
-      flow-after {q} {flow} {flow′} {tree} z h =
-          subst (λ (l : List ℕ). Compared M N s t (lent old flow tree) (left q (lent l flow′ tree))) (sym (found .ranks-are))
-          (flow-compared M N s t (lent old flow tree) (ready flow tree) done-after (sym rank-after ∙ z) h)
+        pub other-ranked : getD new (s * w + t) 0 ≢ 0 → PairRanked M N room s t a old new flow flow
+        other-ranked z = record { ranks-are = found .ranks-are; if-kept = λ k. absurd (z (rank-here ∙ k)); if-fallen = λ _. (answer-after, refl) }
 
-      pub tree-after : {q : Answer} {flow tree tree′ : List ℕ} → getD new (s * w + t) 0 ≢ 0 → TreeShown M N s t a q tree tree′ → Compared M N s t (lent old flow tree) (left q (lent new flow tree′))
-      tree-after {q} {flow} {tree} {tree′} z h =
-          subst (λ (l : List ℕ). Compared M N s t (lent old flow tree) (left q (lent l flow tree′))) (sym (found .ranks-are))
-          (tree-compared M N s t (lent old flow tree) (ready flow tree) done-after (λ k. z (rank-after ∙ k)) h)
+  -- what there is to show after that
+  module _ {room : ℕ} {a : Answer} {new flow flow′ : List ℕ} (ranked : PairRanked M N room s t a old new flow flow′) where
+    -- the answer's rank tells whether the pair is kept
+    rank-told : Kept M N s t → a .rank ≡ 0
+    unfolding success
+    rank-told k = go (decLt (length flow) room)
+      where
+        go : Dec (length flow < room) → a .rank ≡ 0
+        go (yes h) = ap (λ (q : Answer). q .rank) (ranked .if-kept k .refused h .0)
+        go (no h) = ap (λ (q : Answer). q .rank) (ranked .if-kept k .written (omega arith) .0) ∙ k
+
+    is-kept : a .rank ≡ 0 → Kept M N s t
+    unfolding success
+    is-kept z = go (ℕ-discrete (rank M N s t) 0)
+      where
+        go : Dec (Kept M N s t) → Kept M N s t
+        go (yes k) = k
+        go (no n) = sym (ap (λ (q : Answer). q .rank) (ranked .if-fallen n .0)) ∙ z
+
+    pub lost-after : a .rank ≢ 0 → Lost tables s t
+    lost-after z = record { left = chosen .first; right = chosen .second; fell = let n : rank M N s t ≢ 0 = λ k. z (rank-told k) in omega (arith, n) }
+
+    ready : (tree : List ℕ) → Ready M N s t (lent old flow tree)
+    ready tree = ((chosen .first, chosen .second), chosen .ranks-room)
+
+    module _ {tree : List ℕ} where
+      pub flow-after : a .rank ≡ 0 → Compared M N room s t (lent old flow tree) (left a (lent new flow′ tree))
+      flow-after z =
+          subst (λ (l : List ℕ). Compared M N room s t (lent old flow tree) (left a (lent l flow′ tree))) (sym (ranked .ranks-are))
+          (flow-compared M N room s t (lent old flow tree) (ready tree) (is-kept z) (ranked .if-kept (is-kept z)))
+
+      pub tree-after : {q : Answer} {tree′ : List ℕ} → a .rank ≢ 0 → TreeShown M N s t a q tree tree′ → Compared M N room s t (lent old flow tree) (left q (lent new flow′ tree′))
+      tree-after {q} {tree′} z h =
+          let n : ¬ Kept M N s t = λ k. z (rank-told k) in
+          let e = ranked .if-fallen n in
+          subst (λ (l : List ℕ). Compared M N room s t (lent old flow tree) (left q (lent new l tree′))) (sym (e .1))
+          (subst (λ (l : List ℕ). Compared M N room s t (lent old flow tree) (left q (lent l flow tree′))) (sym (ranked .ranks-are))
+          (tree-compared M N room s t (lent old flow tree) (ready tree) n (subst (λ (p : Answer). TreeShown M N s t p q tree tree′) (e .0) h)))

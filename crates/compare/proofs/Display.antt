@@ -19,9 +19,9 @@ use Rattle.compare.specs.Condition.{Condition, outside, short-ranks, sho
 abbrev pub handed : Result → List ℕ
 handed r = filled-part (r .buffers .flow) (r .buffers .tree) (r .answer .rank) (r .answer .written)
 
-module _ (M N : Table) (s t : ℕ) (b : Buffers) (x : ℕ → Amounts) where
+module _ (M N : Table) (room s t : ℕ) (b : Buffers) (x : ℕ → Amounts) where
   -- the bytes that a call writes
-  unfoldable pub written-by : {n : ℕ} → Condition M N s t b n → List ℕ
+  unfoldable pub written-by : {n : ℕ} → Condition M N room s t b n → List ℕ
   written-by (outside _) = []
   written-by (short-ranks _ _) = []
   written-by (short-flow _ _ _) = []
@@ -30,7 +30,7 @@ module _ (M N : Table) (s t : ℕ) (b : Buffers) (x : ℕ → Amounts) where
   written-by (flow-fits _ _ _) = flow-bytes M N s t x
   written-by (tree-fits _ _ _ _) = tree-bytes M N s t
 
-  pub handed-written : {n : ℕ} (c : Condition M N s t b n) → handed (result-of M N s t b x c) ≡ written-by c
+  pub handed-written : {n : ℕ} (c : Condition M N room s t b n) → handed (result-of M N room s t b x c) ≡ written-by c
   unfolding success written-by filled-part
   handed-written (outside _) = first-none (b .flow)
   handed-written (short-ranks _ _) = first-none (b .flow)

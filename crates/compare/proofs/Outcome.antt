@@ -13,14 +13,14 @@ use Rattle.simulation.specs.Table.{Table, states-of}
 use Rattle.simulation.specs.Round.{pairs, rank}
 use Rattle.simulation.specs.Demands.{Kept}
 use Rattle.simulation.proofs.Finite.Tests.{is-true, is-false, or-cases, or-left, or-right, same-eqb}
-use Rattle.flows.specs.Flow.{flow-room, flow-bytes}
+use Rattle.flows.specs.Flow.{flow-bytes}
 use Rattle.counting.specs.Count.{longest}
 use Rattle.compare.specs.Outcome.{Buffers, Result, success, with-flow, with-tree, kept-outcome, fallen-outcome, outcome, ranked}
 use Rattle.simulation.specs.Tree.{tree-bytes}
 use Rattle.answer.specs.Numbers.{refusal}
 use Rattle.compare.specs.Condition.{Inside, Condition, short-ranks, short-flow, short-tree, long-tree, result-of, Ready, outside, flow-fits, tree-fits}
 
-module _ (M N : Table) (s t : ℕ) (b : Buffers) (x : ℕ → Amounts) where
+module _ (M N : Table) (room s t : ℕ) (b : Buffers) (x : ℕ → Amounts) where
   -- a call by the results of its six tests
   shaped : (out few kept short-flow long short-tree : Bool) → Result
   shaped o f k w l u = elim o [
@@ -29,7 +29,7 @@ module _ (M N : Table) (s t : ℕ) (b : Buffers) (x : ℕ → Amounts) where
       | true ↦ record { answer = refusal 20 0 (pairs M N); buffers = b }
       | false ↦ elim k [
         | true ↦ elim w [
-          | true ↦ record { answer = refusal 21 0 (flow-room M N s); buffers = ranked M N b }
+          | true ↦ record { answer = refusal 21 0 room; buffers = ranked M N b }
           | false ↦ record { answer = success M N s t (length (flow-bytes M N s t x)); buffers = with-flow M N (flow-bytes M N s t x) b }
         ]
         | false ↦ elim l [
@@ -53,7 +53,7 @@ module _ (M N : Table) (s t : ℕ) (b : Buffers) (x : ℕ → Amounts) where
   K = eqb (rank M N s t) 0
 
   abbrev W : Bool
-  W = ltb (length (b .flow)) (flow-room M N s)
+  W = ltb (length (b .flow)) room
 
   abbrev L : Bool
   L = ltb longest (length (tree-bytes M N s t))
@@ -61,7 +61,7 @@ module _ (M N : Table) (s t : ℕ) (b : Buffers) (x : ℕ → Amounts) where
   abbrev U : Bool
   U = ltb (length (b .tree)) (length (tree-bytes M N s t))
 
-  outcome-shaped : outcome M N s t b x ≡ shaped O F K W L U
+  outcome-shaped : outcome M N room s t b x ≡ shaped O F K W L U
   unfolding outcome kept-outcome fallen-outcome shaped
   outcome-shaped = refl
 
@@ -100,12 +100,12 @@ module _ (M N : Table) (s t : ℕ) (b : Buffers) (x : ℕ → Amounts) where
   ready : Ready M N s t b → shaped O F K W L U ≡ shaped false false K W L U
   ready r = ap (λ (o : Bool). shaped o F K W L U) (is-inside (r .0)) ∙ ap (λ (f : Bool). shaped false f K W L U) (not-below (length (b .ranks)) (pairs M N) (r .1))
 
-  pub met : {n : ℕ} (c : Condition M N s t b n) → outcome M N s t b x ≡ result-of M N s t b x c
+  pub met : {n : ℕ} (c : Condition M N room s t b n) → outcome M N room s t b x ≡ result-of M N room s t b x c
   unfolding shaped
   met (outside h) = outcome-shaped ∙ ap (λ (o : Bool). shaped o F K W L U) (is-outside h)
   met (short-ranks i h) = outcome-shaped ∙ ap (λ (o : Bool). shaped o F K W L U) (is-inside i) ∙ ap (λ (f : Bool). shaped false f K W L U) (below (length (b .ranks)) (pairs M N) h)
-  met (short-flow r k h) = outcome-shaped ∙ ready r ∙ ap (λ (k : Bool). shaped false false k W L U) (is-kept k) ∙ ap (λ (w : Bool). shaped false false true w L U) (below (length (b .flow)) (flow-room M N s) h)
-  met (flow-fits r k h) = outcome-shaped ∙ ready r ∙ ap (λ (k : Bool). shaped false false k W L U) (is-kept k) ∙ ap (λ (w : Bool). shaped false false true w L U) (not-below (length (b .flow)) (flow-room M N s) h)
+  met (short-flow r k h) = outcome-shaped ∙ ready r ∙ ap (λ (k : Bool). shaped false false k W L U) (is-kept k) ∙ ap (λ (w : Bool). shaped false false true w L U) (below (length (b .flow)) room h)
+  met (flow-fits r k h) = outcome-shaped ∙ ready r ∙ ap (λ (k : Bool). shaped false false k W L U) (is-kept k) ∙ ap (λ (w : Bool). shaped false false true w L U) (not-below (length (b .flow)) room h)
   met (long-tree r k h) = outcome-shaped ∙ ready r ∙ ap (λ (k : Bool). shaped false false k W L U) (is-fallen k) ∙ ap (λ (l : Bool). shaped false false false W l U) (below longest (length (tree-bytes M N s t)) h)
   met (short-tree r k h g) =
       outcome-shaped ∙ ready r ∙ ap (λ (k : Bool). shaped false false k W L U) (is-fallen k) ∙ ap (λ (l : Bool). shaped false false false W l U) (not-below longest (length (tree-bytes M N s t)) h)
@@ -115,32 +115,32 @@ module _ (M N : Table) (s t : ℕ) (b : Buffers) (x : ℕ → Amounts) where
       ∙ ap (λ (u : Bool). shaped false false false W false u) (not-below (length (b .tree)) (length (tree-bytes M N s t)) g)
 
   -- some condition holds
-  pub some-condition : (n : ℕ) × Condition M N s t b n
+  pub some-condition : (n : ℕ) × Condition M N room s t b n
   some-condition = place (decLt s (states-of M)) (decLt t (states-of N))
     where
-      in-tree : Ready M N s t b → ¬ Kept M N s t → Dec (longest < length (tree-bytes M N s t)) → Dec (length (b .tree) < length (tree-bytes M N s t)) → (n : ℕ) × Condition M N s t b n
+      in-tree : Ready M N s t b → ¬ Kept M N s t → Dec (longest < length (tree-bytes M N s t)) → Dec (length (b .tree) < length (tree-bytes M N s t)) → (n : ℕ) × Condition M N room s t b n
       in-tree r k (yes h) d = (23, long-tree r k h)
       in-tree r k (no h) (yes g) = (22, short-tree r k (omega arith) g)
       in-tree r k (no h) (no g) = (0, tree-fits r k (omega arith) (omega arith))
 
-      in-flow : Ready M N s t b → Kept M N s t → Dec (length (b .flow) < flow-room M N s) → (n : ℕ) × Condition M N s t b n
+      in-flow : Ready M N s t b → Kept M N s t → Dec (length (b .flow) < room) → (n : ℕ) × Condition M N room s t b n
       in-flow r k (yes h) = (21, short-flow r k h)
       in-flow r k (no h) = (0, flow-fits r k (omega arith))
 
-      chosen : Ready M N s t b → Dec (rank M N s t ≡ 0) → (n : ℕ) × Condition M N s t b n
-      chosen r (yes k) = in-flow r k (decLt (length (b .flow)) (flow-room M N s))
+      chosen : Ready M N s t b → Dec (rank M N s t ≡ 0) → (n : ℕ) × Condition M N room s t b n
+      chosen r (yes k) = in-flow r k (decLt (length (b .flow)) room)
       chosen r (no k) = in-tree r k (decLt longest (length (tree-bytes M N s t))) (decLt (length (b .tree)) (length (tree-bytes M N s t)))
 
-      room : Inside M N s t b → Dec (length (b .ranks) < pairs M N) → (n : ℕ) × Condition M N s t b n
-      room i (yes h) = (20, short-ranks i h)
-      room i (no h) = chosen (i, omega arith) (ℕ-discrete (rank M N s t) 0)
+      with-ranks : Inside M N s t b → Dec (length (b .ranks) < pairs M N) → (n : ℕ) × Condition M N room s t b n
+      with-ranks i (yes h) = (20, short-ranks i h)
+      with-ranks i (no h) = chosen (i, omega arith) (ℕ-discrete (rank M N s t) 0)
 
-      place : Dec (s < states-of M) → Dec (t < states-of N) → (n : ℕ) × Condition M N s t b n
+      place : Dec (s < states-of M) → Dec (t < states-of N) → (n : ℕ) × Condition M N room s t b n
       place (no h) d = (11, outside (λ i. h (i .0)))
       place (yes h) (no g) = (11, outside (λ i. g (i .1)))
-      place (yes h) (yes g) = room (h, g) (decLt (length (b .ranks)) (pairs M N))
+      place (yes h) (yes g) = with-ranks (h, g) (decLt (length (b .ranks)) (pairs M N))
 
-  pub number-met : {n : ℕ} (c : Condition M N s t b n) → result-of M N s t b x c .answer .number ≡ n
+  pub number-met : {n : ℕ} (c : Condition M N room s t b n) → result-of M N room s t b x c .answer .number ≡ n
   unfolding success
   number-met (outside h) = refl
   number-met (short-ranks i h) = refl
@@ -151,11 +151,11 @@ module _ (M N : Table) (s t : ℕ) (b : Buffers) (x : ℕ → Amounts) where
   number-met (tree-fits r k h g) = refl
 
   -- each number exactly under its condition
-  pub numbered : (n : ℕ) → (outcome M N s t b x .answer .number ≡ n) ↔ Condition M N s t b n
+  pub numbered : (n : ℕ) → (outcome M N room s t b x .answer .number ≡ n) ↔ Condition M N room s t b n
   numbered n = (
-    λ e. subst (Condition M N s t b) (sym (given (some-condition .1)) ∙ e) (some-condition .1),
+    λ e. subst (Condition M N room s t b) (sym (given (some-condition .1)) ∙ e) (some-condition .1),
     λ c. given c,
   )
     where
-      given : {n : ℕ} → Condition M N s t b n → outcome M N s t b x .answer .number ≡ n
+      given : {n : ℕ} → Condition M N room s t b n → outcome M N room s t b x .answer .number ≡ n
       given c = ap (λ (r : Result). r .answer .number) (met c) ∙ number-met c

@@ -11,7 +11,7 @@ use Rattle.simulation.specs.Table.{Table, states-of}
 use Rattle.simulation.specs.Round.{pairs, rank, rank-list, maximum, zeros}
 use Rattle.counting.specs.Count.{longest}
 use Rattle.buffer.specs.Buffer.{over}
-use Rattle.flows.specs.Flow.{flow-bytes, flow-room}
+use Rattle.flows.specs.Flow.{flow-bytes}
 use Rattle.simulation.specs.Tree.{tree-bytes}
 use Rattle.answer.specs.declared.answer.Answer.{Answer}
 use Rattle.answer.specs.Numbers.{refusal}
@@ -56,11 +56,11 @@ module _ (M N : Table) where
   abbrev pub with-tree : List ℕ → Buffers → Buffers
   with-tree bytes b = record { ranks = over (rank-list M N) (b .ranks); flow = b .flow; tree = over bytes (b .tree) }
 
-  -- a kept pair; the amounts x are free, and right
-  unfoldable pub kept-outcome : ℕ → ℕ → Buffers → (ℕ → Amounts) → Result
-  unfolding flow-room flow-bytes success
-  kept-outcome s t b x = elim (ltb (length (b .flow)) (flow-room M N s)) [
-    | true ↦ record { answer = refusal 21 0 (flow-room M N s); buffers = ranked b }
+  -- a kept pair, where the flow buffer must have the room asked; the amounts x are free, and right
+  unfoldable pub kept-outcome : (room s t : ℕ) → Buffers → (ℕ → Amounts) → Result
+  unfolding flow-bytes success
+  kept-outcome room s t b x = elim (ltb (length (b .flow)) room) [
+    | true ↦ record { answer = refusal 21 0 room; buffers = ranked b }
     | false ↦ record { answer = success s t (length (flow-bytes M N s t x)); buffers = with-flow (flow-bytes M N s t x) b }
   ]
 
@@ -76,12 +76,12 @@ module _ (M N : Table) where
   ]
 
   -- a call on two accepted tables
-  unfoldable pub outcome : ℕ → ℕ → Buffers → (ℕ → Amounts) → Result
+  unfoldable pub outcome : (room s t : ℕ) → Buffers → (ℕ → Amounts) → Result
   unfolding kept-outcome fallen-outcome rank
-  outcome s t b x = elim (leb (states-of M) s || leb (states-of N) t) [
+  outcome room s t b x = elim (leb (states-of M) s || leb (states-of N) t) [
     | true ↦ record { answer = refusal 11 0 0; buffers = b }
     | false ↦ elim (ltb (length (b .ranks)) (pairs M N)) [
       | true ↦ record { answer = refusal 20 0 (pairs M N); buffers = b }
-      | false ↦ elim (eqb (rank M N s t) 0) [ true ↦ kept-outcome s t b x | false ↦ fallen-outcome s t b ]
+      | false ↦ elim (eqb (rank M N s t) 0) [ true ↦ kept-outcome room s t b x | false ↦ fallen-outcome s t b ]
     ]
   ]

@@ -9,14 +9,14 @@ use relation::ranks;
 use simulation::Table;
 ghost use mathlib.Core.Path.{_≡_};
 ghost use mathlib.Core.Bool.{_||_};
-ghost use Prim.Native.Nat.{_*_, _≤_, _<_};
+ghost use Prim.Native.Nat.{_≤_, _<_};
 ghost use lib.Dec.{leb};
 ghost use lib.ListN.{length};
-ghost use Rattle.simulation.specs.Table.{states-of};
-ghost use Rattle.simulation.specs.Round.{pairs};
+ghost use Rattle.simulation.specs.Limits.{most-pairs};
 ghost use Rattle.form.specs.Tables.{first-table, second-table, BothLoaded};
+ghost use Rattle.witness.specs.Shown.{room-asked};
 ghost use Rattle.compare.specs.Outcome.{lent, left};
-ghost use Rattle.compare.specs.Steps.{found-answer, Compared};
+ghost use Rattle.compare.specs.Steps.{Chosen, PairRanked, found-answer, Compared};
 
 // The answer of an accepted call, but for what is written.
 fn found(ranks: &[u16], place: usize, rounds: u16, kept: u16) -> Answer
@@ -37,6 +37,32 @@ fn found(ranks: &[u16], place: usize, rounds: u16, kept: u16) -> Answer
     }
 }
 
+// Ranks for all pairs, and the flow of (s, t) if it is kept. If it is not, the answer says all but what will be written. Its rank tells
+// which: a kept pair has 0, also where its flow has no room.
+// This is apart from `show` so that the rows are gone before a tree is written: its arrays then lie in their place on the stack.
+fn rank_pairs(
+    tables: &[u16],
+    s: usize,
+    t: usize,
+    ranks: &mut [u16],
+    amounts: &mut [u32],
+    flow: &mut [u8],
+) -> Answer
+    requires { ⌜ Chosen (now tables) (now ranks) s t × (most-pairs ≤ length (now amounts)) ⌝ }
+    ensures { λ r. ⌜ PairRanked (first-table (now (tables .entry))) (second-table (now (tables .entry))) (room-asked (now (tables .entry)) s) s t r
+        (now (ranks .entry)) (now (ranks .exit)) (now (flow .entry)) (now (flow .exit)) ⌝ }
+{
+    let all = Relation::full();
+    let mut rows = all.rows;
+    let r = ranking::rank(tables, ranks, &mut rows, amounts);
+    let place = s * tables::states(tables, Form::SECOND) + t;
+    let a = found(ranks, place, r.rounds, r.kept);
+    if ranks[place] == 0 {
+        return witness::show_flow(tables, &rows, s, t, a, amounts, flow);
+    }
+    a
+}
+
 // Ranks for all pairs, then what there is to show of (s, t).
 fn show(
     tables: &[u16],
@@ -46,19 +72,14 @@ fn show(
     flow: &mut [u8],
     tree: &mut [u8],
 ) -> Answer
-    requires { ⌜ BothLoaded (now tables) × (s < states-of (first-table (now tables))) × (t < states-of (second-table (now tables)))
-        × (pairs (first-table (now tables)) (second-table (now tables)) ≤ length (now ranks)) ⌝ }
-    ensures { λ r. ⌜ Compared (first-table (now (tables .entry))) (second-table (now (tables .entry))) s t
+    requires { ⌜ Chosen (now tables) (now ranks) s t ⌝ }
+    ensures { λ r. ⌜ Compared (first-table (now (tables .entry))) (second-table (now (tables .entry))) (room-asked (now (tables .entry)) s) s t
         (lent (now (ranks .entry)) (now (flow .entry)) (now (tree .entry))) (left r (lent (now (ranks .exit)) (now (flow .exit)) (now (tree .exit)))) ⌝ }
 {
     let mut amounts = [1u32; Table::PAIRS];
-    let all = Relation::full();
-    let mut rows = all.rows;
-    let r = ranking::rank(tables, ranks, &mut rows, &mut amounts);
-    let place = s * tables::states(tables, Form::SECOND) + t;
-    let a = found(ranks, place, r.rounds, r.kept);
-    if ranks[place] == 0 {
-        return witness::show_flow(tables, &rows, s, t, a, &mut amounts, flow);
+    let a = rank_pairs(tables, s, t, ranks, &mut amounts, flow);
+    if a.rank == 0 {
+        return a;
     }
     witness::show_tree(tables, ranks, s, t, a, &mut amounts, tree)
 }
@@ -80,7 +101,7 @@ pub fn compare_tables(
     tree: &mut [u8],
 ) -> Answer
     requires { ⌜ BothLoaded (now tables) ⌝ }
-    ensures { λ r. ⌜ Compared (first-table (now (tables .entry))) (second-table (now (tables .entry))) s t
+    ensures { λ r. ⌜ Compared (first-table (now (tables .entry))) (second-table (now (tables .entry))) (room-asked (now (tables .entry)) s) s t
         (lent (now (ranks .entry)) (now (flow .entry)) (now (tree .entry))) (left r (lent (now (ranks .exit)) (now (flow .exit)) (now (tree .exit)))) ⌝ }
 {
     let p = tables::states(tables, Form::FIRST);

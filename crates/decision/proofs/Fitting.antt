@@ -9,11 +9,10 @@ use borrow.Author.Tests.{eqb-true}
 use lib.Dec.{T, eqb}
 use lib.ListN.{length}
 use Rattle.simulation.specs.Limits.{most-states}
-use Rattle.simulation.specs.Fit.{weight, total, fits?}
+use Rattle.simulation.specs.Fit.{total, fits?}
 use Rattle.simulation.specs.Table.{Transition, weights, targets, target-at, states-of}
 use Rattle.simulation.specs.Round.{Relation, between}
 use Rattle.simulation.proofs.Simulation.Relation.{relation-at}
-use Rattle.simulation.proofs.Fit.Gain.{total-positive}
 use Rattle.simulation.proofs.Fit.Agree.{Agree, fits-agree}
 use Rattle.simulation.proofs.Fit.Quick.{fits-full, misfit-row, misfit-column}
 use Rattle.word.specs.Mask.{member}
@@ -22,7 +21,7 @@ use Rattle.relation.specs.Related.{holds}
 use Rattle.matrix.specs.Problem.{Sides, joins}
 use Rattle.form.specs.Form.{Loaded, transitions-of, transition-at}
 use Rattle.form.specs.Tables.{first-form, second-form, first-table, second-table, first-step, second-step}
-use Rattle.form.proofs.FormLaws.{limits, limited-at, distribution-at, weights-length, targets-length}
+use Rattle.form.proofs.FormLaws.{limits, limited-at, distribution-at, positive-at, weights-length, targets-length}
 use Rattle.transport.specs.Answer.{MaximumFlow}
 use Rattle.gather.specs.Places.{Places, Ascending, Gathered}
 use Rattle.decision.specs.Fitting.{relation-of, fitting, Asked, SharedOut}
@@ -47,12 +46,8 @@ places-of n f loaded j b room =
           );
     }
 
--- no weight of it is zero
-positive-at : (f : List ℕ) (loaded : Loaded f) (j : ℕ) → j < transitions-of f → (i : ℕ) → i < length (weights (transition-at f j)) → 0 < weight (weights (transition-at f j)) i
-positive-at f loaded j b i a = distribution-at f loaded j b .positive i (omega (arith, weights-length (transition-at f j)))
-
 total-at : (f : List ℕ) (loaded : Loaded f) (j : ℕ) → j < transitions-of f → 0 < total (weights (transition-at f j))
-total-at f loaded j b = total-positive (weights (transition-at f j)) (limited-at f loaded j b .some) (positive-at f loaded j b)
+total-at f loaded j b = distribution-at f loaded j b .counted
 
 -- a test as it was told
 abbrev pub Tells : Bool → FromBounds → Type 0

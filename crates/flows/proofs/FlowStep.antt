@@ -6,7 +6,7 @@ use Prim.Native.Nat.{ℕ, _+_, _*_, _≤_, _<_}
 use native.Mathlib.Nat.{mul-le-mul-left}
 use native.Mathlib.Omega.{arith}
 use lib.ListN.{length, getD}
-use Rattle.simulation.specs.Table.{Transition, Table, targets, states-of, steps, transition}
+use Rattle.simulation.specs.Table.{Transition, targets, states-of, steps, transition}
 use Rattle.form.specs.Form.{Loaded, table-of, start-of, transitions-of, transition-at}
 use Rattle.form.specs.Tables.{first-form, second-form, first-step, second-step}
 use Rattle.form.proofs.Sound.{few-targets}
@@ -28,10 +28,10 @@ pub few-second : (g : List ℕ) → Loaded g → (j : ℕ) → j < transitions-o
 few-second g l j h = omega (arith, few-targets (states-of (table-of g)) (transition-at g j) (distribution-at g l j h), states-count g, targets-length (transition-at g j))
 
 -- so the flow of m over n has room
-pub room-enough : (N : Table) (m n : Transition) → length (targets n) ≤ states-of N → 3 + length (targets m) * (length (targets n) * 6) ≤ step-room N m
-room-enough N m n h =
+pub room-enough : {q : ℕ} (m n : Transition) → length (targets n) ≤ q → 3 + length (targets m) * (length (targets n) * 6) ≤ step-room q (length (m .entries))
+room-enough {q} m n h =
     let a = targets-length m in
-    let b : 6 * length (m .entries) * length (targets n) ≤ 6 * length (m .entries) * states-of N = mul-le-mul-left (6 * length (m .entries)) h in
+    let b : 6 * length (m .entries) * length (targets n) ≤ 6 * length (m .entries) * q = mul-le-mul-left (6 * length (m .entries)) h in
     let c : length (targets m) * (length (targets n) * 6) ≡ 6 * length (m .entries) * length (targets n) = ap (λ (p : ℕ). p * (length (targets n) * 6)) a ∙ omega arith in
     omega arith
 
@@ -53,7 +53,7 @@ module _ {tables rows x x′ : List ℕ} {j t r : ℕ} (q : Sought tables rows x
     step-is = ap (λ (k : ℕ). transition-at g (k + r)) e ∙ transition-of g (q .loaded .second) t r (q .state) (found .below)
 
     module _ {mt nt : List ℕ} (em : mt ≡ targets m) (en : nt ≡ targets (second-step tables (start + r))) where
-      pub step-asked : {room : ℕ} → length x′ ≡ length x → step-room (table-of g) m ≤ room → (r < 256) × Records mt nt x′ × (3 + length mt * (length nt * 6) ≤ room)
+      pub step-asked : {room : ℕ} → length x′ ≡ length x → step-room (states-of (table-of g)) (length (m .entries)) ≤ room → (r < 256) × Records mt nt x′ × (3 + length mt * (length nt * 6) ≤ room)
       step-asked {room} size h =
           let n = second-step tables (start + r) in
           let lm = limited-at f (q .loaded .first) j (q .from-first) in
@@ -67,7 +67,7 @@ module _ {tables rows x x′ : List ℕ} {j t r : ℕ} (q : Sought tables rows x
               cells = omega (arith, q .amounts-room);
             })),
             subst (λ l. 3 + length l * (length nt * 6) ≤ room) (sym em) (subst (λ l. 3 + length (targets m) * (length l * 6) ≤ room) (sym en)
-                (omega (arith, room-enough (table-of g) m n (few-second g (q .loaded .second) (start + r) step-number)))),
+                (omega (arith, room-enough m n (few-second g (q .loaded .second) (start + r) step-number)))),
           )
 
       pub step-shown : {w : ℕ} {old new : List ℕ} → KeptIn tables rows → Filled (flow-of r mt nt (cell x′)) w old new

@@ -12,7 +12,7 @@ use lib.ListN.{length, set, length-set}
 use borrow.Author.Tests.{eq-eqb, ne-eqb}
 use Rattle.simulation.specs.Limits.{most-transitions, most-of-state}
 use Rattle.simulation.specs.Fit.{Amounts}
-use Rattle.simulation.specs.Table.{Table, targets, states-of, steps, transition}
+use Rattle.simulation.specs.Table.{Transition, Table, targets, states-of, steps, transition}
 use Rattle.simulation.specs.Round.{fits-step, pairs}
 use Rattle.simulation.proofs.Simulation.Rounds.{in-matched}
 use Rattle.simulation.proofs.Simulation.Greatest.{kept-in}
@@ -23,7 +23,7 @@ use Rattle.decision.specs.Fitting.{relation-of, SharesIn}
 use Rattle.fit.specs.Partner.{Sought}
 use Rattle.matrix.specs.Matrix.{cell}
 use Rattle.buffer.specs.Buffer.{Filled}
-use Rattle.flows.specs.Flow.{kept-relation, one-flow, place-of, partner, step-room, Right, flow-bytes, flow-room}
+use Rattle.flows.specs.Flow.{kept-relation, one-flow, place-of, partner, step-room, room-for, Right, flow-bytes, flow-room}
 use Rattle.flows.specs.FlowSteps.{Shown, KeptPair, Flowed}
 use Rattle.buffer.proofs.Buffer.{part-from, back}
 use Rattle.flows.proofs.Pieces.{Plan, Going, going-start, going-within, going-room, going-fits, going-next, going-end, going-ext, stored, stored-past}
@@ -118,7 +118,7 @@ module _ {tables rows x : List ℕ} {s t start : ℕ} (p : Pair tables rows x s 
       }
 
   -- the flow of a transition has room
-  pub most : (xs : ℕ → Amounts) (k : ℕ) → k < n → length (flow-at M N s t xs k) ≤ step-room N (transition M s k)
+  pub most : (xs : ℕ → Amounts) (k : ℕ) → k < n → length (flow-at M N s t xs k) ≤ step-room (states-of N) (length (transition M s k .entries))
   most xs k lt =
       let r = partner-fits M N s t (q .first) (q .second) (q .kept) k lt in
       let few : length (targets (partner M N s t k)) ≤ states-of N =
@@ -128,11 +128,11 @@ module _ {tables rows x : List ℕ} {s t start : ℕ} (p : Pair tables rows x s 
       omega (
         arith,
         flow-length (place-of M N s t k) (targets (transition M s k)) (targets (partner M N s t k)) (xs k),
-        room-enough N (transition M s k) (partner M N s t k) few,
+        room-enough (transition M s k) (partner M N s t k) few,
       )
 
-  pub flow-plan : (xs : ℕ → Amounts) (old : List ℕ) → flow-room M N s ≤ length old → Plan (head-at M s) (flow-at M N s t xs) (λ k. step-room N (transition M s k)) n old
-  unfolding flow-room
+  pub flow-plan : (xs : ℕ → Amounts) (old : List ℕ) → flow-room M N s ≤ length old → Plan (head-at M s) (flow-at M N s t xs) (λ k. step-room (states-of N) (length (transition M s k .entries))) n old
+  unfolding room-for
   flow-plan xs old room = record { room = room; most = most xs }
 
   module _ (old : List ℕ) (room : flow-room M N s ≤ length old) where
@@ -144,8 +144,8 @@ module _ {tables rows x : List ℕ} {s t start : ℕ} (p : Pair tables rows x s 
       flowing-within = going-within (flow-plan (w .amounts) old room) (w .going)
 
       module _ (lt : k < n) where
-        pub flowing-room : step-room N (transition-at f (start + k)) ≤ length (part-from at now)
-        flowing-room = subst (λ m. step-room N m ≤ length (part-from at now)) (sym (step-is k lt)) (going-room (flow-plan (w .amounts) old room) (w .going) lt)
+        pub flowing-room : step-room (states-of N) (length (transition-at f (start + k) .entries)) ≤ length (part-from at now)
+        flowing-room = subst (λ (m : Transition). step-room (states-of N) (length (m .entries)) ≤ length (part-from at now)) (sym (step-is k lt)) (going-room (flow-plan (w .amounts) old room) (w .going) lt)
 
         module _ {r : ℕ} {y ys : List ℕ} (d : Shown M N (first-step tables (start + k)) t r y (part-from at now) ys) where
           shown : Shown M N (transition M s k) t r y (part-from at now) ys
@@ -184,7 +184,7 @@ module _ {tables rows x : List ℕ} {s t start : ℕ} (p : Pair tables rows x s 
     room-kept = subst (λ (z : ℕ). flow-room M N s ≤ z) (sym (length-set old 0 v)) room
 
     pub room-some : 0 < length old
-    unfolding flow-room
+    unfolding room-for
     room-some = omega (arith, room)
 
     pub flowing-begin : Flowing M N s t (set old 0 v) 0 1 (set old 0 v)

@@ -57,9 +57,14 @@ flow-of k ms ns x = head-of k (amounts-count (length ms) (length ns) x) ++ flow-
 abbrev pub one-flow : ℕ → Transition → Transition → Amounts → List ℕ
 one-flow k m n x = flow-of k (targets m) (targets n) x
 
--- what the buffer must have for the flow of m over a transition of N
-abbrev pub step-room : Table → Transition → ℕ
-step-room N m = 3 + 6 * length (m .entries) * states-of N
+-- what the buffer must have for the flow of a transition of n entries over one of a table of q states
+abbrev pub step-room : (q n : ℕ) → ℕ
+step-room q n = 3 + 6 * n * q
+
+-- what it must have for the flows of n transitions, of which the transition k has e k entries
+unfoldable pub room-for : (q n : ℕ) (e : ℕ → ℕ) → ℕ
+unfolding sum
+room-for q n e = 1 + sum n (λ k. step-room q (e k))
 
 module _ (M N : Table) where
   -- the place in t of the transition that the transition k of s is shared out over, and that transition
@@ -78,10 +83,9 @@ module _ (M N : Table) where
   unfolding below concat flow-of place round
   flow-bytes s t x = length (steps M s) ∷ concat (below 0 (length (steps M s)) (λ k. one-flow (place-of s t k) (transition M s k) (partner s t k) (x k)))
 
-  -- what the flow buffer must have
-  unfoldable pub flow-room : ℕ → ℕ
-  unfolding sum
-  flow-room s = 1 + sum (length (steps M s)) (λ k. step-room N (transition M s k))
+  -- what the flow buffer must have: all entries of M count, those of weight 0 too
+  abbrev pub flow-room : ℕ → ℕ
+  flow-room s = room-for (states-of N) (length (steps M s)) (λ k. length (transition M s k .entries))
 
 -- the most that it must have: a state has all the transitions that it can have, and they have all entries, over a table with all states
 abbrev pub most-flow : ℕ

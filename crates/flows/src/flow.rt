@@ -8,6 +8,7 @@ use word::Word;
 ghost use mathlib.Core.Path.{_≡_};
 ghost use Prim.Native.Nat.{_+_, _*_, _<_, _≤_};
 ghost use lib.ListN.{length};
+ghost use Rattle.simulation.specs.Table.{states-of};
 ghost use Rattle.buffer.specs.Buffer.{over, Filled};
 ghost use Rattle.matrix.specs.Matrix.{cell};
 ghost use Rattle.flows.specs.Flow.{flow-row, flow-records, head-of, flow-of, step-room, flow-room};
@@ -71,7 +72,7 @@ fn put_step(
     buf: &mut [u8],
 ) -> usize
     requires { ⌜ Sought (now tables) (now rows) (now amounts) j t × KeptIn (now tables) (now rows)
-        × (step-room (second-table (now tables)) (first-step (now tables) j) ≤ length (now buf)) ⌝ }
+        × (step-room (states-of (second-table (now tables))) (length (first-step (now tables) j .entries)) ≤ length (now buf)) ⌝ }
     ensures { λ r. ⌜ Shown (first-table (now (tables .entry))) (second-table (now (tables .entry))) (first-step (now (tables .entry)) j) t r
         (now (amounts .exit)) (now (buf .entry)) (now (buf .exit)) ⌝ }
 {

@@ -7,14 +7,15 @@ use native.Mathlib.Nat.{mul-le-mul, not-suc-le-zero}
 use native.Mathlib.Decide.{decLe}
 use native.Mathlib.Omega.{arith}
 use lib.ListN.{length, getD, take, drop, length-map}
-use Rattle.simulation.specs.Sum.{below}
-use Rattle.simulation.specs.Fit.{total}
+use Rattle.simulation.specs.Sum.{sum, below}
+use Rattle.simulation.specs.Fit.{Positive, total}
 use Rattle.simulation.specs.Table.{Entry, Transition, weights, targets, states-of, steps, no-transition, transition}
 use Rattle.simulation.specs.Demands.{Sound}
 use Rattle.simulation.proofs.Finite.Lists.{below-at, below-past, below-length}
+use Rattle.simulation.proofs.Finite.Sums.{sum-join}
 use Rattle.simulation.specs.Limits.{most-states, most-transitions, most-entries, most-total, most-of-state, most-pairs}
 use Rattle.form.specs.Valid.{Distribution}
-use Rattle.form.specs.Form.{Loaded, targets-from, weights-from, count-of, start-of, transitions-of, entry-start, size-of, column-of, entry-at, transition-at, table-of, Span}
+use Rattle.form.specs.Form.{Loaded, targets-from, weights-from, count-of, start-of, transitions-of, entries-listed, entry-start, size-of, column-of, entry-at, transition-at, table-of, Span}
 use Rattle.form.proofs.Lists.{getD-below, map-below}
 use Rattle.form.proofs.Sound.{few-targets, shaped-sound}
 use Rattle.form.proofs.FormLists.{part-below, ascends, crossed-at}
@@ -117,6 +118,22 @@ module _ (f : List ℕ) (l : Loaded f) where
       sym (ap (λ (m : List Transition). getD m k no-transition) (steps-are f s c)
       ∙ getD-below (start-of f s) n k (transition-at f) no-transition (omega (arith, steps-count f s c)))
 
+  -- a transition of a state lists at least the entries that it has
+  pub listed-of : (s k : ℕ) → s < states-of (table-of f) → k < length (steps (table-of f) s)
+      → length (transition (table-of f) s k .entries) ≤ entries-listed f (start-of f s + k)
+  listed-of s k h b =
+      let j = start-of f s + k in
+      omega (arith, l .listed-enough j (transition-number s k h b), entries-count f j, ap (λ (m : Transition). length (m .entries)) (transition-of s k h b))
+
+  -- the transitions of one state list no more entries than all together
+  pub listed-most : (s : ℕ) → s < states-of (table-of f) → sum (length (steps (table-of f) s)) (λ k. entries-listed f (start-of f s + k)) ≤ most-entries
+  listed-most s h =
+      let a = start-of f s in
+      let n = length (steps (table-of f) s) in
+      let rest = transitions-of f - (a + n) in
+      let all : a + n + rest ≡ transitions-of f = omega (arith, counts s h, start-bound (s + 1) (omega arith)) in
+      omega (arith, l .few-listed, ap (λ (i : ℕ). sum i (entries-listed f)) all, sum-join (a + n) rest (entries-listed f), sum-join a n (entries-listed f))
+
   -- the same by the transition's number
   pub transition-numbered : (s j : ℕ) → s < states-of (table-of f) → start-of f s ≤ j → j < start-of f (s + 1)
       → transition-at f j ≡ transition (table-of f) s (j - start-of f s)
@@ -153,6 +170,9 @@ module _ (f : List ℕ) (l : Loaded f) where
     pub distribution-at : Distribution (states-of (table-of f)) (transition-at f j)
     distribution-at = by-state (Distribution (states-of (table-of f))) distribution-of
 
+    pub positive-at : Positive (weights (transition-at f j))
+    positive-at = by-state (λ m. Positive (weights m)) (l .positive)
+
     pub limited-at : Limited (transition-at f j)
     limited-at = by-state Limited limited-of
 
@@ -169,7 +189,7 @@ module _ (f : List ℕ) (l : Loaded f) where
 
   -- what the theory of simulation needs
   pub sound : Sound (table-of f)
-  sound = shaped-sound (table-of f) (l .valid .shape)
+  sound = shaped-sound (table-of f) (l .valid .shape) (l .positive)
 
 -- two tables have no more pairs than the limits allow
 pub pairs-bound : (f g : List ℕ) → Loaded f → Loaded g → states-of (table-of f) * states-of (table-of g) ≤ most-pairs

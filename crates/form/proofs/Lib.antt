@@ -5,4 +5,5 @@ pub mod Items
 pub mod Sound
 pub mod FormLists
 pub mod FormLaws
+pub mod Support
 pub mod TablesLaws

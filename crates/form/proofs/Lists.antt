@@ -1,7 +1,7 @@
 -- Lists of the values of a function, and lists laid one after the other: elements by their places.
 -- Assumes nothing.
 use mathlib.Core.Path.{_≡_, refl, sym, _∙_, ap, ap₂}
-use mathlib.Core.List.{List, [], _∷_, _++_, map}
+use mathlib.Core.List.{List, [], _∷_, _++_, map, map-append}
 use Prim.Native.Nat.{ℕ, zero, suc, _+_, _*_, _-_, _≤_, _<_}
 use native.Mathlib.Nat.{not-suc-le-zero, zero-add, add-zero, le-of-suc-le-suc}
 use native.Mathlib.Decide.{decLt}
@@ -106,6 +106,11 @@ unfolding below
 map-below g i zero f = refl
 map-below g i (suc n) f = ap (λ l. g (f i) ∷ l) (map-below g (suc i) n f)
 
+pub map-concat {ℓ κ} : {A : Type ℓ} {B : Type κ} (g : A → B) (ls : List (List A)) → concat (map (map g) ls) ≡ map g (concat ls)
+unfolding concat
+map-concat g [] = refl
+map-concat g (x ∷ xs) = ap (λ l. map g x ++ l) (map-concat g xs) ∙ sym (map-append g x (concat xs))
+
 -- a list for each element of a list, and how long they are together
 module _ {ℓ κ} {A : Type ℓ} {B : Type κ} (g : A → List B) where
   abbrev pub flat-length : List A → ℕ
@@ -128,6 +133,12 @@ module _ {ℓ κ} {A : Type ℓ} {B : Type κ} (g : A → List B) where
   flat-most [] q = omega arith
   flat-most (x ∷ xs) zero = omega (arith, flat-append x (concat xs))
   flat-most (x ∷ xs) (suc q) = omega (arith, flat-append x (concat xs), flat-most xs q)
+
+-- shorter lists are shorter together
+pub flat-le {ℓ κ} : {A : Type ℓ} {B : Type κ} (g h : A → List B) → ((x : A) → length (g x) ≤ length (h x)) → (l : List A) → flat-length g l ≤ flat-length h l
+unfolding concat
+flat-le g h le [] = omega arith
+flat-le g h le (x ∷ xs) = omega (arith, length-append (g x) (concat (map g xs)), length-append (h x) (concat (map h xs)), le x, flat-le g h le xs)
 
 -- records of w elements each, one for each element of a list
 module _ {ℓ κ} {A : Type ℓ} {B : Type κ} (w : ℕ) (g : A → List B) (wide : (x : A) → length (g x) ≡ w) where

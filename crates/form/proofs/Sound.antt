@@ -1,4 +1,4 @@
--- A table of valid shape is sound in the sense of simulation's demands, and no transition has more entries than the table has states.
+-- A table of valid shape without entries of weight 0 is sound in the sense of simulation's demands; no transition has more entries than the table has states.
 -- Assumes nothing.
 use mathlib.Core.Path.{_≡_, ap}
 use mathlib.Core.List.{[]}
@@ -9,7 +9,7 @@ use native.Mathlib.Omega.{arith}
 use lib.ListN.{length, length-map, List·getD-eq-default}
 use Rattle.simulation.specs.Table.{Entry, Transition, Table, weights, target-at, states-of, steps}
 use Rattle.simulation.specs.Demands.{Sound}
-use Rattle.form.specs.Valid.{Distribution, Shaped}
+use Rattle.form.specs.Valid.{Distribution, Shaped, AllPositive}
 
 -- numbers that ascend strictly are no less than their places
 pub ascending-above : (n : ℕ) (f : ℕ → ℕ) → ((i : ℕ) → i + 1 < n → f i < f (i + 1)) → (i : ℕ) → i < n → i ≤ f i
@@ -38,9 +38,9 @@ module _ (M : Table) (v : Shaped M) where
       go (yes b) = b
       go (no b) = let e : length (steps M s) ≡ 0 = ap length (List·getD-eq-default (M .states) [] (omega arith)) in absurd (omega arith)
 
-  pub shaped-sound : Sound M
-  shaped-sound = record {
+  pub shaped-sound : AllPositive M → Sound M
+  shaped-sound positive = record {
     target-bound = λ s k i l m. v .distribution s k (state-below s k l) l .in-range i (rw weights-long at m);
     nonempty = λ s k l. rw weights-long (v .distribution s k (state-below s k l) l .some);
-    positive = λ s k i l m. v .distribution s k (state-below s k l) l .positive i (rw weights-long at m);
+    positive = λ s k i l m. positive s k l i m;
   }

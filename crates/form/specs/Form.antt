@@ -4,13 +4,13 @@ use mathlib.Core.Path.{_≡_}
 use mathlib.Core.List.{List}
 use Prim.Native.Nat.{ℕ, _+_, _-_, _≤_, _<_}
 use lib.ListN.{length, getD}
-use Rattle.simulation.specs.Sum.{below}
+use Rattle.simulation.specs.Sum.{sum, below}
 use Rattle.simulation.specs.Table.{Entry, Transition, Table}
 use Rattle.simulation.specs.Limits.{wide, most-codes, most-states, most-transitions, most-entries}
-use Rattle.form.specs.Valid.{Valid}
+use Rattle.form.specs.Valid.{Valid, AllPositive}
 
--- where each part begins: the count of states, the count of listed codes, the starts of the states' transitions, the starts of the transitions' entries,
--- the codes of the transitions, targets and weights of the entries, the listed codes
+-- where each part begins: the count of states, the count of listed codes, the starts of the states' transitions, how many entries each transition lists,
+-- the codes of the transitions, the starts of the transitions' entries, targets and weights of the entries, the listed codes
 abbrev pub states-from : ℕ
 states-from = 0
 
@@ -20,14 +20,17 @@ actions-from = 1
 abbrev pub starts-from : ℕ
 starts-from = 2
 
-abbrev pub entry-starts-from : ℕ
-entry-starts-from = starts-from + most-states + 1
+abbrev pub entries-listed-from : ℕ
+entries-listed-from = starts-from + most-states + 1
 
 abbrev pub codes-from : ℕ
-codes-from = entry-starts-from + most-transitions + 1
+codes-from = entries-listed-from + most-transitions
+
+abbrev pub entry-starts-from : ℕ
+entry-starts-from = codes-from + most-transitions
 
 abbrev pub targets-from : ℕ
-targets-from = codes-from + most-transitions
+targets-from = entry-starts-from + most-transitions + 1
 
 abbrev pub weights-from : ℕ
 weights-from = targets-from + most-entries
@@ -54,6 +57,10 @@ module _ (f : List ℕ) where
   unfoldable pub transitions-of : ℕ
   unfolding count-of start-of
   transitions-of = start-of count-of
+
+  -- how many entries a transition lists in its bytes, those of weight 0 with them, which the form leaves out
+  unfoldable pub entries-listed : ℕ → ℕ
+  entries-listed j = at (entries-listed-from + j)
 
   -- the first entry of a transition, over all entries
   unfoldable pub entry-start : ℕ → ℕ
@@ -82,7 +89,8 @@ module _ (f : List ℕ) where
         states = below 0 count-of (λ s. below (start-of s) (start-of (s + 1) - start-of s) transition-at);
       }
 
--- a form that holds a valid table: its states' transitions lie one after the other, and so do its transitions' entries
+-- a form that holds a valid table without entries of weight 0: its states' transitions lie one after the other, and so do its transitions' entries;
+-- a transition lists at least the entries that it has, and the lists together are within the limit
 pub record Loaded (f : List ℕ) : Type 0 where
   pub room : form-size ≤ length f
   pub from-zero : start-of f 0 ≡ 0
@@ -91,6 +99,9 @@ pub record Loaded (f : List ℕ) : Type 0 where
   pub entries-ordered : (j : ℕ) → j < transitions-of f → entry-start f j ≤ entry-start f (j + 1)
   pub few-entries : entry-start f (transitions-of f) ≤ most-entries
   pub valid : Valid wide (table-of f)
+  pub positive : AllPositive (table-of f)
+  pub listed-enough : (j : ℕ) → j < transitions-of f → size-of f j ≤ entries-listed f j
+  pub few-listed : sum (transitions-of f) (entries-listed f) ≤ most-entries
 
 -- the entries of the transition j lie within the column that begins at a place
 pub record Span (f : List ℕ) (column j : ℕ) : Type 0 where

@@ -16,14 +16,17 @@ impl Form {
     // For each state its first transition, and after the last state the count of transitions.
     pub const STARTS_AT: usize = 2;
 
-    // For each transition its first entry, and after the last the count of entries.
-    pub const ENTRY_STARTS_AT: usize = Self::STARTS_AT + Table::STATES + 1;
+    // For each transition how many entries it lists, those of weight 0 with them: a flow buffer is asked for all of them.
+    pub const ENTRIES_LISTED_AT: usize = Self::STARTS_AT + Table::STATES + 1;
 
     // For each transition its code.
-    pub const CODES_AT: usize = Self::ENTRY_STARTS_AT + Table::TRANSITIONS + 1;
+    pub const CODES_AT: usize = Self::ENTRIES_LISTED_AT + Table::TRANSITIONS;
+
+    // For each transition its first entry, and after the last the count of entries. Entries of weight 0 are left out.
+    pub const ENTRY_STARTS_AT: usize = Self::CODES_AT + Table::TRANSITIONS;
 
     // For each entry its target.
-    pub const TARGETS_AT: usize = Self::CODES_AT + Table::TRANSITIONS;
+    pub const TARGETS_AT: usize = Self::ENTRY_STARTS_AT + Table::TRANSITIONS + 1;
 
     // For each entry its weight.
     pub const WEIGHTS_AT: usize = Self::TARGETS_AT + Table::ENTRIES;

@@ -4,15 +4,23 @@ ghost use mathlib.Core.Path.{_≡_};
 ghost use Prim.Native.Nat.{_+_, _≤_, _<_};
 ghost use lib.ListN.{length};
 ghost use Rattle.simulation.specs.Table.{weights, targets, states-of};
-ghost use Rattle.form.specs.Form.{form-size, start-of, transitions-of, column-of, transition-at, table-of, Loaded, Span};
+ghost use Rattle.form.specs.Form.{form-size, at, start-of, transitions-of, entries-listed, column-of, transition-at, table-of, Loaded, Span};
 ghost use Rattle.form.specs.Tables.{form-at};
+
+// The number at a place of the form.
+fn number(tables: &[u16], which: usize, place: usize) -> u16
+    requires { ⌜ (which + form-size ≤ length (now tables)) × (place < form-size) ⌝ }
+    ensures { λ r. ⌜ r ≡ at (form-at (now (tables .entry)) which) place ⌝ }
+{
+    tables[which + place]
+}
 
 // How many states the table has.
 pub fn states(tables: &[u16], which: usize) -> usize
     requires { ⌜ Loaded (form-at (now tables) which) ⌝ }
     ensures { λ r. ⌜ r ≡ states-of (table-of (form-at (now (tables .entry)) which)) ⌝ }
 {
-    tables[which + Form::STATES_AT] as usize
+    number(tables, which, Form::STATES_AT) as usize
 }
 
 // The first transition of the state s, counted over all transitions; for the count of states, the count of transitions.
@@ -20,7 +28,7 @@ pub fn start_of(tables: &[u16], which: usize, s: usize) -> usize
     requires { ⌜ Loaded (form-at (now tables) which) × (s ≤ states-of (table-of (form-at (now tables) which))) ⌝ }
     ensures { λ r. ⌜ r ≡ start-of (form-at (now (tables .entry)) which) s ⌝ }
 {
-    tables[which + Form::STARTS_AT + s] as usize
+    number(tables, which, Form::STARTS_AT + s) as usize
 }
 
 // The code of the transition j.
@@ -28,7 +36,15 @@ pub fn code(tables: &[u16], which: usize, j: usize) -> u16
     requires { ⌜ Loaded (form-at (now tables) which) × (j < transitions-of (form-at (now tables) which)) ⌝ }
     ensures { λ r. ⌜ r ≡ transition-at (form-at (now (tables .entry)) which) j .code ⌝ }
 {
-    tables[which + Form::CODES_AT + j]
+    number(tables, which, Form::CODES_AT + j)
+}
+
+// How many entries the transition j lists in its bytes, those of weight 0 with them.
+pub fn entries_listed(tables: &[u16], which: usize, j: usize) -> usize
+    requires { ⌜ Loaded (form-at (now tables) which) × (j < transitions-of (form-at (now tables) which)) ⌝ }
+    ensures { λ r. ⌜ r ≡ entries-listed (form-at (now (tables .entry)) which) j ⌝ }
+{
+    number(tables, which, Form::ENTRIES_LISTED_AT + j) as usize
 }
 
 // The part of a column that belongs to the transition j, where the column of all entries begins at a place of the form.

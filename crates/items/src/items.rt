@@ -8,9 +8,9 @@ ghost use Prim.Native.Nat.{ℕ, pred, _+_, _*_, _≤_, _<_};
 ghost use lib.Dec.{eqb};
 ghost use lib.ListN.{length};
 ghost use Rattle.simulation.specs.Sum.{sum, any};
-ghost use Rattle.simulation.specs.Limits.{most-total, most-transitions};
+ghost use Rattle.simulation.specs.Limits.{most-transitions};
 ghost use Rattle.layout.specs.Bytes.{CodeWidth, _then_, refuse_unless_, actions, byte, code, first, code-refusal, transition-refusal};
-ghost use Rattle.layout.specs.Bytes.{target-right, weight-from, weight-right, entry-refusal, size-from, run-refusal};
+ghost use Rattle.layout.specs.Bytes.{target-right, distribution-refusal, size-from, run-refusal};
 
 // Section 1: the n codes ascend strictly.
 pub fn codes_refusal(s: &[u8], width: usize, n: usize) -> u8
@@ -123,37 +123,26 @@ fn target_right(s: &[u8], n: usize, p: usize, k: usize) -> bool
     byte_at(s, p + 3 * (k - 1)) < target
 }
 
-// Whether its weight is at least 1 and the total so far, with it, within the limit.
-fn weight_right(s: &[u8], p: usize, k: usize, total: usize) -> bool
-    requires { ⌜ p + 3 * k + 2 < length (now s) ⌝ }
-    requires { ⌜ (total ≡ sum k (weight-from (now s) p)) × (total ≤ most-total) ⌝ }
-    ensures { λ r. ⌜ r ≡ weight-right (now (s .entry)) p k ⌝ }
-{
-    let weight = half_at(s, p + 3 * k + 1);
-    if weight == 0 {
-        return false;
-    }
-    total + weight <= Table::TOTAL
-}
-
-// The size entries of one transition, from a place on, in a table of n states.
-pub fn entries_of_refusal(s: &[u8], n: usize, at: usize, size: usize) -> u8
+// The size entries of one transition, from a place on, in a table of n states. Weights may be 0, but not all of them.
+pub fn distribution_refusal(s: &[u8], n: usize, at: usize, size: usize) -> u8
     requires { ⌜ at + 3 * size ≤ length (now s) ⌝ }
-    ensures { λ r. ⌜ r ≡ first 0 size (entry-refusal (now (s .entry)) n at) ⌝ }
+    ensures { λ r. ⌜ r ≡ distribution-refusal (now (s .entry)) n at size ⌝ }
 {
     let mut total: usize = 0;
     let mut k: usize = 0;
     while k < size {
         let target = target_right(s, n, at, k);
-        let weight = weight_right(s, at, k, total);
-        let refusal = first_of(refuse_unless(9, target), refuse_unless(10, weight));
+        total += half_at(s, at + 3 * k + 1);
+        let refusal = first_of(
+            refuse_unless(9, target),
+            refuse_unless(10, total <= Table::TOTAL),
+        );
         if refusal != 0 {
             return refusal;
         }
-        total += half_at(s, at + 3 * k + 1);
         k += 1;
     }
-    0
+    refuse_unless(10, 0 < total)
 }
 
 // The entries of m transitions, whose sizes stand after their codes, the first at the place sizes: the first refusal among them.
@@ -166,7 +155,7 @@ pub fn entries_refusal(s: &[u8], width: usize, n: usize, sizes: usize, m: usize,
     let mut j: usize = 0;
     while j < m {
         let size = byte_at(s, sizes + (width + 1) * j);
-        let refusal = entries_of_refusal(s, n, at + 3 * start, size);
+        let refusal = distribution_refusal(s, n, at + 3 * start, size);
         if refusal != 0 {
             return refusal;
         }

@@ -1,4 +1,4 @@
--- Accepted numbers hold a table of valid shape, sound in the sense of simulation's demands; if they are bytes, it is valid and they are its encoding.
+-- Accepted numbers hold a table of valid shape; if they are bytes, it is valid and they are its encoding.
 -- Assumes nothing.
 use mathlib.Core.Path.{_≡_, refl, sym, _∙_, ap, ap₂, subst}
 use mathlib.Core.List.{List, [], _∷_, _++_, map}
@@ -8,7 +8,6 @@ use native.Mathlib.Omega.{arith}
 use lib.ListN.{length}
 use Rattle.simulation.specs.Sum.{below, concat}
 use Rattle.simulation.specs.Table.{Entry, Transition, Table}
-use Rattle.simulation.specs.Demands.{Sound}
 use Rattle.simulation.proofs.Finite.Lists.{below-length, below-ext}
 use Rattle.form.specs.Items.{all-transitions, all-entries}
 use Rattle.form.specs.Valid.{Shaped, Valid}
@@ -20,7 +19,6 @@ use Rattle.layout.proofs.Bounds.{passes, actions-is, code-at-is, label-
 use Rattle.layout.proofs.PlaceLaws.{code-count, steps-from, states-are as table-states, state-count, entry-count, label-is}
 use Rattle.layout.proofs.LayoutLaws.{transitions-in-order, transition-count, entries-in-order}
 use Rattle.layout.proofs.ValidLaws.{shaped, valid}
-use Rattle.form.proofs.Sound.{shaped-sound}
 use Rattle.layout.proofs.DecodeLaws.{decode-told}
 
 -- the two bytes of a field
@@ -127,9 +125,6 @@ module _ (w : ℕ) (s : List ℕ) (bytes : Octets s) (e : refusal w s ≡ 0) whe
 module _ (w : ℕ) (s : List ℕ) (M : Table) (h : decode-as w s ≡ accepted M) where
   pub accepted-shaped : Shaped M
   accepted-shaped = let d = decode-told w s M h in subst Shaped (d .table-is) (shaped w s (d .passed))
-
-  pub accepted-sound : Sound M
-  accepted-sound = shaped-sound M accepted-shaped
 
 module _ (w : ℕ) (s : List ℕ) (bytes : Octets s) (M : Table) (h : decode-as w s ≡ accepted M) where
   pub accepted-valid : Valid w M

@@ -13,7 +13,7 @@ use Rattle.simulation.specs.Sum.{sum, any}
 use Rattle.simulation.proofs.Finite.Sums.{sum-ext, sum-le}
 use Rattle.simulation.proofs.Finite.Tests.{any-ext}
 use Rattle.simulation.specs.Limits.{most-codes, most-states, most-transitions, most-entries, most-total}
-use Rattle.layout.specs.Bytes.{_then_, refuse_unless_, first, byte, field, half, size-from, actions, code, states-at, states, count, transitions-at, transitions, size, entries-at, entries, end, weight-from, target-right, weight-right, code-refusal, transition-refusal, entry-refusal, run-refusal, refusal, actions-refusal, states-refusal, transitions-refusal, entries-refusal}
+use Rattle.layout.specs.Bytes.{_then_, refuse_unless_, first, byte, field, half, size-from, actions, code, states-at, states, count, transitions-at, transitions, size, entries-at, entries, end, weight-from, total-from, target-right, weight-right, code-refusal, transition-refusal, entry-refusal, distribution-refusal, run-refusal, refusal, actions-refusal, states-refusal, transitions-refusal, entries-refusal}
 use Rattle.layout.proofs.SectionLaws.{first-ext, section-items, section-broken, section-whole}
 use Rattle.layout.proofs.Fields.{item-within, field-same}
 use Rattle.layout.proofs.Bounds.{passes, accepted-bounds, actions-is, code-at-is, states-is, transitions-at-is, transitions-is, entries-at-is, entries-is, end-is}
@@ -38,23 +38,30 @@ module _ (w : ℕ) (s t : List ℕ) (k : ℕ) (same : (p : ℕ) → p < k → by
       (λ i m. ap₂ eqb (code-same i (omega (arith, item-within w i (actions w s) m))) (field-same s t k same w p (omega arith))) in
       ap₂ (λ (a : Bool) (n : ℕ). refuse 6 unless a then refuse 8 unless ltb 0 n) known (same (p + w) l)
 
+  total-same : (p size : ℕ) → p + 3 * size ≤ k → total-from t p size ≡ total-from s p size
+  total-same p size l = sum-ext size (weight-from t p) (weight-from s p) (λ m h. half-same (p + 3 * m + 1) (omega arith))
+
   entry-refusal-same : (n p i : ℕ) → p + 3 * i + 2 < k → entry-refusal t n p i ≡ entry-refusal s n p i
   unfolding entry-refusal target-right weight-right
   entry-refusal-same n p i l =
       let here = same (p + 3 * i) (omega arith) in
       let before = same (p + 3 * (i - 1)) (omega arith) in
-      let weights : (m : ℕ) → m ≤ i → weight-from t p m ≡ weight-from s p m = λ m h. half-same (p + 3 * m + 1) (omega arith) in
-      let total = sum-ext (i + 1) (weight-from t p) (weight-from s p) (λ m h. weights m (omega arith)) in
-      let weight = weights i (omega arith) in
-      λ x. refuse 9 unless (ltb (here x) n && (eqb i 0 || ltb (before x) (here x))) then refuse 10 unless (ltb 0 (weight x) && leb (total x) most-total)
+      let total = total-same p (i + 1) (omega arith) in
+      λ x. refuse 9 unless (ltb (here x) n && (eqb i 0 || ltb (before x) (here x))) then refuse 10 unless leb (total x) most-total
+
+  distribution-refusal-same : (n p size : ℕ) → p + 3 * size ≤ k → distribution-refusal t n p size ≡ distribution-refusal s n p size
+  unfolding distribution-refusal
+  distribution-refusal-same n p size l =
+      ap₂ (λ (items total : ℕ). items then refuse 10 unless ltb 0 total)
+      (first-ext 0 size (entry-refusal t n p) (entry-refusal s n p) (λ i _ m. entry-refusal-same n p i (omega arith)))
+      (total-same p size l)
 
   run-refusal-same : (n q p j : ℕ) → q + (w + 1) * j < k → p + 3 * (sum j (size-from w s q) + size-from w s q j) ≤ k → run-refusal w t n q p j ≡ run-refusal w s n q p j
   unfolding run-refusal
   run-refusal-same n q p j l h =
       let start = sum-ext j (size-from w t q) (size-from w s q) (λ i m. same (q + (w + 1) * i) (omega (arith, item-within (w + 1) i j m))) in
-      let at = p + 3 * sum j (size-from w s q) in
-      ap₂ (λ (m b : ℕ). first 0 m (entry-refusal t n (p + 3 * b))) (same (q + (w + 1) * j) l) start
-      ∙ first-ext 0 (size-from w s q j) (entry-refusal t n at) (entry-refusal s n at) (λ i _ m. entry-refusal-same n at i (omega arith))
+      ap₂ (λ (m b : ℕ). distribution-refusal t n (p + 3 * b) m) (same (q + (w + 1) * j) l) start
+      ∙ distribution-refusal-same n (p + 3 * sum j (size-from w s q)) (size-from w s q j) (omega arith)
 
   module _ (e : refusal w s ≡ 0) (long : k ≤ length t) where
     -- 1. Actions

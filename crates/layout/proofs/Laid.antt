@@ -7,23 +7,22 @@ use Prim.Native.Nat.{ℕ, zero, suc, pred, _+_, _*_, _-_, _≤_, _<_}
 use native.Mathlib.Nat.{zero-add}
 use native.Mathlib.Omega.{arith}
 use lib.Dec.{ltb, eqb}
-use lib.ListN.{length, getD, length-map}
+use lib.ListN.{length, getD}
 use borrow.Author.Tests.{lt-ltb, le-leb, eq-eqb, ne-eqb}
 use Rattle.simulation.specs.Sum.{below, sum, any, concat}
-use Rattle.simulation.specs.Fit.{total, weight}
-use Rattle.simulation.specs.Table.{Entry, Table, weights, target-at, states-of, steps, no-transition}
+use Rattle.simulation.specs.Table.{Table, target-at, states-of, steps, no-transition}
 use Rattle.simulation.proofs.Finite.Sums.{sum-ext, sum-le, sum-more}
 use Rattle.simulation.proofs.Finite.Tests.{is-true, same-eqb, some-any}
 use Rattle.simulation.specs.Limits.{most-codes, most-states, most-transitions, most-entries, most-total}
 use Rattle.form.specs.Items.{all-transitions, all-entries}
 use Rattle.form.specs.Valid.{Distribution, Valid}
-use Rattle.layout.specs.Bytes.{refuse_unless_, byte, field, actions, code, states-at, states, count, transitions-at, transitions, label, size, start, entries-at, entries, entry-target, entry-weight, weight-from, target-right, weight-right, code-refusal, transition-refusal, entry-refusal, run-refusal, decoded-entry, decoded-transition, end, table, refusal, actions-refusal, states-refusal, transitions-refusal, entries-refusal}
+use Rattle.layout.specs.Bytes.{refuse_unless_, byte, field, actions, code, states-at, states, count, transitions-at, transitions, label, size, start, entries-at, entries, entry-target, entry-weight, weight-from, total-from, target-right, weight-right, code-refusal, transition-refusal, entry-refusal, distribution-refusal, run-refusal, decoded-entry, decoded-transition, end, table, refusal, actions-refusal, states-refusal, transitions-refusal, entries-refusal}
 use Rattle.form.proofs.Lists.{below-is, sizes, length-concat, concat-at}
 use Rattle.layout.proofs.Numbered.{lists, lists-many, list-is, numbered, listed-at, distribution-at}
 use Rattle.layout.proofs.Laws.{not-refused, both-hold}
 use Rattle.layout.proofs.SectionLaws.{then-zero, pass-all, section-items}
 use Rattle.layout.proofs.Bounds.{refusal-is, label-at-is, transitions-at-is, entries-at-is, end-is}
-use Rattle.layout.proofs.PlaceLaws.{no-entry, steps-from, states-are, entry-count, target-is, weight-is, entries-from, target-at-place, weight-at-place}
+use Rattle.layout.proofs.PlaceLaws.{no-entry, steps-from, states-are, entry-count, target-is, entries-from, target-at-place, total-is}
 
 -- lists one after the other, read back as runs of a function that gives their elements
 runs-are {ℓ} : {A : Type ℓ} (d : A) (ls : List (List A)) (c : ℕ → ℕ) (f : ℕ → A) → ((i : ℕ) → i < length ls → c i ≡ sizes ls i)
@@ -157,9 +156,6 @@ module _ (w : ℕ) (s : List ℕ) (M : Table) (L : Laid w s M) where
       target-here : (k : ℕ) → k < size w s j → byte s (p + 3 * k) ≡ target-at (decoded-transition w s j) k
       target-here k m = target-at-place w s j k ∙ sym (target-is w s j k m)
 
-      weight-here : (k : ℕ) → k < size w s j → weight-from s p k ≡ weight (weights (decoded-transition w s j)) k
-      weight-here k m = weight-at-place w s j k ∙ sym (weight-is w s j k m)
-
       target-passes : (k : ℕ) → k < size w s j → target-right s (states w s) p k ≡ true
       unfolding target-right
       target-passes zero m =
@@ -182,24 +178,20 @@ module _ (w : ℕ) (s : List ℕ) (M : Table) (L : Laid w s M) where
           both-hold (lt-ltb (byte s (p + 3 * suc k)) (states w s) (omega arith)) (rw later (lt-ltb (byte s (p + 3 * (suc k - 1))) (byte s (p + 3 * suc k)) (omega arith)))
 
       weight-passes : (k : ℕ) → k < size w s j → weight-right s p k ≡ true
-      unfolding weight-right total
+      unfolding weight-right
       weight-passes k m =
-          let here = weight-here k m in
-          let long = entry-count w s j in
-          let some = d .positive k (omega arith) in
           let f = weight-from s p in
           let more = sum-le k (size w s j) f m in
           let next = sum-more k f refl in
-          let all : sum (size w s j) f ≡ total (weights (decoded-transition w s j))
-          = sum-ext (size w s j) f (weight (weights (decoded-transition w s j))) weight-here
-          ∙ ap (λ (n : ℕ). sum n (weight (weights (decoded-transition w s j)))) (sym (length-map (decoded-transition w s j .entries) (λ (x : Entry). x .weight) ∙ long)) in
-          let small = d .small in
-          both-hold (lt-ltb 0 (weight-from s p k) (omega arith)) (le-leb (sum (k + 1) f) most-total (omega arith))
+          le-leb (total-from s p (k + 1)) most-total (omega (arith, total-is w s j, d .small))
 
       run-passes : run-refusal w s (states w s) (transitions-at w s + 2 + w) (entries-at w s + 2) j ≡ 0
-      unfolding run-refusal entry-refusal
-      run-passes = pass-all (size w s j) (entry-refusal s (states w s) p) (λ k m.
-          then-zero (refuse 10 unless weight-right s p k) (not-refused 9 (target-passes k m)) ∙ not-refused 10 (weight-passes k m))
+      unfolding run-refusal distribution-refusal entry-refusal
+      run-passes =
+          let all = total-from s p (size w s j) in
+          then-zero (refuse 10 unless ltb 0 all) (pass-all (size w s j) (entry-refusal s (states w s) p) (λ k m.
+          then-zero (refuse 10 unless weight-right s p k) (not-refused 9 (target-passes k m)) ∙ not-refused 10 (weight-passes k m)))
+          ∙ not-refused 10 (lt-ltb 0 all (omega (arith, total-is w s j, d .counted)))
 
     entries-pass : entries-refusal w s ≡ 0
     entries-pass =

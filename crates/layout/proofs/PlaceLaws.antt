@@ -1,18 +1,18 @@
 -- The parts of the table in accepted bytes, by their places.
 -- Assumes nothing.
-use mathlib.Core.Path.{_≡_, refl, _∙_, ap}
+use mathlib.Core.Path.{_≡_, refl, sym, _∙_, ap}
 use mathlib.Core.List.{List, []}
 use Prim.Native.Nat.{ℕ, _+_, _*_, _≤_, _<_}
 use native.Mathlib.Nat.{zero-add}
 use native.Mathlib.Omega.{arith}
-use lib.ListN.{length, getD, List·getD-map}
-use Rattle.simulation.specs.Sum.{below}
-use Rattle.simulation.specs.Fit.{weight}
+use lib.ListN.{length, getD, length-map, List·getD-map}
+use Rattle.simulation.specs.Sum.{below, sum}
+use Rattle.simulation.specs.Fit.{total, weight}
 use Rattle.simulation.specs.Table.{Entry, Transition, weights, target-at, states-of, steps, no-transition, transition}
 use Rattle.simulation.proofs.Finite.Lists.{below-length}
-use Rattle.layout.specs.Bytes.{byte, half, actions, code, states, count, transitions, label, size, state-start, start, entries-at, entries, decoded-entry, entry-target, entry-weight, weight-from, decoded-transition, table, refusal}
+use Rattle.layout.specs.Bytes.{byte, half, actions, code, states, count, transitions, label, size, state-start, start, entries-at, entries, decoded-entry, entry-target, entry-weight, weight-from, total-from, decoded-transition, table, refusal}
 use Rattle.form.proofs.Lists.{getD-below}
-use Rattle.simulation.proofs.Finite.Sums.{sum-le}
+use Rattle.simulation.proofs.Finite.Sums.{sum-ext, sum-le}
 use Rattle.layout.proofs.Bounds.{accepted-bounds}
 
 abbrev pub no-entry : Entry
@@ -85,3 +85,10 @@ module _ (w : ℕ) (s : List ℕ) where
 
   pub weight-at-place : (j k : ℕ) → weight-from s (entries-from j) k ≡ entry-weight w s (start w s j + k)
   weight-at-place j k = let q : entries-from j + 3 * k ≡ entries-at w s + 2 + 3 * (start w s j + k) = omega arith in ap (λ (p : ℕ). half s (p + 1)) q
+
+  pub total-is : (j : ℕ) → total (weights (decoded-transition w s j)) ≡ total-from s (entries-from j) (size w s j)
+  unfolding total
+  total-is j =
+      let m = decoded-transition w s j in
+      ap (λ (n : ℕ). sum n (weight (weights m))) (length-map (m .entries) (λ (x : Entry). x .weight) ∙ entry-count j)
+      ∙ sum-ext (size w s j) (weight (weights m)) (weight-from s (entries-from j)) (λ i l. weight-is j i l ∙ sym (weight-at-place j i))

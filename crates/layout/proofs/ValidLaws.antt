@@ -6,21 +6,19 @@ use mathlib.Core.List.{List}
 use Prim.Native.Nat.{ℕ, pred, _+_, _*_, _-_, _≤_, _<_}
 use native.Mathlib.Omega.{arith}
 use lib.Dec.{ltb, eqb, eqb→eq}
-use lib.ListN.{length-map}
 use borrow.Author.Tests.{leb-true, ltb-true, ne-eqb}
-use Rattle.simulation.specs.Sum.{any, sum}
-use Rattle.simulation.specs.Fit.{total, weight}
-use Rattle.simulation.specs.Table.{Entry, weights}
+use Rattle.simulation.specs.Sum.{any}
+use Rattle.simulation.specs.Fit.{total}
+use Rattle.simulation.specs.Table.{weights}
 use Rattle.simulation.proofs.Finite.Lists.{below-length}
-use Rattle.simulation.proofs.Finite.Sums.{sum-ext}
 use Rattle.simulation.proofs.Finite.Tests.{any-some, both-true}
 use Rattle.simulation.specs.Limits.{most-total}
-use Rattle.layout.specs.Bytes.{refuse_unless_, first, Octets, field, actions, code, byte, states-at, states, count, transitions-at, transitions, label, size, start, state-start, entries-at, entries, entry-target, entry-weight, weight-from, target-right, weight-right, code-refusal, transition-refusal, entry-refusal, run-refusal, decoded-entry, decoded-transition, table, refusal}
+use Rattle.layout.specs.Bytes.{refuse_unless_, first, Octets, field, actions, code, byte, states-at, states, count, transitions-at, transitions, label, size, start, state-start, entries-at, entries, entry-target, total-from, target-right, weight-right, code-refusal, transition-refusal, entry-refusal, distribution-refusal, run-refusal, decoded-entry, decoded-transition, table, refusal}
 use Rattle.form.specs.Valid.{Codes, Listed, Distribution, Shaped, Valid}
 use Rattle.layout.proofs.SectionLaws.{then-parts, accepted-holds, none-at, section-whole}
 use Rattle.layout.proofs.Bounds.{passes, accepted-bounds, actions-is, code-at-is, code-above, label-at-is}
 use Rattle.layout.proofs.Fields.{field-small}
-use Rattle.layout.proofs.PlaceLaws.{code-count, code-is, state-count, step-count, transition-is, label-is, number-below, entry-count, target-is, weight-is, entries-from, target-at-place, weight-at-place}
+use Rattle.layout.proofs.PlaceLaws.{code-count, code-is, state-count, step-count, transition-is, label-is, number-below, entry-count, target-is, entries-from, target-at-place, total-is}
 use Rattle.layout.proofs.LayoutLaws.{transitions-in-order, entries-in-order}
 
 module _ (w : ℕ) (s : List ℕ) (e : refusal w s ≡ 0) where
@@ -65,11 +63,19 @@ module _ (w : ℕ) (s : List ℕ) (e : refusal w s ≡ 0) where
         let r = any-some (actions w s) (λ i. eqb (code w s i) (field w s here)) (rw (transition-passes .0) tt) in
         (r .0, rw code-count (r .1), code-is w s (r .0) (r .1) ∙ eqb→eq (code w s (r .0)) (field w s here) (r .2) ∙ sym (label-at-is w s j))
 
+    distribution-passes : (first 0 (size w s j) (entry-refusal s (states w s) place) ≡ 0) × (ltb 0 (total-from s place (size w s j)) ≡ true)
+    unfolding run-refusal distribution-refusal
+    distribution-passes =
+        let some = ltb 0 (total-from s place (size w s j)) in
+        let h = then-parts (first 0 (size w s j) (entry-refusal s (states w s) place)) (refuse 10 unless some)
+        (none-at (transitions w s) (run-refusal w s (states w s) (transitions-at w s + 2 + w) (entries-at w s + 2)) entries-pass j l) in
+        (h .0, accepted-holds 9 some (h .1))
+
     entry-passes : (k : ℕ) → k < size w s j → (target-right s (states w s) place k ≡ true) × (weight-right s place k ≡ true)
-    unfolding run-refusal entry-refusal
+    unfolding entry-refusal
     entry-passes k m =
         let h = then-parts (refuse 9 unless target-right s (states w s) place k) (refuse 10 unless weight-right s place k)
-        (none-at (size w s j) (entry-refusal s (states w s) place) (none-at (transitions w s) (run-refusal w s (states w s) (transitions-at w s + 2 + w) (entries-at w s + 2)) entries-pass j l) k m) in
+        (none-at (size w s j) (entry-refusal s (states w s) place) (distribution-passes .0) k m) in
         (accepted-holds 8 (target-right s (states w s) place k) (h .0), accepted-holds 9 (weight-right s place k) (h .1))
 
     target-small : (k : ℕ) → k < size w s j → entry-target w s (start w s j + k) < states w s
@@ -88,20 +94,15 @@ module _ (w : ℕ) (s : List ℕ) (e : refusal w s ≡ 0) where
         let b = ltb-true (byte s (place + 3 * (k + 1 - 1))) (byte s (place + 3 * (k + 1))) g in
         omega arith
 
-    weight-some : (k : ℕ) → k < size w s j → 0 < entry-weight w s (start w s j + k)
-    unfolding weight-right
-    weight-some k m = subst (λ (x : ℕ). 0 < x) (weight-at-place w s j k) (ltb-true 0 _ (both-true (ltb 0 (weight-from s place k)) _ (entry-passes k m .1) .0))
+    total-some : 0 < total (weights (decoded-transition w s j))
+    total-some = rw total-is (ltb-true 0 _ (distribution-passes .1))
 
     total-small : total (weights (decoded-transition w s j)) ≤ most-total
-    unfolding weight-right total
+    unfolding weight-right
     total-small =
         let n = some-entries in
         let last : size w s j - 1 + 1 ≡ size w s j = omega arith in
-        let h = leb-true _ most-total (both-true (ltb 0 (weight-from s place (size w s j - 1))) _ (entry-passes (size w s j - 1) (omega arith) .1) .1) in
-        let g : sum (size w s j) (weight-from s place) ≤ most-total = subst (λ (x : ℕ). sum x (weight-from s place) ≤ most-total) last h in
-        let long = length-map (decoded-transition w s j .entries) (λ (x : Entry). x .weight) ∙ entry-count w s j in
-        let same = sum-ext (size w s j) (weight (weights (decoded-transition w s j))) (weight-from s place) (λ i m. weight-is w s j i m ∙ sym (weight-at-place w s j i)) in
-        rw (long, same) g
+        rw total-is (rw last at (leb-true (total-from s place (size w s j - 1 + 1)) most-total (entry-passes (size w s j - 1) (omega arith) .1)))
 
     distribution : Distribution (states w s) (decoded-transition w s j)
     distribution =
@@ -110,7 +111,7 @@ module _ (w : ℕ) (s : List ℕ) (e : refusal w s ≡ 0) where
           some = rw long some-entries;
           in-range = λ i h. let m : i < size w s j = rw long at h in rw (target-is w s j i m) (target-small i m);
           ascending = λ i h. let m : i + 1 < size w s j = rw long at h in rw (target-is w s j i (omega arith), target-is w s j (i + 1) m) (target-above i m);
-          positive = λ i h. let m : i < size w s j = rw long at h in rw (weight-is w s j i m) (weight-some i m);
+          counted = total-some;
           small = total-small;
         }
 

@@ -1,4 +1,4 @@
--- A table in bytes (01, "A table in bytes"; 02, E6): where each section lies, what refuses it, and the table that it stands for.
+-- A table in bytes (01, "A table in bytes"; 02, E2 and E6): where each section lies, what refuses it, and the table that it stands for.
 -- A code, and the count of codes, takes w bytes: 1 in the old layout, 2 in the wide one.
 -- A refusal is its number in 01, 0 for none. A byte past the end counts as 0; it is never reached, since 1 refuses first.
 -- Assumes nothing.
@@ -61,14 +61,23 @@ module _ (s : List ℕ) where
   abbrev pub weight-from : (p k : ℕ) → ℕ
   weight-from p k = half s (p + 3 * k + 1)
 
-  -- the weight is at least 1, and the total so far, this weight with it, is within the limit
+  -- the total of the first k weights
+  abbrev pub total-from : (p k : ℕ) → ℕ
+  total-from p k = sum k (weight-from p)
+
+  -- the total so far, this weight with it, is within the limit
   unfoldable pub weight-right : (p k : ℕ) → Bool
   unfolding sum
-  weight-right p k = ltb 0 (weight-from p k) && leb (sum (k + 1) (weight-from p)) most-total
+  weight-right p k = leb (total-from p (k + 1)) most-total
 
   unfoldable pub entry-refusal : (n p k : ℕ) → ℕ
   unfolding refuse_unless_ _then_ target-right weight-right
   entry-refusal n p k = refuse 9 unless target-right n p k then refuse 10 unless weight-right p k
+
+  -- the entries of a transition, size of them from the place p on; after the last, their total is not 0
+  unfoldable pub distribution-refusal : (n p size : ℕ) → ℕ
+  unfolding refuse_unless_ _then_ first sum entry-refusal
+  distribution-refusal n p size = first 0 size (entry-refusal n p) then refuse 10 unless ltb 0 (total-from p size)
 
 module _ (w : ℕ) (s : List ℕ) where
   -- the j-th of the sizes that stand after each code of a transition, from the place q on
@@ -167,8 +176,8 @@ module _ (w : ℕ) (s : List ℕ) where
 
   -- the entries of the transition j, where the sizes begin at the place q and the entries at the place p
   unfoldable pub run-refusal : (n q p j : ℕ) → ℕ
-  unfolding first sum entry-refusal
-  run-refusal n q p j = first 0 (size-from q j) (entry-refusal s n (p + 3 * sum j (size-from q)))
+  unfolding sum distribution-refusal
+  run-refusal n q p j = distribution-refusal s n (p + 3 * sum j (size-from q)) (size-from q j)
 
   abbrev pub entries-refusal : ℕ
   entries-refusal =

@@ -20,6 +20,13 @@ loop w = record { code = 5; entries = record { target = 0; weight = w } ∷ [] }
 abbrev loops : List Transition → Table
 loops ms = record { codes = 5 ∷ []; states = ms ∷ [] }
 
+-- a transition into three states, with these weights
+abbrev watching : (a b c : ℕ) → Table
+watching a b c = record {
+  codes = 5 ∷ [];
+  states = (record { code = 5; entries = record { target = 0; weight = a } ∷ record { target = 1; weight = b } ∷ record { target = 2; weight = c } ∷ [] } ∷ []) ∷ [] ∷ [] ∷ [];
+}
+
 -- where a code takes w bytes
 module _ (w : ℕ) where
   abbrev f : ℕ → List ℕ
@@ -50,6 +57,10 @@ module _ (w : ℕ) where
   -- one state with a transition for each pair (code, size), and these entries
   abbrev one-state : List (ℕ × ℕ) → List ℕ → List ℕ
   one-state ts es = counts (length ts ∷ []) (length ts) ++ concat (map (λ (t : ℕ × ℕ). f (t .0) ++ (t .1 ∷ [])) ts) ++ (length es / 3 ∷ 0 ∷ es)
+
+  -- three states, the first with one transition, which has these entries
+  abbrev watched : List ℕ → List ℕ
+  watched es = counts (1 ∷ 0 ∷ 0 ∷ []) 1 ++ f 5 ++ (length es / 3 ∷ length es / 3 ∷ 0 ∷ es)
 
   -- bytes, and what they decode to
   abbrev pub rows : List (List ℕ × Decoded)
@@ -83,6 +94,15 @@ module _ (w : ℕ) where
       ∷ (one-state ((5, 0) ∷ (6, 0) ∷ []) [], refused 8)
       ∷ (one-state ((5, 1) ∷ []) (1 ∷ 0 ∷ 0 ∷ []), refused 9)
       ∷ (one-state ((5, 1) ∷ []) (0 ∷ 0 ∷ 0 ∷ []), refused 10)
+      -- weights of 0: first and last, beside the largest total, before what is above it, and all of them
+      ∷ (watched (0 ∷ 0 ∷ 0 ∷ 1 ∷ 3 ∷ 0 ∷ 2 ∷ 0 ∷ 0 ∷ []), accepted (watching 0 3 0))
+      ∷ (watched (0 ∷ 0 ∷ 0 ∷ 1 ∷ 255 ∷ 255 ∷ 2 ∷ 0 ∷ 0 ∷ []), accepted (watching 0 most-total 0))
+      ∷ (watched (0 ∷ 255 ∷ 255 ∷ 1 ∷ 0 ∷ 0 ∷ 2 ∷ 1 ∷ 0 ∷ []), refused 10)
+      ∷ (watched (0 ∷ 0 ∷ 0 ∷ 1 ∷ 0 ∷ 0 ∷ 2 ∷ 0 ∷ 0 ∷ []), refused 10)
+      -- targets ascend over them too, and each entry is looked at before the total, which comes before the next transition
+      ∷ (watched (0 ∷ 1 ∷ 0 ∷ 2 ∷ 0 ∷ 0 ∷ 1 ∷ 1 ∷ 0 ∷ []), refused 9)
+      ∷ (watched (0 ∷ 0 ∷ 0 ∷ 1 ∷ 0 ∷ 0 ∷ 1 ∷ 0 ∷ 0 ∷ []), refused 9)
+      ∷ (one-state ((5, 1) ∷ (5, 1) ∷ []) (0 ∷ 0 ∷ 0 ∷ 1 ∷ 1 ∷ 0 ∷ []), refused 10)
       ∷ []
 
 -- one state, and two codes of two bytes each

@@ -12,9 +12,9 @@ use Rattle.simulation.specs.Sum.{sum}
 use Rattle.simulation.proofs.Finite.Sums.{sum-ext}
 use Rattle.table.specs.declared.parts.Layout.{Layout}
 use Rattle.simulation.specs.Limits.{wide}
-use Rattle.layout.specs.Bytes.{byte, half, actions, states, count, transitions, size, entries}
-use Rattle.form.specs.Form.{form-size, states-from, actions-from, starts-from, entry-starts-from, codes-from, targets-from, weights-from, listed-from, at, start-of, entry-start}
-use Rattle.loading.specs.Fill.{FormFilled, run, Heads, Columns, Between}
+use Rattle.layout.specs.Bytes.{byte, half, count}
+use Rattle.form.specs.Form.{form-size, states-from, actions-from, starts-from, entries-listed-from, codes-from, listed-from, at, start-of, entries-listed}
+use Rattle.loading.specs.Fill.{FormFilled, run, Counts, Columns, Between}
 use Rattle.table.proofs.PartLaws.{Parts}
 use Rattle.layout.proofs.Bounds.{code-at-is, label-at-is}
 use Rattle.layout.proofs.Fields.{half-field}
@@ -59,48 +59,39 @@ between-beyond {a} {b} {f} {g} u =
 
 module _ (s : List ℕ) (t : Layout) (p : Parts wide s t) where
   -- the counts and the starts, written one after the other
-  pub heads-by : {f f₁ f₂ f₃ f₄ : List ℕ}
+  pub counts-by : {f f₁ f₂ f₃ : List ℕ}
       → FormFilled f states-from 1 (λ i. t .states) f₁
       → FormFilled f₁ actions-from 1 (λ i. t .actions) f₂
       → FormFilled f₂ starts-from (t .states + 1) (λ i. sum i (run s (t .«counts_at») 1)) f₃
-      → FormFilled f₃ entry-starts-from (t .transitions + 1) (λ i. sum i (run s (t .«transitions_at» + 2) 3)) f₄
-      → Heads s f₄ × Between 0 codes-from f f₄
-  unfolding start-of entry-start
-  heads-by u v w x = (
+      → Counts s f₃ × Between 0 entries-listed-from f f₃
+  unfolding start-of
+  counts-by u v w = (
     record {
-      states-are = x .kept 0 (inl (omega arith)) ∙ w .kept 0 (inl (omega arith)) ∙ v .kept 0 (inl (omega arith)) ∙ u .filled 0 (omega arith) ∙ p .states-are;
-      actions-are = x .kept 1 (inl (omega arith)) ∙ w .kept 1 (inl (omega arith)) ∙ v .filled 0 (omega arith) ∙ p .actions-are;
-      starts-are = λ q l.
-          x .kept (starts-from + q) (inl (omega (arith, p))) ∙ w .filled q (omega (arith, p))
-          ∙ sum-ext q (run s (t .«counts_at») 1) (count wide s) (λ i m. ap (byte s) (omega (arith, p .counts-from)));
-      entry-starts-are = λ j l.
-          x .filled j (omega (arith, p)) ∙ sum-ext j (run s (t .«transitions_at» + 2) 3) (size wide s) (λ i m. ap (byte s) (omega (arith, p .transitions-from)));
+      states-are = w .kept 0 (inl (omega arith)) ∙ v .kept 0 (inl (omega arith)) ∙ u .filled 0 (omega arith) ∙ p .states-are;
+      actions-are = w .kept 1 (inl (omega arith)) ∙ v .filled 0 (omega arith) ∙ p .actions-are;
+      starts-are = λ q l. w .filled q (omega (arith, p)) ∙ sum-ext q (run s (t .«counts_at») 1) (count wide s) (λ i m. ap (byte s) (omega (arith, p .counts-from)));
     },
-    between-trans (filled-between 0 codes-from u (omega arith) (omega arith))
-        (between-trans (filled-between 0 codes-from v (omega arith) (omega arith))
-        (between-trans (filled-between 0 codes-from w (omega arith) (omega (arith, p))) (filled-between 0 codes-from x (omega arith) (omega (arith, p))))),
+    between-trans (filled-between 0 entries-listed-from u (omega arith) (omega arith))
+        (between-trans (filled-between 0 entries-listed-from v (omega arith) (omega arith)) (filled-between 0 entries-listed-from w (omega arith) (omega (arith, p)))),
   )
 
   -- the columns, written one after the other
-  pub columns-by : {f f₁ f₂ f₃ f₄ : List ℕ}
-      → FormFilled f codes-from (t .transitions) (λ i. half s (t .«transitions_at» + 3 * i)) f₁
-      → FormFilled f₁ targets-from (t .entries) (run s (t .«entries_at») 3) f₂
-      → FormFilled f₂ weights-from (t .entries) (λ i. half s (t .«entries_at» + 1 + 3 * i)) f₃
-      → FormFilled f₃ listed-from (t .actions) (λ i. half s (2 + 2 * i)) f₄
-      → Columns s f₄ × Between codes-from form-size f f₄
-  columns-by u v w x = (
+  pub columns-by : {f f₁ f₂ f₃ : List ℕ}
+      → FormFilled f entries-listed-from (t .transitions) (run s (t .«transitions_at» + 2) 3) f₁
+      → FormFilled f₁ codes-from (t .transitions) (λ i. half s (t .«transitions_at» + 3 * i)) f₂
+      → FormFilled f₂ listed-from (t .actions) (λ i. half s (2 + 2 * i)) f₃
+      → Columns s f₃ × Between entries-listed-from form-size f f₃
+  unfolding entries-listed
+  columns-by u v w = (
     record {
+      sizes-are = λ j l.
+          w .kept (entries-listed-from + j) (inl (omega (arith, p))) ∙ v .kept (entries-listed-from + j) (inl (omega (arith, p)))
+          ∙ u .filled j (omega (arith, p)) ∙ ap (byte s) (omega (arith, p .transitions-from));
       codes-are = λ j l.
-          x .kept (codes-from + j) (inl (omega (arith, p))) ∙ w .kept (codes-from + j) (inl (omega (arith, p))) ∙ v .kept (codes-from + j) (inl (omega (arith, p)))
-          ∙ u .filled j (omega (arith, p)) ∙ ap (half s) (omega (arith, p .transitions-from)) ∙ sym (label-at-is wide s j ∙ half-field s _);
-      targets-are = λ e l.
-          x .kept (targets-from + e) (inl (omega (arith, p))) ∙ w .kept (targets-from + e) (inl (omega (arith, p)))
-          ∙ v .filled e (omega (arith, p)) ∙ ap (byte s) (omega (arith, p .entries-from));
-      weights-are = λ e l.
-          x .kept (weights-from + e) (inl (omega (arith, p))) ∙ w .filled e (omega (arith, p)) ∙ ap (half s) (omega (arith, p .entries-from));
-      listed-are = λ i l. x .filled i (omega (arith, p)) ∙ sym (code-at-is wide s i ∙ half-field s _);
+          w .kept (codes-from + j) (inl (omega (arith, p)))
+          ∙ v .filled j (omega (arith, p)) ∙ ap (half s) (omega (arith, p .transitions-from)) ∙ sym (label-at-is wide s j ∙ half-field s _);
+      listed-are = λ i l. w .filled i (omega (arith, p)) ∙ sym (code-at-is wide s i ∙ half-field s _);
     },
-    between-trans (filled-between codes-from form-size u (omega arith) (omega (arith, p)))
-        (between-trans (filled-between codes-from form-size v (omega arith) (omega (arith, p)))
-        (between-trans (filled-between codes-from form-size w (omega arith) (omega (arith, p))) (filled-between codes-from form-size x (omega arith) (omega (arith, p))))),
+    between-trans (filled-between entries-listed-from form-size u (omega arith) (omega (arith, p)))
+        (between-trans (filled-between entries-listed-from form-size v (omega arith) (omega (arith, p))) (filled-between entries-listed-from form-size w (omega arith) (omega (arith, p)))),
   )

@@ -1,4 +1,5 @@
 -- Laws of loading.
 -- Assumes nothing.
 pub mod FillLaws
+pub mod SupportLaws
 pub mod LoadLaws

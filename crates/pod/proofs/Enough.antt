@@ -1,6 +1,6 @@
 -- Which refusals cannot be: a table is refused by a number up to 10, buffers that are long enough rule out 20 and 22, and 21 asks for a limited length.
 -- Assumes nothing.
-use mathlib.Core.Path.{_≡_, refl, sym, ap, ap₂, subst}
+use mathlib.Core.Path.{_≡_, refl, sym, _∙_, ap, ap₂, subst}
 use mathlib.Core.Bool.{Bool, true, false}
 use mathlib.Core.List.{List}
 use Prim.Native.Nat.{ℕ, zero, suc, _+_, _*_, _≤_, _<_, zero-le}
@@ -11,7 +11,8 @@ use Rattle.simulation.specs.Fit.{Amounts}
 use Rattle.simulation.specs.Limits.{wide}
 use Rattle.simulation.specs.Table.{Table, states-of}
 use Rattle.simulation.specs.Sum.{sum, any}
-use Rattle.layout.specs.Bytes.{Octets, refuse_unless_, _then_, first, section, byte, field, size-from, actions, code, end, target-right, weight-right, code-refusal, actions-refusal, states-refusal, transition-refusal, transitions-refusal, entry-refusal, run-refusal, entries-refusal, refusal, refused, number, decode-as}
+use Rattle.simulation.proofs.Support.Tables.{supported-states}
+use Rattle.layout.specs.Bytes.{Octets, refuse_unless_, _then_, first, section, byte, field, size-from, total-from, actions, code, end, target-right, weight-right, code-refusal, actions-refusal, states-refusal, transition-refusal, transitions-refusal, entry-refusal, distribution-refusal, run-refusal, entries-refusal, refusal, refused, number, decode-as}
 use Rattle.layout.proofs.DecodeLaws.{number-is}
 use Rattle.layout.proofs.Accepted.{accepted-shaped, accepted-valid}
 use Rattle.flows.specs.Flow.{most-flow}
@@ -62,9 +63,14 @@ module _ (w : ℕ) (s : List ℕ) where
   unfolding entry-refusal
   entry-most n p k = either-most 9 10 (target-right s n p k) (weight-right s p k) (omega arith) (omega arith)
 
+  distribution-most : (n p size : ℕ) → distribution-refusal s n p size ≤ 10
+  unfolding distribution-refusal
+  distribution-most n p size =
+      then-most (first 0 size (entry-refusal s n p)) (refuse 10 unless ltb 0 (total-from s p size)) (first-most (entry-refusal s n p) (entry-most n p) 0 size) (refuse-most 10 (ltb 0 (total-from s p size)) (omega arith))
+
   run-most : (n q p j : ℕ) → run-refusal w s n q p j ≤ 10
   unfolding run-refusal
-  run-most n q p j = let at = p + 3 * sum j (size-from w s q) in first-most (entry-refusal s n at) (entry-most n at) 0 (size-from w s q j)
+  run-most n q p j = distribution-most n (p + 3 * sum j (size-from w s q)) (size-from w s q j)
 
   actions-most : actions-refusal w s ≤ 10
   actions-most = section-most _ _ _ _ (refuse-most 3 _ (omega arith)) (first-most (code-refusal w s) code-most _ _)
@@ -92,8 +98,8 @@ module _ (w : ℕ) (s : List ℕ) where
 
 -- ---- no call on long enough buffers gives 20 or 22
 
-module _ {M N : Table} {s t : ℕ} {b : Buffers} where
-  ranks-few : {n : ℕ} → states-of M * states-of N ≤ length (b .ranks) → Condition M N s t b n → n ≡ 20 → ⊥
+module _ {M N : Table} {room s t : ℕ} {b : Buffers} where
+  ranks-few : {n : ℕ} → states-of M * states-of N ≤ length (b .ranks) → Condition M N room s t b n → n ≡ 20 → ⊥
   ranks-few le (outside f) e = omega arith
   ranks-few le (short-ranks i l) e = omega arith
   ranks-few le (short-flow r k l) e = omega arith
@@ -102,7 +108,7 @@ module _ {M N : Table} {s t : ℕ} {b : Buffers} where
   ranks-few le (short-tree r k l g) e = omega arith
   ranks-few le (tree-fits r k l g) e = omega arith
 
-  tree-short : {n : ℕ} → longest ≤ length (b .tree) → Condition M N s t b n → n ≡ 22 → ⊥
+  tree-short : {n : ℕ} → longest ≤ length (b .tree) → Condition M N room s t b n → n ≡ 22 → ⊥
   tree-short le (outside f) e = omega arith
   tree-short le (short-ranks i l) e = omega arith
   tree-short le (short-flow r k l) e = omega arith
@@ -125,7 +131,7 @@ module _ {first second : List ℕ} {s t : ℕ} {b : Buffers} where
   pub ranks-enough : {n k p q : ℕ} → StatesCounted first p → StatesCounted second q → p * q ≤ length (b .ranks) → Call first second s t b n k → n ≡ 20 → ⊥
   ranks-enough m n le (first-refused e) z = omega (arith, refused-most wide first e)
   ranks-enough m n le (second-refused e f) z = omega (arith, refused-most wide second f)
-  ranks-enough m n le (both-accepted {M} {N} e f c) z = ranks-few (omega (arith, ap₂ (λ (p q : ℕ). p * q) (m .right M e) (n .right N f))) c z
+  ranks-enough m n le (both-accepted {M} {N} e f c) z = ranks-few (omega (arith, ap₂ (λ (p q : ℕ). p * q) (m .right M e ∙ sym (supported-states M)) (n .right N f ∙ sym (supported-states N)))) c z
 
   pub tree-enough : {n k : ℕ} → longest ≤ length (b .tree) → Call first second s t b n k → n ≡ 22 → ⊥
   tree-enough le (first-refused e) z = omega (arith, refused-most wide first e)
@@ -143,7 +149,7 @@ module _ {first second : List ℕ} {s t : ℕ} {b : Buffers} (bytes : Octets fir
   needed-most x (both-accepted e f (short-ranks i h)) z = absurd (omega arith)
   needed-most x (both-accepted {M} {N} e f (short-flow r k h)) z =
       let v = accepted-valid wide first bytes M e in
-      room-most M N s (v .few-each s (r .0 .0)) (v .shape .few-entries) (accepted-shaped wide second N f .few-states)
+      room-most M N s (v .few-each s (omega (arith, r .0 .0, supported-states M))) (v .shape .few-entries) (accepted-shaped wide second N f .few-states)
   needed-most x (both-accepted e f (flow-fits r k h)) z = zero-le
   needed-most x (both-accepted e f (long-tree r k h)) z = zero-le
   needed-most x (both-accepted e f (short-tree r k h g)) z = absurd (omega arith)

@@ -1,4 +1,4 @@
--- 01's starred examples: of each row's call every result that the contract allows is the one that 01 gives.
+-- 01's starred examples: of each row's call every result that the contract allows is the one that 01 gives. The same for rows with entries of weight 0.
 -- Assumes nothing.
 use mathlib.Core.Path.{_≡_, refl, ap, _∙_}
 use mathlib.Core.List.{List, [], _∷_}
@@ -16,9 +16,10 @@ use Rattle.simulation.specs.Examples as tables
 use Rattle.layout.specs.Bytes.{decode-as}
 use Rattle.fit.specs.Partner.{place}
 use Rattle.flows.specs.Flow.{Right, flow-record, flow-row, flow-records, amounts-count, flow-of, flow-bytes}
-use Rattle.compare.specs.Outcome.{success, with-flow, outcome, kept-outcome, left}
+use Rattle.compare.specs.Outcome.{Buffers, Result, success, with-flow, outcome, kept-outcome, left}
+use Rattle.compare.specs.Steps.{RightIfKept}
 use Rattle.pod.specs.Check.{checked, RightFor}
-use Rattle.pod.specs.Examples.{flow-CP, tree-fits, tree-short, itself, flow-fits, flow-short, one-state, no-bytes, cut-short, byte-more, codes-exchanged, second-cut-short, rows, Covered, All, done, _also_}
+use Rattle.pod.specs.Examples.{flow-CP, tree-fits, tree-short, itself, flow-fits, flow-short, one-state, no-bytes, cut-short, byte-more, codes-exchanged, second-cut-short, rows, watched-first, watched-second, watched-flow, watched-short, watched-rows, Covered, All, done, _also_}
 
 -- the amounts of C, P: any right ones are 01's
 module _ (x : ℕ → Amounts) (right : Right tables.C tables.P 0 0 x) where
@@ -78,15 +79,20 @@ kept-CP : Kept tables.C tables.P 0 0
 unfolding rank
 kept-CP = refl
 
-written-CP : left (success tables.C tables.P 0 0 (length flow-CP)) (with-flow tables.C tables.P flow-CP (flow-fits .buffers)) ≡ flow-fits .result
+-- what a call with room for it gives
+abbrev shown-CP : Buffers → List ℕ → Result
+shown-CP b l = left (success tables.C tables.P 0 0 (length l)) (with-flow tables.C tables.P l b)
+
+with-CP : (b : Buffers) (x : ℕ → Amounts) → RightIfKept tables.C tables.P 0 0 x → shown-CP b (flow-bytes tables.C tables.P 0 0 x) ≡ shown-CP b flow-CP
+with-CP b x right = ap (shown-CP b) (flow-is x (right (omega arith) (omega arith) kept-CP))
+
+written-CP : (shown-CP (flow-fits .buffers) flow-CP ≡ flow-fits .result) × (shown-CP (watched-flow .buffers) flow-CP ≡ watched-flow .result)
 unfolding success
-written-CP = refl
+written-CP = (refl, refl)
 
 on-flow-fits : Covered flow-fits
 unfolding checked outcome kept-outcome decode-as RightFor
-on-flow-fits r h =
-    let bytes-are : flow-bytes tables.C tables.P 0 0 (h .amounts) ≡ flow-CP = flow-is (h .amounts) (h .right (omega arith) (omega arith) kept-CP) in
-    h .result ∙ ap (λ (l : List ℕ). left (success tables.C tables.P 0 0 (length l)) (with-flow tables.C tables.P l (flow-fits .buffers))) bytes-are ∙ written-CP
+on-flow-fits r h = h .result ∙ with-CP (flow-fits .buffers) (h .amounts) (h .right) ∙ written-CP .0
 
 on-flow-short : Covered flow-short
 unfolding checked decode-as node-bytes tree
@@ -115,6 +121,25 @@ on-codes-exchanged r h = h .result
 on-second-cut-short : Covered second-cut-short
 unfolding checked decode-as node-bytes tree
 on-second-cut-short r h = h .result
+
+on-watched-first : Covered watched-first
+unfolding checked decode-as node-bytes tree
+on-watched-first r h = h .result
+
+on-watched-second : Covered watched-second
+unfolding checked decode-as node-bytes tree
+on-watched-second r h = h .result
+
+on-watched-flow : Covered watched-flow
+unfolding checked outcome kept-outcome decode-as RightFor
+on-watched-flow r h = h .result ∙ with-CP (watched-flow .buffers) (h .amounts) (h .right) ∙ written-CP .1
+
+on-watched-short : Covered watched-short
+unfolding checked decode-as node-bytes tree
+on-watched-short r h = h .result
+
+pub zeros : All Covered watched-rows
+zeros = on-watched-first also on-watched-second also on-watched-flow also on-watched-short also done
 
 pub starred : All Covered rows
 starred = on-tree-fits also on-tree-short also on-itself also on-flow-fits also on-flow-short also on-one-state also on-no-bytes also on-cut-short also on-byte-more also on-codes-exchanged also on-second-cut-short also done

@@ -5,4 +5,5 @@ pub mod Demands
 pub mod Enough
 pub mod Reading
 pub mod Widening
+pub mod Dropped
 pub mod Examples

@@ -1,21 +1,26 @@
 -- From the bytes of two tables, by what reading them told, to what a call does.
 -- Assumes nothing.
-use mathlib.Core.Path.{_≡_, sym, ap, _∙_, subst, subst₂}
+use mathlib.Core.Path.{_≡_, sym, ap, ap₂, _∙_, subst, subst₂}
 use mathlib.Core.List.{List, _++_}
 use mathlib.Core.Logic.{_≢_}
 use Prim.Native.Nat.{ℕ, _+_, _≤_}
 use native.Mathlib.Omega.{arith}
 use lib.ListN.{length, replicate, take, drop, length-append, length-replicate}
 use lib.Seq.{take-at}
-use Rattle.simulation.specs.Table.{Table}
+use Rattle.simulation.specs.Table.{Table, states-of, steps, transition}
+use Rattle.simulation.specs.Support.{supported}
+use Rattle.simulation.proofs.Finite.Sums.{sum-ext}
+use Rattle.simulation.proofs.Support.Tables.{supported-states, supported-length}
 use Rattle.buffer.specs.Buffer.{with-part}
 use Rattle.buffer.proofs.Parts.{part-size, part-is, part-before, part-length}
-use Rattle.form.specs.Form.{form-size, table-of, Loaded}
+use Rattle.form.specs.Form.{form-size, start-of, entries-listed, table-of, Loaded}
 use Rattle.form.specs.Tables.{first-form, second-form, first-table, second-table, BothLoaded}
 use Rattle.simulation.specs.Limits.{wide}
 use Rattle.layout.specs.Bytes.{Decoded, refused, accepted, decode, table, refusal as refused-by}
-use Rattle.loading.specs.Fill.{Reads}
+use Rattle.loading.specs.Fill.{Loads, Reads}
 use Rattle.layout.proofs.DecodeLaws.{decode-accepted}
+use Rattle.flows.specs.Flow.{step-room, room-for, flow-room}
+use Rattle.witness.specs.Shown.{room-asked}
 use Rattle.compare.specs.Outcome.{Buffers, Result, left}
 use Rattle.answer.specs.Numbers.{refusal}
 use Rattle.pod.specs.Check.{checked, RightFor, Checked}
@@ -46,7 +51,7 @@ module _ (first second : List ℕ) (s t : ℕ) (b : Buffers) where
         }
 
     -- two accepted tables
-    pub both-compared : {N : Table} {r : Result} → decode second ≡ accepted N → Compared M N s t b r → Checked first second s t b r
+    pub both-compared : {N : Table} {r : Result} → decode second ≡ accepted N → Compared (supported M) (supported N) (flow-room M N s) s t b r → Checked first second s t b r
     unfolding checked RightFor
     both-compared {N} f h =
         record {
@@ -58,6 +63,22 @@ module _ (first second : List ℕ) (s t : ℕ) (b : Buffers) where
 -- by what reading the tables into forms told
 pub loaded-by : {bytes f f′ : List ℕ} {m : ℕ} → Reads bytes f m f′ → m ≡ 0 → Loaded f′
 loaded-by p z = p .accepted (sym (p .number) ∙ z) .loaded
+
+-- the room asked for by what two forms list
+abbrev pub room-in : (f g : List ℕ) (s : ℕ) → ℕ
+room-in f g s = room-for (states-of (table-of g)) (length (steps (table-of f) s)) (λ k. entries-listed f (start-of f s + k))
+
+-- that is the room for all entries of the tables in the bytes
+room-same : {first f f′ second g g′ : List ℕ} → Loads first f f′ → Loads second g g′ → (s : ℕ) → room-in f′ g′ s ≡ flow-room (table wide first) (table wide second) s
+unfolding room-for
+room-same {first} {f} {f′} {second} {g} {g′} a b s =
+    let M = table wide first in
+    let N = table wide second in
+    let q : states-of (table-of g′) ≡ states-of N = ap states-of (b .same) ∙ supported-states N in
+    let n : length (steps (table-of f′) s) ≡ length (steps M s) = ap (λ (L : Table). length (steps L s)) (a .same) ∙ supported-length M s in
+    let e : ℕ → ℕ = λ k. entries-listed f′ (start-of f′ s + k) in
+    ap₂ (λ (q n : ℕ). room-for q n e) q n
+    ∙ ap (λ (n : ℕ). 1 + n) (sum-ext (length (steps M s)) (λ k. step-room (states-of N) (e k)) (λ k. step-room (states-of N) (length (transition M s k .entries))) (λ k l. ap (step-room (states-of N)) (a .listed s k l)))
 
 -- both forms in one list of ones: the first is read, then the second
 abbrev ones : List ℕ
@@ -89,8 +110,9 @@ module _ {first f p : List ℕ} {m : ℕ} (a : Reads first f m p) (size : length
     pub both-loaded : m ≡ 0 → n ≡ 0 → BothLoaded tables
     both-loaded y z = record { first = subst Loaded (sym first-is) (loaded-by a y); second = subst Loaded (sym second-is) (loaded-by b z) }
 
-    pub forms-compared : {s t : ℕ} {l : Buffers} {r : Result} → Compared (first-table tables) (second-table tables) s t l r → Compared (table-of p) (table-of q) s t l r
-    forms-compared {s} {t} {l} {r} h = subst₂ (λ (f g : List ℕ). Compared (table-of f) (table-of g) s t l r) first-is second-is h
+    pub forms-compared : {s t : ℕ} {l : Buffers} {r : Result} → Compared (first-table tables) (second-table tables) (room-asked tables s) s t l r
+        → Compared (table-of p) (table-of q) (room-in p q s) s t l r
+    forms-compared {s} {t} {l} {r} h = subst₂ (λ (f g : List ℕ). Compared (table-of f) (table-of g) (room-in f g s) s t l r) first-is second-is h
 
 -- what a call does
 module _ (first second : List ℕ) (s t : ℕ) (b : Buffers) {f f′ : List ℕ} {m : ℕ} (p : Reads first f m f′) where
@@ -106,9 +128,13 @@ module _ (first second : List ℕ) (s t : ℕ) (b : Buffers) {f f′ : List ℕ}
         subst (λ (q : Answer). Checked first second s t b (left q b)) (sym e)
         (second-is-refused first second s t b (decode-accepted wide first first-passed) (decodes-refused second n (q .number) d))
 
-    pub read-compared : n ≡ 0 → {r : Result} → Compared (table-of f′) (table-of g′) s t b r → Checked first second s t b r
+    pub read-compared : n ≡ 0 → {r : Result} → Compared (table-of f′) (table-of g′) (room-in f′ g′ s) s t b r → Checked first second s t b r
     read-compared z {r} h =
         let passed : refused-by wide second ≡ 0 = sym (q .number) ∙ z in
+        let M = supported (table wide first) in
+        let N = supported (table wide second) in
+        let one = p .accepted first-passed in
+        let two = q .accepted passed in
         both-compared first second s t b (decode-accepted wide first first-passed) (decode-accepted wide second passed)
-        (subst (λ (N : Table). Compared (table wide first) N s t b r) (q .accepted passed .same)
-        (subst (λ (M : Table). Compared M (table-of g′) s t b r) (p .accepted first-passed .same) h))
+        (subst (λ (n : ℕ). Compared M N n s t b r) (room-same one two s)
+        (subst₂ (λ (M N : Table). Compared M N (room-in f′ g′ s) s t b r) (one .same) (two .same) h))

@@ -8,10 +8,11 @@ use Prim.Native.Nat.{ℕ, _+_, _*_, _<_}
 use lib.ListN.{length, getD}
 use Rattle.simulation.specs.Fit.{Amounts, Fits, Weighting}
 use Rattle.simulation.specs.Table.{Table, states-of}
+use Rattle.simulation.specs.Support.{supported}
 use Rattle.simulation.specs.Round.{rank, rank-list, maximum, zeros}
 use Rattle.simulation.specs.Demands.{Kept, Keeping, Told}
 use Rattle.layout.specs.Bytes.{refused, accepted, decode}
-use Rattle.flows.specs.Flow.{Right, flow-bytes}
+use Rattle.flows.specs.Flow.{Right, flow-bytes, flow-room}
 use Rattle.buffer.specs.Buffer.{over}
 use Rattle.compare.specs.Outcome.{Buffers, Result}
 use Rattle.simulation.specs.Tree.{tree-bytes}
@@ -23,12 +24,13 @@ module _ (first second : List ℕ) (s t : ℕ) (b : Buffers) where
   pub data Call : (number table : ℕ) → Type 0 where
     first-refused : {k : ℕ} → decode first ≡ refused k → Call k 1
     second-refused : {M : Table} {k : ℕ} → decode first ≡ accepted M → decode second ≡ refused k → Call k 2
-    both-accepted : {M N : Table} {n : ℕ} → decode first ≡ accepted M → decode second ≡ accepted N → Condition M N s t b n → Call n 0
+    both-accepted : {M N : Table} {n : ℕ} → decode first ≡ accepted M → decode second ≡ accepted N
+        → Condition (supported M) (supported N) (flow-room M N s) s t b n → Call n 0
 
   abbrev pub call-result : (x : ℕ → Amounts) {n k : ℕ} → Call n k → Result
   call-result x (first-refused {k} _) = record { answer = refusal k 1 0; buffers = b }
   call-result x (second-refused {M} {k} _ _) = record { answer = refusal k 2 0; buffers = b }
-  call-result x (both-accepted {M} {N} _ _ c) = result-of M N s t b x c
+  call-result x (both-accepted {M} {N} _ _ c) = result-of (supported M) (supported N) (flow-room M N s) s t b x c
 
   -- each number exactly under its condition, in 01's order, and with it the whole answer and all three buffers
   pub record Demand1 (r : Result) : Type 0 where
@@ -36,7 +38,7 @@ module _ (first second : List ℕ) (s t : ℕ) (b : Buffers) where
     pub exactly : (n k : ℕ) → ((r .answer .number ≡ n) × (r .answer .table ≡ k)) ↔ Call n k
     pub gives : {n k : ℕ} (c : Call n k) → r ≡ call-result amounts c
 
--- Of two accepted tables, with room for the ranks, so also after 21 to 23
+-- Of two accepted tables, M and N being what is judged of them, with room for the ranks, so also after 21 to 23
 module _ (M N : Table) (s t : ℕ) (b : Buffers) (r : Result) where
   -- the rank that the call left for a pair
   abbrev pub rank-at : ℕ → ℕ → ℕ

@@ -1,4 +1,5 @@
--- The calls that 01 marks to be proved, as rows of one table: what goes in and what must come out. proofs/Examples covers them all.
+-- The calls that 01 marks to be proved, as rows of one table: what goes in and what must come out; and some with entries of weight 0 (02, E2).
+-- proofs/Examples covers them all.
 -- Assumes nothing.
 use mathlib.Core.Path.{_≡_}
 use mathlib.Core.List.{List, [], _∷_, _++_}
@@ -18,6 +19,13 @@ P = bytes 0x0A 0x14 3
 
 abbrev pub C : List ℕ
 C = bytes 0x0A 0x14 1
+
+-- the same with an entry for each outcome that was watched, also for those never counted
+abbrev pub watched : (weight : ℕ) → List ℕ
+watched w =
+    2 ∷ 0 ∷ 0x0A ∷ 0 ∷ 0x14 ∷ 0 ∷ 3 ∷ 1 ∷ 1 ∷ 0 ∷ 2 ∷ 0 ∷ 0x0A ∷ 0 ∷ 3 ∷ 0x14 ∷ 0 ∷ 3
+    ∷ 6 ∷ 0 ∷ 0 ∷ 0 ∷ 0 ∷ 1 ∷ w ∷ 0 ∷ 2 ∷ 1 ∷ 0 ∷ 0 ∷ 0 ∷ 0 ∷ 1 ∷ 1 ∷ 0 ∷ 2 ∷ 0 ∷ 0
+    ∷ []
 
 -- one state without transitions
 abbrev pub lone : List ℕ
@@ -94,6 +102,23 @@ second-cut-short = refuses P (take 28 P) 1 2
 
 abbrev pub rows : List Row
 rows = tree-fits ∷ tree-short ∷ itself ∷ flow-fits ∷ flow-short ∷ one-state ∷ no-bytes ∷ cut-short ∷ byte-more ∷ codes-exchanged ∷ second-cut-short ∷ []
+
+-- with entries of weight 0: the tree, in which they are no children, of the first table; that of the second, whose sets do not hold their targets;
+-- the flow, for which the buffer must have room for all entries
+abbrev pub watched-first : Row
+watched-first = call (watched 3) C 0 0 9 0 19 (answered 2 4 0 2 19) (lent ranks-PC [] tree-PC)
+
+abbrev pub watched-second : Row
+watched-second = call P (watched 1) 0 0 9 0 19 (answered 2 4 0 2 19) (lent ranks-PC [] tree-PC)
+
+abbrev pub watched-flow : Row
+watched-flow = call (watched 1) (watched 3) 0 0 9 58 0 (answered 1 5 1 0 22) (lent ranks-PP (flow-CP ++ replicate 36 7) [])
+
+abbrev pub watched-short : Row
+watched-short = call (watched 1) (watched 3) 0 0 9 57 0 (refusal 21 0 58) (lent ranks-PP (replicate 57 7) [])
+
+abbrev pub watched-rows : List Row
+watched-rows = watched-first ∷ watched-second ∷ watched-flow ∷ watched-short ∷ []
 
 -- every result that the contract allows is the row's
 abbrev pub Covered : Row → Type 0

@@ -2,4 +2,5 @@
 -- Assumes nothing.
 pub mod Check
 pub mod Demands
+pub mod Dropped
 pub mod Examples

@@ -1,6 +1,6 @@
 -- Places of a transition of a loaded form.
 -- Assumes nothing.
-use mathlib.Core.Path.{_≡_, ap}
+use mathlib.Core.Path.{_≡_, sym, ap, subst}
 use mathlib.Core.List.{List}
 use Prim.Native.Nat.{ℕ, _<_, _≤_}
 use native.Mathlib.Omega.{arith}
@@ -9,7 +9,7 @@ use Rattle.simulation.specs.Limits.{most-states}
 use Rattle.simulation.specs.Fit.{Positive}
 use Rattle.simulation.specs.Table.{weights, targets, states-of}
 use Rattle.form.specs.Form.{Loaded, table-of, transitions-of, transition-at}
-use Rattle.form.proofs.FormLaws.{limited-at, limits, distribution-at, targets-length, weights-length}
+use Rattle.form.proofs.FormLaws.{limited-at, limits, distribution-at, positive-at, targets-length, weights-length}
 
 module _ (f : List ℕ) (j : ℕ) (l : Loaded f) (h : j < transitions-of f) where
   pub few-places : length (transition-at f j .entries) ≤ most-states
@@ -29,7 +29,7 @@ module _ (f : List ℕ) (j : ℕ) (l : Loaded f) (h : j < transitions-of f) wher
   weights-count ws e = omega (arith, ap length e, weights-length (transition-at f j))
 
   pub weights-positive : (ws : List ℕ) → ws ≡ weights (transition-at f j) → Positive ws
-  weights-positive ws e i lt = omega (arith, ap (λ (l : List ℕ). getD l i 0) e, distribution-at f l j h .positive i (omega (arith, weights-count ws e)))
+  weights-positive ws e = subst Positive (sym e) (positive-at f l j h)
 
   -- a place
   module _ (i : ℕ) (lt : i < length (transition-at f j .entries)) where

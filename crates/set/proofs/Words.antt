@@ -12,7 +12,7 @@ use lib.Dec.{eqb}
 use lib.Arith.{digits-lt}
 use lib.Pow.{shr-shr, pow-pos, pow-add, high, split}
 use Rattle.simulation.specs.Sum.{sum, when}
-use Rattle.simulation.proofs.Finite.Sums.{sum-ext}
+use Rattle.simulation.proofs.Finite.Sums.{sum-ext, sum-join}
 use Rattle.word.specs.Mask.{Test, member, without-member, size, Lowest, word-bits}
 use Rattle.set.specs.Words.{as-number}
 use Rattle.word.proofs.Mask.{member-high, member-shift, below-or-not, lowest-unique, without-less}
@@ -147,13 +147,6 @@ module _ (n : ℕ) (f h : ℕ → ℕ) (i u : ℕ) (li : i < n) (lu : u < word-b
       (number-lowest n f i u li lu none l .here)
 
 -- the members of the words together
-sum-join : (a b : ℕ) (f : ℕ → ℕ) → sum (a + b) f ≡ sum a f + sum b (λ i. f (a + i))
-unfolding sum
-sum-join a zero f = ap (λ (n : ℕ). sum n f) (equation (a + 0) (a) (omega arith)) ∙ sym (omega arith)
-sum-join a (suc b) f =
-    ap (λ (n : ℕ). sum n f) (equation (a + suc b) (suc (a + b)) (omega arith)) ∙ ap (λ (n : ℕ). f (a + b) + n) (sum-join a b f)
-    ∙ omega arith
-
 pub words-size : (n m : ℕ) (f : ℕ → ℕ) → m ≤ n → size (m * word-bits) (member (as-number n f)) ≡ sum m (λ i. size word-bits (member (f i)))
 unfolding sum
 words-size n zero f le = refl

@@ -7,5 +7,6 @@ pub mod Simulation
 pub mod Trees
 pub mod Demands
 pub mod Chains
+pub mod Support
 pub mod Soundness
 pub mod Examples

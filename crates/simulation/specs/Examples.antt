@@ -5,6 +5,7 @@ use mathlib.Core.List.{List, [], _∷_}
 use Prim.Native.Nat.{ℕ}
 use Rattle.simulation.specs.Sum.{below}
 use Rattle.simulation.specs.Table.{Entry, Transition, Table}
+use Rattle.simulation.specs.Support.{supported}
 use Rattle.simulation.specs.Round.{rank, rank-list, maximum, zeros}
 use Rattle.simulation.specs.Tree.{depth, tree, node-bytes}
 use Rattle.simulation.specs.Length.{pair-length, tree-length}
@@ -110,3 +111,25 @@ pc-rounds = refl
 pc-kept : zeros (rank-list P C) ≡ 4
 unfolding zeros rank-list
 pc-kept = refl
+
+-- entries of weight 0: P as it is written where every outcome was watched
+
+abbrev pub watched-P : Table
+watched-P = record {
+  codes = 10 ∷ 20 ∷ [];
+  states = (on 10 (entry 0 0 ∷ entry 1 3 ∷ entry 2 1 ∷ []) ∷ []) ∷ (on 20 (entry 0 0 ∷ entry 1 1 ∷ entry 2 0 ∷ []) ∷ []) ∷ [] ∷ [];
+}
+
+never-counted : supported watched-P ≡ P
+unfolding supported
+never-counted = refl
+
+-- the ranks are those of P also by plain weights of 0, which send nothing out and take nothing in
+plain-ranks : rank-list watched-P C ≡ rank-list P C
+unfolding rank-list
+plain-ranks = refl
+
+-- but not the tree, in which each would be a child
+plain-tree : node-bytes (tree watched-P C 0 0) ≡ 1 ∷ 10 ∷ 0 ∷ 3 ∷ 0 ∷ 0 ∷ 0 ∷ 0 ∷ 1 ∷ 3 ∷ 0 ∷ 1 ∷ 20 ∷ 0 ∷ 3 ∷ 0 ∷ 0 ∷ 0 ∷ 0 ∷ 1 ∷ 1 ∷ 0 ∷ 0 ∷ 2 ∷ 0 ∷ 0 ∷ 0 ∷ 2 ∷ 1 ∷ 0 ∷ 0 ∷ []
+unfolding node-bytes tree
+plain-tree = refl

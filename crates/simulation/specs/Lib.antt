@@ -4,6 +4,7 @@ pub mod Sum
 pub mod Fit
 pub mod Limits
 pub mod Table
+pub mod Support
 pub mod Round
 pub mod Tree
 pub mod Length

@@ -1,71 +1,77 @@
 -- How long the flow buffer must be, summed up over the transitions of a state by their numbers in a loaded form.
 -- Assumes nothing.
-use mathlib.Core.Path.{_≡_, ap, _∙_}
+use mathlib.Core.Path.{_≡_, sym, ap, ap₂, _∙_}
 use mathlib.Core.List.{List}
-use Prim.Native.Nat.{ℕ, suc, _+_, _-_, _*_, _≤_, _<_}
+use Prim.Native.Nat.{ℕ, _+_, _-_, _*_, _≤_, _<_}
 use native.Mathlib.Omega.{arith}
 use lib.ListN.{length}
-use Rattle.simulation.specs.Sum.{sum}
-use Rattle.simulation.specs.Table.{Transition, Table, targets, states-of, steps, transition}
-use Rattle.simulation.proofs.Finite.Sums.{sum-le}
-use Rattle.simulation.specs.Limits.{most-states}
-use Rattle.form.specs.Form.{table-of, Loaded, start-of, transitions-of, transition-at}
-use Rattle.form.proofs.FormLaws.{counts, limited-at, targets-length, transition-numbered, start-bound}
-use Rattle.flows.specs.Flow.{step-room, flow-room, most-flow}
-use Rattle.flows.proofs.FlowRoom.{room-most}
+use Rattle.simulation.specs.Table.{states-of, steps, transition}
+use Rattle.simulation.proofs.Finite.Sums.{sum-term}
+use Rattle.simulation.specs.Limits.{most-entries}
+use Rattle.form.specs.Form.{start-of, transitions-of, entries-listed}
+use Rattle.form.specs.Tables.{first-form, first-table, second-table, BothLoaded}
+use Rattle.form.proofs.FormLaws.{counts, listed-of, listed-most, start-bound}
+use Rattle.flows.specs.Flow.{step-room, room-for, flow-room, most-flow}
+use Rattle.flows.proofs.FlowRoom.{room-none, room-more, room-next, room-mono, room-bound}
+use Rattle.witness.specs.Shown.{room-asked}
+
+-- how many entries the transition k of the state s lists
+abbrev pub listed : (tables : List ℕ) (s k : ℕ) → ℕ
+listed tables s k = entries-listed (first-form tables) (start-of (first-form tables) s + k)
 
 -- what the transitions of the state s before number j need, and the count before them
-unfoldable pub so-far : (f g : List ℕ) (s j : ℕ) → ℕ
-unfolding sum
-so-far f g s j = 1 + sum (j - start-of f s) (λ k. step-room (table-of g) (transition (table-of f) s k))
+abbrev pub so-far : (tables : List ℕ) (s j : ℕ) → ℕ
+so-far tables s j = room-for (states-of (second-table tables)) (j - start-of (first-form tables) s) (listed tables s)
 
-module _ (f g : List ℕ) (lf : Loaded f) (lg : Loaded g) (s : ℕ) (a : s < states-of (table-of f)) where
-  abbrev M : Table
-  M = table-of f
+module _ (tables : List ℕ) (l : BothLoaded tables) (s : ℕ) (a : s < states-of (first-table tables)) where
+  abbrev f : List ℕ
+  f = first-form tables
 
-  abbrev N : Table
-  N = table-of g
+  abbrev q : ℕ
+  q = states-of (second-table tables)
 
-  pub room-start : {j : ℕ} → j ≡ start-of f s → 1 ≡ so-far f g s j
-  unfolding so-far sum
-  room-start {j} e = ap (λ (n : ℕ). 1 + sum n (λ k. step-room N (transition M s k))) (let z : 0 ≡ j - start-of f s = omega arith in z)
+  abbrev n : ℕ
+  n = length (steps (first-table tables) s)
 
-  pub room-end : {j : ℕ} → j ≡ start-of f (s + 1) → so-far f g s j ≡ flow-room M N s
-  unfolding so-far flow-room
-  room-end {j} e = ap (λ (n : ℕ). 1 + sum n (λ k. step-room N (transition M s k))) (let z : j - start-of f s ≡ length (steps M s) = omega (arith, counts f lf s a) in z)
+  pub room-limit : room-asked tables s ≤ most-flow
+  room-limit = room-bound q (listed tables s) n (l .first .valid .few-each s a) (listed-most f (l .first) s a) (l .second .valid .shape .few-states)
 
-  pub room-limit : flow-room M N s ≤ most-flow
-  room-limit = room-most M N s (lf .valid .few-each s a) (lf .valid .shape .few-entries) (lg .valid .shape .few-states)
+  -- the flow has room: a transition lists at least the entries that it has
+  pub room-asked-enough : flow-room (first-table tables) (second-table tables) s ≤ room-asked tables s
+  room-asked-enough = room-mono q (listed tables s) n (λ k. length (transition (first-table tables) s k .entries)) (λ k b. listed-of f (l .first) s k a b)
+
+  pub room-start : {j : ℕ} → j ≡ start-of f s → 1 ≡ so-far tables s j
+  room-start {j} e = room-none q (listed tables s) ∙ ap (λ (i : ℕ). room-for q i (listed tables s)) (let z : 0 ≡ j - start-of f s = omega arith in z)
+
+  pub room-end : {j : ℕ} → j ≡ start-of f (s + 1) → so-far tables s j ≡ room-asked tables s
+  room-end {j} e = ap (λ (i : ℕ). room-for q i (listed tables s)) (let z : j - start-of f s ≡ n = omega (arith, counts f (l .first) s a) in z)
 
   module _ (j : ℕ) (low : start-of f s ≤ j) (high : j < start-of f (s + 1)) where
-    here : transition-at f j ≡ transition M s (j - start-of f s)
-    here = transition-numbered f lf s j a low high
-
-    place : j - start-of f s < length (steps M s)
-    place = omega (arith, counts f lf s a)
-
-    entries : length (targets (transition-at f j)) ≡ length (transition M s (j - start-of f s) .entries)
-    entries = ap (λ (m : Transition). length (targets m)) here ∙ targets-length (transition M s (j - start-of f s))
-
     pub room-number : j < transitions-of f
-    room-number = omega (arith, start-bound f lf (s + 1) (omega arith))
+    room-number = omega (arith, start-bound f (l .first) (s + 1) (omega arith))
 
-    step : {w n : ℕ} → w ≡ states-of N → n ≡ length (targets (transition-at f j)) → 3 + 6 * n * w ≡ step-room N (transition M s (j - start-of f s))
-    step {w} {n} ew en =
-        ap (λ (l : ℕ). 3 + 6 * l * w) (en ∙ entries) ∙ ap (λ (v : ℕ). 3 + 6 * length (transition M s (j - start-of f s) .entries) * v) ew
+    abbrev k : ℕ
+    k = j - start-of f s
 
-    -- one transition more
-    pub room-next : {r w n : ℕ} → r ≡ so-far f g s j → w ≡ states-of N → n ≡ length (targets (transition-at f j)) → r + (3 + 6 * n * w) ≡ so-far f g s (j + 1)
-    unfolding so-far sum
-    room-next e ew en =
-        let more : j + 1 - start-of f s ≡ suc (j - start-of f s) = omega arith in
-        omega (arith, step ew en, ap (λ (n : ℕ). sum n (λ k. step-room N (transition M s k))) more)
+    within : k < n
+    within = omega (arith, counts f (l .first) s a)
 
-    -- no sum on the way is large
-    pub room-small : {r w n : ℕ} → r ≡ so-far f g s j → w ≡ states-of N → n ≡ length (targets (transition-at f j)) → (n ≤ most-states) × (r + (3 + 6 * n * w) ≤ most-flow)
-    unfolding so-far flow-room
-    room-small e ew en =
-        let l = limited-at f lf j room-number in (
-          omega (arith, l .few, l .paired),
-          omega (arith, step ew en, sum-le (j - start-of f s) (length (steps M s)) (λ k. step-room N (transition M s k)) place, room-limit),
-        )
+    here : listed tables s k ≡ entries-listed f j
+    here = ap (entries-listed f) (let z : start-of f s + k ≡ j = omega arith in z)
+
+    -- what the loop adds for the transition j
+    module _ {r w e : ℕ} (er : r ≡ so-far tables s j) (ew : w ≡ q) (ee : e ≡ entries-listed f j) where
+      added : 3 + 6 * e * w ≡ step-room q (listed tables s k)
+      added = ap₂ (λ (i v : ℕ). step-room v i) (ee ∙ sym here) ew
+
+      pub room-added : r + (3 + 6 * e * w) ≡ so-far tables s (j + 1)
+      room-added =
+          let more : k + 1 ≡ j + 1 - start-of f s = omega arith in
+          omega (arith, added, room-more q (listed tables s) k er, ap (λ (i : ℕ). room-for q i (listed tables s)) more)
+
+      -- no number on the way is large
+      pub room-small : (e ≤ most-entries) × (r + (3 + 6 * e * w) ≤ most-flow)
+      room-small = (
+        omega (arith, here, sum-term n (listed tables s) k within, listed-most f (l .first) s a),
+        omega (arith, added, room-next q (listed tables s) k n within, room-limit),
+      )

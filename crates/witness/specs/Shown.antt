@@ -2,23 +2,30 @@
 -- Assumes nothing.
 use mathlib.Core.Path.{_≡_}
 use mathlib.Core.List.{List}
-use Prim.Native.Nat.{ℕ, _≤_, _<_}
+use Prim.Native.Nat.{ℕ, _+_, _≤_, _<_}
 use lib.ListN.{length}
 use Rattle.simulation.specs.Fit.{Amounts}
-use Rattle.simulation.specs.Table.{Table}
+use Rattle.simulation.specs.Table.{Table, states-of, steps}
 use Rattle.simulation.specs.Tree.{tree-bytes}
-use Rattle.flows.specs.Flow.{Right, flow-bytes, flow-room}
+use Rattle.form.specs.Form.{start-of, entries-listed}
+use Rattle.form.specs.Tables.{first-form, first-table, second-table}
+use Rattle.flows.specs.Flow.{Right, flow-bytes, room-for}
 use Rattle.buffer.specs.Buffer.{over}
 use Rattle.counting.specs.Count.{longest}
 use Rattle.answer.specs.Numbers.{refusal, with-written}
 use Rattle.answer.specs.declared.answer.Answer.{Answer}
 
--- a kept pair: the flow is written if there is room for it, and the answer a then says how long it is
-pub record FlowShown (M N : Table) (s t : ℕ) (a r : Answer) (flow flow′ : List ℕ) : Type 0 where
+-- what the flow buffer must have for the state s: the entries that its transitions list in their bytes, also those that the form leaves out
+abbrev pub room-asked : (tables : List ℕ) (s : ℕ) → ℕ
+room-asked tables s =
+    room-for (states-of (second-table tables)) (length (steps (first-table tables) s)) (λ k. entries-listed (first-form tables) (start-of (first-form tables) s + k))
+
+-- a kept pair: the flow is written if the buffer has the room asked, and the answer a then says how long it is
+pub record FlowShown (M N : Table) (room s t : ℕ) (a r : Answer) (flow flow′ : List ℕ) : Type 0 where
   pub amounts : ℕ → Amounts
   pub right : Right M N s t amounts
-  pub refused : length flow < flow-room M N s → (r ≡ refusal 21 0 (flow-room M N s)) × (flow′ ≡ flow)
-  pub written : flow-room M N s ≤ length flow → (r ≡ with-written (length (flow-bytes M N s t amounts)) a) × (flow′ ≡ over (flow-bytes M N s t amounts) flow)
+  pub refused : length flow < room → (r ≡ refusal 21 0 room) × (flow′ ≡ flow)
+  pub written : room ≤ length flow → (r ≡ with-written (length (flow-bytes M N s t amounts)) a) × (flow′ ≡ over (flow-bytes M N s t amounts) flow)
 
 -- a pair that is not kept: the tree is written if it is short enough and there is room for it
 pub record TreeShown (M N : Table) (s t : ℕ) (a r : Answer) (tree tree′ : List ℕ) : Type 0 where

@@ -32,7 +32,7 @@ refused-requires c κs = search needs
 returns : tie.Need-returns
 returns c =
     let at-outside = c .before .before in
-    is-outside _ _ _ _ _ (not-inside (at-outside .before .before .states .ensures) (at-outside .before .states2 .ensures) (at-outside .is-outside .ensures) (c .before .if1 .taken)) (c .refused .ensures)
+    is-outside _ _ _ _ _ _ (not-inside (at-outside .before .before .states .ensures) (at-outside .before .states2 .ensures) (at-outside .is-outside .ensures) (c .before .if1 .taken)) (c .refused .ensures)
 
 refused-requires-2 : tie.Need-refused-requires-2
 refused-requires-2 c κs = search needs
@@ -43,7 +43,7 @@ returns-2 c =
     let ep = at-outside .before .before .states .ensures in
     let eq = at-outside .before .states2 .ensures in
     let p = entry (at-outside .before) .pre in
-    has-short-ranks _ _ _ _ _ (inside ep eq (at-outside .is-outside .ensures) (c .before .before .if1 .left)) (count-is _ _ (p .first) (p .second) ep eq) (ltb-true _ _ (c .before .if2 .taken)) (c .refused2 .ensures)
+    has-short-ranks _ _ _ _ _ _ (inside ep eq (at-outside .is-outside .ensures) (c .before .before .if1 .left)) (count-is _ _ (p .first) (p .second) ep eq) (ltb-true _ _ (c .before .if2 .taken)) (c .refused2 .ensures)
 
 show-requires : tie.Need-show-requires
 show-requires c κs =
@@ -53,7 +53,7 @@ show-requires c κs =
     let eq = at-outside .before .states2 .ensures in
     let p = entry (at-outside .before) .pre in
     let i = inside ep eq (at-outside .is-outside .ensures) (at-if2 .before .if1 .left) in
-    (p, i .0, i .1, has-room (count-is _ _ (p .first) (p .second) ep eq) (at-if2 .if2 .left))
+    record { loaded = p; first = i .0; second = i .1; ranks-room = has-room (count-is _ _ (p .first) (p .second) ep eq) (at-if2 .if2 .left) }
 
 same-length : tie.Need-same-length
 same-length c = search needs

@@ -1,21 +1,20 @@
 -- `witness::flow_room` meets its contract: the loop sums up what the transitions before j need.
 -- Assumes nothing.
-use mathlib.Core.Path.{_≡_, ap, _∙_}
+use mathlib.Core.Path.{_≡_, _∙_}
 use Prim.Native.Nat.{_+_, _-_, _*_, _≤_}
 use native.Mathlib.Omega.{arith}
-use lib.ListN.{length}
 use borrow.Author.Needs.{needs}
-use Rattle.simulation.specs.Limits.{most-states}
+use Rattle.simulation.specs.Limits.{most-entries}
 use Rattle.form.specs.Form.{start-of}
-use Rattle.form.specs.Tables.{first-form, second-form}
+use Rattle.form.specs.Tables.{first-form}
 use Rattle.form.proofs.FormLaws.{limits, starts-ascend}
 use Rattle.flows.specs.Flow.{most-flow}
-use Rattle.witness.proofs.Room.{so-far, room-start, room-end, room-number, room-next, room-small}
+use Rattle.witness.proofs.Room.{so-far, room-start, room-end, room-number, room-added, room-small}
 use Rattle.witness.proofs.flow_room.Statement.{statement}
 use Rattle.witness.proofs.flow_room.Tie as tie
 
 abbrev Inv-loop : tie.InvT-loop
-Inv-loop tables s width end room₀ j₀ room j = (start-of (first-form tables) s ≤ j) × (j ≤ end) × (room ≡ so-far (first-form tables) (second-form tables) s j)
+Inv-loop tables s width end room₀ j₀ room j = (start-of (first-form tables) s ≤ j) × (j ≤ end) × (room ≡ so-far tables s j)
 
 abbrev μ-loop : tie.MeasureT-loop
 μ-loop tables s width end room₀ j₀ room j = end - j
@@ -40,21 +39,23 @@ loop-holds c =
     let d = entry (c .before .before) in (
       omega (arith, c .start-of2 .ensures),
       omega (arith, c .start-of2 .ensures, c .before .start-of .ensures, starts-ascend _ (d .pre .0 .first) (d .args .s) (d .args .s + 1) (omega arith) (omega (arith, d .pre .1))),
-      room-start _ _ (d .pre .0 .first) (d .pre .0 .second) _ (d .pre .1) (c .start-of2 .ensures),
+      room-start _ (d .pre .0) _ (d .pre .1) (c .start-of2 .ensures),
     )
 
-targets-requires : tie.Need-targets-requires Inv-loop μ-loop
-targets-requires c κs =
+entries-listed-requires : tie.Need-entries-listed-requires Inv-loop μ-loop
+entries-listed-requires c κs =
     let d = entry (c .before .before .before .before) in
-    (d .pre .0 .first, room-number _ _ (d .pre .0 .first) (d .pre .0 .second) _ (d .pre .1) _ (c .before .loop .inv .0) (omega (arith, c .before .before .before .start-of .ensures)))
+    (d .pre .0 .first, room-number _ (d .pre .0) _ (d .pre .1) _ (c .before .loop .inv .0) (omega (arith, c .before .before .before .start-of .ensures)))
 
 -- what is added up stays small
-small : (c : tie.After-targets Inv-loop μ-loop) → let n = length (c .targets .result .now) in
-    (n ≤ most-states) × (c .before .before .loop .room + (3 + 6 * n * c .before .before .before .before .before .states .result) ≤ most-flow)
+small : (c : tie.After-entries-listed Inv-loop μ-loop) →
+    let e = c .entries-listed .result in
+    (e ≤ most-entries) × (c .before .before .loop .room + (3 + 6 * e * c .before .before .before .before .before .states .result) ≤ most-flow)
 small c =
     let d = entry (c .before .before .before .before .before) in
     let j = c .before .before .loop in
-    room-small _ _ (d .pre .0 .first) (d .pre .0 .second) _ (d .pre .1) (j .j) (j .inv .0) (omega (arith, c .before .before .before .before .start-of .ensures)) (j .inv .2) (c .before .before .before .before .before .states .ensures) (ap length (c .targets .ensures))
+    room-small _ (d .pre .0) _ (d .pre .1) (j .j) (j .inv .0) (omega (arith, c .before .before .before .before .start-of .ensures)) (j .inv .2)
+    (c .before .before .before .before .before .states .ensures) (c .entries-listed .ensures)
 
 mul-room : tie.Need-mul-room Inv-loop μ-loop
 mul-room c = omega (arith, small c .0)
@@ -80,13 +81,14 @@ loop-again c =
     let j = c .before .before .loop in (
       omega arith,
       omega arith,
-      room-next _ _ (d .pre .0 .first) (d .pre .0 .second) _ (d .pre .1) (j .j) (j .inv .0) (omega (arith, c .before .before .before .before .start-of .ensures)) (j .inv .2) (c .before .before .before .before .before .states .ensures) (ap length (c .targets .ensures)),
+      room-added _ (d .pre .0) _ (d .pre .1) (j .j) (j .inv .0) (omega (arith, c .before .before .before .before .start-of .ensures)) (j .inv .2)
+          (c .before .before .before .before .before .states .ensures) (c .entries-listed .ensures),
     )
 
 returns : tie.Need-returns Inv-loop μ-loop
 returns c =
     let d = entry (c .before .before .before .before) in
-    c .before .loop .inv .2 ∙ room-end _ _ (d .pre .0 .first) (d .pre .0 .second) _ (d .pre .1) (omega (arith, c .before .loop .inv .1, c .before .before .before .start-of .ensures))
+    c .before .loop .inv .2 ∙ room-end _ (d .pre .0) _ (d .pre .1) (omega (arith, c .before .loop .inv .1, c .before .before .before .start-of .ensures))
 
 pub flow-room-spec : {M : Type 1} → statement M
 flow-room-spec =
@@ -99,7 +101,7 @@ flow-room-spec =
     start-of-requires
     start-of-requires-2
     loop-holds
-    targets-requires
+    entries-listed-requires
     mul-room
     mul-room-2
     add-room

@@ -6,7 +6,7 @@ use native.Mathlib.Omega.{arith}
 use lib.ListN.{length}
 use denote.Ref.{now}
 use Rattle.simulation.specs.Sum.{sum}
-use Rattle.layout.specs.Bytes.{first, entry-refusal, size-from, run-refusal}
+use Rattle.layout.specs.Bytes.{distribution-refusal, size-from, run-refusal}
 use Rattle.layout.proofs.Laws.{ItemsPass, items-none, items-more, items-here, items-all}
 use Rattle.layout.proofs.Fields.{item-within}
 use Rattle.simulation.proofs.Finite.Sums.{sum-none, sum-more, sum-le}
@@ -35,13 +35,13 @@ within c =
     omega arith
 
 -- what is found among them is the refusal of the transition j
-here : (c : tie.After-entries-of-refusal Inv-loop μ-loop) → let b = c .before .before .before in let a = b .before .before .args in c .entries-of-refusal .result ≡ run-refusal (a .width) (now (a .s)) (a .n) (a .sizes) (a .at) (b .loop .j)
+here : (c : tie.After-distribution-refusal Inv-loop μ-loop) → let b = c .before .before .before in let a = b .before .before .args in c .distribution-refusal .result ≡ run-refusal (a .width) (now (a .s)) (a .n) (a .sizes) (a .at) (b .loop .j)
 unfolding run-refusal
 here c =
     let b = c .before .before .before in
     let a = b .before .before .args in
-    c .entries-of-refusal .ensures
-    ∙ ap₂ (λ (size start : ℕ). first 0 size (entry-refusal (now (a .s)) (a .n) (a .at + 3 * start))) (c .before .byte-at .ensures .is) (b .loop .inv .2)
+    c .distribution-refusal .ensures
+    ∙ ap₂ (λ (size start : ℕ). distribution-refusal (now (a .s)) (a .n) (a .at + 3 * start) size) (c .before .byte-at .ensures .is) (b .loop .inv .2)
 
 loop-holds : tie.Need-loop-holds Inv-loop μ-loop
 loop-holds c = (items-none _ _, omega arith, sum-none _)
@@ -58,14 +58,14 @@ add-byte-at-2 c = omega (arith, size-within c)
 byte-at-requires : tie.Need-byte-at-requires Inv-loop μ-loop
 byte-at-requires c κs = omega (arith, size-within c)
 
-mul-entries-of-refusal : tie.Need-mul-entries-of-refusal Inv-loop μ-loop
-mul-entries-of-refusal c = omega (arith, within c)
+mul-distribution-refusal : tie.Need-mul-distribution-refusal Inv-loop μ-loop
+mul-distribution-refusal c = omega (arith, within c)
 
-add-entries-of-refusal : tie.Need-add-entries-of-refusal Inv-loop μ-loop
-add-entries-of-refusal c = omega (arith, within c)
+add-distribution-refusal : tie.Need-add-distribution-refusal Inv-loop μ-loop
+add-distribution-refusal c = omega (arith, within c)
 
-entries-of-refusal-requires : tie.Need-entries-of-refusal-requires Inv-loop μ-loop
-entries-of-refusal-requires c κs = omega (arith, within c)
+distribution-refusal-requires : tie.Need-distribution-refusal-requires Inv-loop μ-loop
+distribution-refusal-requires c κs = omega (arith, within c)
 
 returns : tie.Need-returns Inv-loop μ-loop
 returns c = let b = c .before .before .before .before in items-here _ _ (b .loop .j) (b .loop .inv .0) (omega arith) (here (c .before)) (c .if1 .taken)
@@ -101,9 +101,9 @@ entries-refusal-spec =
     mul-byte-at
     add-byte-at-2
     byte-at-requires
-    mul-entries-of-refusal
-    add-entries-of-refusal
-    entries-of-refusal-requires
+    mul-distribution-refusal
+    add-distribution-refusal
+    distribution-refusal-requires
     returns
     add-start
     add-j

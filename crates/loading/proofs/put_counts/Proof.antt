@@ -1,4 +1,4 @@
--- `loading::put_heads` meets its contract: the layout has the counts and places of the bytes, and the parts are written in ascending order.
+-- `loading::put_counts` meets its contract: the layout has the counts and places of the bytes, and the parts are written in ascending order.
 -- Assumes nothing.
 use mathlib.Core.Path.{_≡_, _∙_}
 use lib.ListN.{length}
@@ -7,9 +7,9 @@ use borrow.Author.Needs.{needs}
 use denote.Ref.{now}
 use Rattle.simulation.specs.Limits.{wide}
 use Rattle.table.proofs.PartLaws.{Parts, parts-known}
-use Rattle.loading.proofs.FillLaws.{heads-by}
-use Rattle.loading.proofs.put_heads.Statement.{statement}
-use Rattle.loading.proofs.put_heads.Tie as tie
+use Rattle.loading.proofs.FillLaws.{counts-by}
+use Rattle.loading.proofs.put_counts.Statement.{statement}
+use Rattle.loading.proofs.put_counts.Tie as tie
 
 known : (c : tie.After-shared-slice-known) → let s = c .before .before in Parts wide (now (s .args .s)) (s .args .t)
 known c = let s = c .before .before in parts-known wide (now (s .args .s)) (s .args .t) (s .pre .0) (s .pre .1)
@@ -34,38 +34,18 @@ put-sums-requires c κs =
     let long : length (c₂ .put2 .last .0) ≡ length (c₁ .before .before .before .before .before .args .form .now) = c₂ .put2 .ensures .long ∙ c₁ .put .ensures .long in
     (record { bytes = λ i l. omega arith; room = omega arith }, omega arith, omega arith)
 
-add-put-sums : tie.Need-add-put-sums
-add-put-sums c =
-    let c₃ = c .before .before .before .before in
-    let c₁ = c₃ .before .before .before .before .before .before .before .before .before in
-    let p = known (c₁ .before .before .before) in
-    omega arith
-
-add-put-sums-2 : tie.Need-add-put-sums-2
-add-put-sums-2 c = search needs
-
-put-sums-requires-2 : tie.Need-put-sums-requires-2
-put-sums-requires-2 c κs =
-    let c₃ = c .before .before .before .before in
-    let c₂ = c₃ .before .before .before .before in
-    let c₁ = c₂ .before .before .before .before .before in
-    let p = known (c₁ .before .before .before) in
-    let long : length (c₃ .put-sums .last .0) ≡ length (c₁ .before .before .before .before .before .args .form .now) = c₃ .put-sums .ensures .long ∙ c₂ .put2 .ensures .long ∙ c₁ .put .ensures .long in
-    (record { bytes = λ i l. omega arith; room = omega arith }, omega arith, omega arith)
-
 same-length : tie.Need-same-length
 same-length c = search needs
 
 returns : tie.Need-returns
 returns c =
-    let c₄ = c .before .before in
-    let c₃ = c₄ .before .before .before .before .before in
+    let c₃ = c .before .before in
     let c₂ = c₃ .before .before .before .before in
     let c₁ = c₂ .before .before .before .before .before in
-    heads-by _ _ (known (c₁ .before .before .before)) (c₁ .put .ensures) (c₂ .put2 .ensures) (c₃ .put-sums .ensures) (c₄ .put-sums2 .ensures)
+    counts-by _ _ (known (c₁ .before .before .before)) (c₁ .put .ensures) (c₂ .put2 .ensures) (c₃ .put-sums .ensures)
 
-pub put-heads-spec : {M : Type 1} → statement M
-put-heads-spec =
+pub put-counts-spec : {M : Type 1} → statement M
+put-counts-spec =
     tie.close
     (tie.spec
     cast-put
@@ -73,8 +53,5 @@ put-heads-spec =
     cast-put-2
     put-requires-2
     put-sums-requires
-    add-put-sums
-    add-put-sums-2
-    put-sums-requires-2
     same-length
     returns)

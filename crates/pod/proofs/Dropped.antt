@@ -1,0 +1,119 @@
+-- A table with its entries of weight 0 dropped: it can be written down and is accepted, and calls with it give the same ranks and trees, on either side.
+-- Assumes nothing.
+use mathlib.Core.Path.{_≡_, refl, sym, ap, ap₂, _∙_, subst₂}
+use mathlib.Core.List.{List}
+use Prim.Native.Nat.{ℕ, _+_, _*_, _<_}
+use native.Mathlib.Omega.{arith}
+use lib.ListN.{getD}
+use Rattle.simulation.specs.Fit.{Amounts}
+use Rattle.simulation.specs.Limits.{wide}
+use Rattle.simulation.specs.Table.{Table, states-of}
+use Rattle.simulation.specs.Support.{supported}
+use Rattle.simulation.specs.Round.{rank}
+use Rattle.simulation.specs.Demands.{Kept}
+use Rattle.simulation.proofs.Support.Tables.{supported-states, supported-twice}
+use Rattle.simulation.proofs.Support.Ranks.{rank-supported}
+use Rattle.form.proofs.Support.{supported-valid}
+use Rattle.layout.specs.Bytes.{Octets, accepted, decode}
+use Rattle.layout.specs.Encode.{encode}
+use Rattle.layout.proofs.Accepted.{accepted-valid}
+use Rattle.layout.proofs.RoundTrip.{decode-encode}
+use Rattle.flows.specs.Flow.{flow-room}
+use Rattle.compare.specs.Outcome.{Buffers, Result, outcome}
+use Rattle.compare.specs.Condition.{Condition, result-of, Ready, outside, short-ranks, short-flow, flow-fits, long-tree, short-tree, tree-fits}
+use Rattle.compare.proofs.Outcome.{met, some-condition}
+use Rattle.pod.specs.Check.{Checked}
+use Rattle.pod.specs.Demands.{rank-at}
+use Rattle.pod.specs.Dropped.{Alike}
+use Rattle.pod.proofs.Demands.{call-outcome, ranks-filled, demand-2}
+
+-- the bytes of the table without them hold it
+pub dropped-decodes : (bytes : List ℕ) → Octets bytes → (M : Table) → decode bytes ≡ accepted M → decode (encode (supported M)) ≡ accepted (supported M)
+dropped-decodes bytes octets M e = decode-encode wide (supported M) (supported-valid wide M (accepted-valid wide bytes octets M e))
+
+-- a kept pair leaves the tree buffer as lent
+tree-lent : (M N : Table) (room s t : ℕ) (b : Buffers) (x : ℕ → Amounts) → Kept M N s t → {n : ℕ} (c : Condition M N room s t b n) → result-of M N room s t b x c .buffers .tree ≡ b .tree
+tree-lent M N room s t b x k (outside h) = refl
+tree-lent M N room s t b x k (short-ranks i h) = refl
+tree-lent M N room s t b x k (short-flow r _ h) = refl
+tree-lent M N room s t b x k (flow-fits r _ h) = refl
+tree-lent M N room s t b x k (long-tree r d h) = absurd (d k)
+tree-lent M N room s t b x k (short-tree r d h g) = absurd (d k)
+tree-lent M N room s t b x k (tree-fits r d h g) = absurd (d k)
+
+-- two calls that judge the same, with a room and with amounts of their own
+module _ (M N : Table) (s t : ℕ) (b : Buffers) (room room′ : ℕ) (x x′ : ℕ → Amounts) where
+  abbrev one : Result
+  one = outcome M N room s t b x
+
+  abbrev two : Result
+  two = outcome M N room′ s t b x′
+
+  -- what a condition gives that does not speak of the room
+  shared : {n n′ : ℕ} (c : Condition M N room s t b n) (d : Condition M N room′ s t b n′) → result-of M N room s t b x c ≡ result-of M N room′ s t b x′ d → two ≡ one
+  shared c d e = met M N room′ s t b x′ d ∙ sym e ∙ sym (met M N room s t b x c)
+
+  -- of a kept pair
+  module _ (ready : Ready M N s t b) (k : Kept M N s t) where
+    ranks-kept : two .buffers .ranks ≡ one .buffers .ranks
+    ranks-kept =
+        let c = some-condition M N room s t b x .1 in
+        let d = some-condition M N room′ s t b x′ .1 in
+        ap (λ (r : Result). r .buffers .ranks) (met M N room′ s t b x′ d) ∙ ranks-filled M N room′ s t b x′ ready d
+        ∙ sym (ap (λ (r : Result). r .buffers .ranks) (met M N room s t b x c) ∙ ranks-filled M N room s t b x ready c)
+
+    tree-kept : two .buffers .tree ≡ one .buffers .tree
+    tree-kept =
+        let c = some-condition M N room s t b x .1 in
+        let d = some-condition M N room′ s t b x′ .1 in
+        ap (λ (r : Result). r .buffers .tree) (met M N room′ s t b x′ d) ∙ tree-lent M N room′ s t b x′ k d
+        ∙ sym (ap (λ (r : Result). r .buffers .tree) (met M N room s t b x c) ∙ tree-lent M N room s t b x k c)
+
+    kept-alike : Alike (Kept M N s t) one two
+    kept-alike = record { ranks = ranks-kept; tree = tree-kept; whole = λ d. absurd (d k) }
+
+  equal-alike : two ≡ one → Alike (Kept M N s t) one two
+  equal-alike e = record { ranks = ap (λ (r : Result). r .buffers .ranks) e; tree = ap (λ (r : Result). r .buffers .tree) e; whole = λ _. e }
+
+  rooms-alike : Alike (Kept M N s t) one two
+  rooms-alike = go (some-condition M N room s t b x .1)
+    where
+      go : {n : ℕ} → Condition M N room s t b n → Alike (Kept M N s t) one two
+      go (outside h) = equal-alike (shared (outside h) (outside h) refl)
+      go (short-ranks i h) = equal-alike (shared (short-ranks i h) (short-ranks i h) refl)
+      go (short-flow r k h) = kept-alike r k
+      go (flow-fits r k h) = kept-alike r k
+      go (long-tree r d h) = equal-alike (shared (long-tree r d h) (long-tree r d h) refl)
+      go (short-tree r d h g) = equal-alike (shared (short-tree r d h g) (short-tree r d h g) refl)
+      go (tree-fits r d h g) = equal-alike (shared (tree-fits r d h g) (tree-fits r d h g) refl)
+
+-- two calls for one pair with the same buffers
+module _ (s t : ℕ) (b : Buffers) (r r′ : Result) where
+  -- whose tables are the same without their entries of weight 0
+  alike : (first second first′ second′ : List ℕ) (M N M′ N′ : Table)
+      → decode first ≡ accepted M → decode second ≡ accepted N → decode first′ ≡ accepted M′ → decode second′ ≡ accepted N′
+      → supported M′ ≡ supported M → supported N′ ≡ supported N → Checked first second s t b r → Checked first′ second′ s t b r′
+      → Alike (Kept (supported M) (supported N) s t) r r′
+  alike first second first′ second′ M N M′ N′ e f e′ f′ p q h h′ =
+      let room = flow-room M N s in
+      let room′ = flow-room M′ N′ s in
+      let mine = call-outcome first second s t b r h M N e f in
+      let other = call-outcome first′ second′ s t b r′ h′ M′ N′ e′ f′ ∙ ap₂ (λ (A B : Table). outcome A B room′ s t b (h′ .amounts)) p q in
+      subst₂ (Alike (Kept (supported M) (supported N) s t)) (sym mine) (sym other) (rooms-alike (supported M) (supported N) s t b room room′ (h .amounts) (h′ .amounts))
+
+  module _ (first second dropped : List ℕ) (M N : Table) (e : decode first ≡ accepted M) (f : decode second ≡ accepted N) (h : Checked first second s t b r) where
+    -- dropped from the first table
+    pub dropped-first : decode dropped ≡ accepted (supported M) → Checked dropped second s t b r′ → Alike (Kept (supported M) (supported N) s t) r r′
+    dropped-first d h′ = alike first second dropped second M N (supported M) N e f d f (supported-twice M) refl h h′
+
+    -- and from the second
+    pub dropped-second : decode dropped ≡ accepted (supported N) → Checked first dropped s t b r′ → Alike (Kept (supported M) (supported N) s t) r r′
+    dropped-second d h′ = alike first second first dropped M N M (supported N) e f e d refl (supported-twice N) h h′
+
+-- plain weights of 0, which send nothing out and take nothing in, would give the same ranks
+module _ (first second : List ℕ) (s t : ℕ) (b : Buffers) (r : Result) (h : Checked first second s t b r)
+    (M N : Table) (e : decode first ≡ accepted M) (f : decode second ≡ accepted N) (ready : Ready (supported M) (supported N) s t b) where
+  pub plain-ranks : (u v : ℕ) → u < states-of M → v < states-of N → rank-at M N s t b r u v ≡ rank M N u v
+  plain-ranks u v a c =
+      ap (λ (n : ℕ). getD (r .buffers .ranks) (u * n + v) 0) (sym (supported-states N))
+      ∙ demand-2 first second s t b r h M N e f ready .ranks u v (omega (arith, supported-states M)) (omega (arith, supported-states N)) ∙ rank-supported M N u v
