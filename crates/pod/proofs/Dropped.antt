@@ -1,7 +1,8 @@
--- A table with its entries of weight 0 dropped: it can be written down and is accepted, and calls with it give the same ranks and trees, on either side.
+-- A table with its entries of weight 0 dropped: it can be written down and is accepted, and with it ranks, trees and right flows are the same, on either side.
 -- Assumes nothing.
-use mathlib.Core.Path.{_≡_, refl, sym, ap, ap₂, _∙_, subst₂}
+use mathlib.Core.Path.{_≡_, refl, sym, ap, ap₂, _∙_, subst, subst₂}
 use mathlib.Core.List.{List}
+use mathlib.Core.Logic.{_↔_}
 use Prim.Native.Nat.{ℕ, _+_, _*_, _<_}
 use native.Mathlib.Omega.{arith}
 use lib.ListN.{getD}
@@ -14,15 +15,16 @@ use Rattle.simulation.specs.Demands.{Kept}
 use Rattle.simulation.proofs.Support.Tables.{supported-states, supported-twice}
 use Rattle.simulation.proofs.Support.Ranks.{rank-supported}
 use Rattle.form.proofs.Support.{supported-valid}
-use Rattle.layout.specs.Bytes.{Octets, accepted, decode}
+use Rattle.layout.specs.Bytes.{Octets, Decoded, accepted, decode}
 use Rattle.layout.specs.Encode.{encode}
 use Rattle.layout.proofs.Accepted.{accepted-valid}
 use Rattle.layout.proofs.RoundTrip.{decode-encode}
 use Rattle.flows.specs.Flow.{flow-room}
 use Rattle.compare.specs.Outcome.{Buffers, Result, outcome}
 use Rattle.compare.specs.Condition.{Condition, result-of, Ready, outside, short-ranks, short-flow, flow-fits, long-tree, short-tree, tree-fits}
+use Rattle.compare.specs.Steps.{RightIfKept}
 use Rattle.compare.proofs.Outcome.{met, some-condition}
-use Rattle.pod.specs.Check.{Checked}
+use Rattle.pod.specs.Check.{RightFor, Checked}
 use Rattle.pod.specs.Demands.{rank-at}
 use Rattle.pod.specs.Dropped.{Alike}
 use Rattle.pod.proofs.Demands.{call-outcome, ranks-filled, demand-2}
@@ -87,28 +89,49 @@ module _ (M N : Table) (s t : ℕ) (b : Buffers) (room room′ : ℕ) (x x′ : 
       go (short-tree r d h g) = equal-alike (shared (short-tree r d h g) (short-tree r d h g) refl)
       go (tree-fits r d h g) = equal-alike (shared (tree-fits r d h g) (tree-fits r d h g) refl)
 
--- two calls for one pair with the same buffers
-module _ (s t : ℕ) (b : Buffers) (r r′ : Result) where
-  -- whose tables are the same without their entries of weight 0
-  alike : (first second first′ second′ : List ℕ) (M N M′ N′ : Table)
-      → decode first ≡ accepted M → decode second ≡ accepted N → decode first′ ≡ accepted M′ → decode second′ ≡ accepted N′
-      → supported M′ ≡ supported M → supported N′ ≡ supported N → Checked first second s t b r → Checked first′ second′ s t b r′
-      → Alike (Kept (supported M) (supported N) s t) r r′
-  alike first second first′ second′ M N M′ N′ e f e′ f′ p q h h′ =
+-- two pairs of tables that are the same without their entries of weight 0
+module _ (s t : ℕ) (first second first′ second′ : List ℕ) (M N M′ N′ : Table)
+    (e : decode first ≡ accepted M) (f : decode second ≡ accepted N) (e′ : decode first′ ≡ accepted M′) (f′ : decode second′ ≡ accepted N′)
+    (p : supported M′ ≡ supported M) (q : supported N′ ≡ supported N) where
+  -- calls for one pair, with the same buffers
+  alike : (b : Buffers) (r r′ : Result) → Checked first second s t b r → Checked first′ second′ s t b r′ → Alike (Kept (supported M) (supported N) s t) r r′
+  alike b r r′ h h′ =
       let room = flow-room M N s in
       let room′ = flow-room M′ N′ s in
       let mine = call-outcome first second s t b r h M N e f in
       let other = call-outcome first′ second′ s t b r′ h′ M′ N′ e′ f′ ∙ ap₂ (λ (A B : Table). outcome A B room′ s t b (h′ .amounts)) p q in
       subst₂ (Alike (Kept (supported M) (supported N) s t)) (sym mine) (sym other) (rooms-alike (supported M) (supported N) s t b room room′ (h .amounts) (h′ .amounts))
 
-  module _ (first second dropped : List ℕ) (M N : Table) (e : decode first ≡ accepted M) (f : decode second ≡ accepted N) (h : Checked first second s t b r) where
-    -- dropped from the first table
-    pub dropped-first : decode dropped ≡ accepted (supported M) → Checked dropped second s t b r′ → Alike (Kept (supported M) (supported N) s t) r r′
-    dropped-first d h′ = alike first second dropped second M N (supported M) N e f d f (supported-twice M) refl h h′
+  -- the amounts of a flow
+  right-alike : (x : ℕ → Amounts) → RightFor (decode first) (decode second) s t x → RightFor (decode first′) (decode second′) s t x
+  unfolding RightFor
+  right-alike x h =
+      let judged : RightIfKept (supported M) (supported N) s t x = subst (λ (d : Decoded). RightFor (accepted M) d s t x) f (subst (λ (d : Decoded). RightFor d (decode second) s t x) e h) in
+      subst (λ (d : Decoded). RightFor d (decode second′) s t x) (sym e′)
+      (subst (λ (d : Decoded). RightFor (accepted M′) d s t x) (sym f′) (subst₂ (λ (A B : Table). RightIfKept A B s t x) (sym p) (sym q) judged))
 
-    -- and from the second
-    pub dropped-second : decode dropped ≡ accepted (supported N) → Checked first dropped s t b r′ → Alike (Kept (supported M) (supported N) s t) r r′
-    dropped-second d h′ = alike first second first dropped M N M (supported N) e f e d refl (supported-twice N) h h′
+module _ (first second dropped : List ℕ) (s t : ℕ) (M N : Table) (e : decode first ≡ accepted M) (f : decode second ≡ accepted N) where
+  -- dropped from the first table
+  module _ (d : decode dropped ≡ accepted (supported M)) where
+    pub dropped-first : (b : Buffers) (r r′ : Result) → Checked first second s t b r → Checked dropped second s t b r′ → Alike (Kept (supported M) (supported N) s t) r r′
+    dropped-first = alike s t first second dropped second M N (supported M) N e f d f (supported-twice M) refl
+
+    pub flows-first : (x : ℕ → Amounts) → RightFor (decode first) (decode second) s t x ↔ RightFor (decode dropped) (decode second) s t x
+    flows-first x = (
+      right-alike s t first second dropped second M N (supported M) N e f d f (supported-twice M) refl x,
+      right-alike s t dropped second first second (supported M) N M N d f e f (sym (supported-twice M)) refl x,
+    )
+
+  -- and from the second
+  module _ (d : decode dropped ≡ accepted (supported N)) where
+    pub dropped-second : (b : Buffers) (r r′ : Result) → Checked first second s t b r → Checked first dropped s t b r′ → Alike (Kept (supported M) (supported N) s t) r r′
+    dropped-second = alike s t first second first dropped M N M (supported N) e f e d refl (supported-twice N)
+
+    pub flows-second : (x : ℕ → Amounts) → RightFor (decode first) (decode second) s t x ↔ RightFor (decode first) (decode dropped) s t x
+    flows-second x = (
+      right-alike s t first second first dropped M N M (supported N) e f e d refl (supported-twice N) x,
+      right-alike s t first dropped first second M (supported N) M N e d e f refl (sym (supported-twice N)) x,
+    )
 
 -- plain weights of 0, which send nothing out and take nothing in, would give the same ranks
 module _ (first second : List ℕ) (s t : ℕ) (b : Buffers) (r : Result) (h : Checked first second s t b r)

@@ -9,7 +9,8 @@ use Rattle.simulation.specs.Table.{Table, weights, target-at, states-of,
 use Rattle.simulation.specs.Round.{rank}
 use Rattle.simulation.specs.Tree.{Tree, Proper, Follows, depth, tree}
 
--- What is needed of a table, and holds of every accepted one: each target is a state, each transition has an entry, each weight is at least 1
+-- What is needed of a table, and holds of every accepted one without its entries of weight 0:
+-- each target is a state, each transition has an entry, each weight is at least 1
 pub record Sound (M : Table) : Type 0 where
   pub target-bound : (s k i : ℕ) → k < length (steps M s) → i < length (weights (transition M s k)) → target-at (transition M s k) i < states-of M
   pub nonempty : (s k : ℕ) → k < length (steps M s) → 0 < length (weights (transition M s k))
