@@ -20,7 +20,7 @@ use Rattle.layout.specs.Bytes.{Decoded, refused, accepted, decode, table, refus
 use Rattle.loading.specs.Fill.{Loads, Reads}
 use Rattle.layout.proofs.DecodeLaws.{decode-accepted}
 use Rattle.flows.specs.Flow.{step-room, room-for, flow-room}
-use Rattle.witness.specs.Shown.{room-asked}
+use Rattle.witness.specs.Shown.{room-in, room-asked}
 use Rattle.compare.specs.Outcome.{Buffers, Result, left}
 use Rattle.answer.specs.Numbers.{refusal}
 use Rattle.pod.specs.Check.{checked, RightFor, Checked}
@@ -64,11 +64,7 @@ module _ (first second : List ℕ) (s t : ℕ) (b : Buffers) where
 pub loaded-by : {bytes f f′ : List ℕ} {m : ℕ} → Reads bytes f m f′ → m ≡ 0 → Loaded f′
 loaded-by p z = p .accepted (sym (p .number) ∙ z) .loaded
 
--- the room asked for by what two forms list
-abbrev pub room-in : (f g : List ℕ) (s : ℕ) → ℕ
-room-in f g s = room-for (states-of (table-of g)) (length (steps (table-of f) s)) (λ k. entries-listed f (start-of f s + k))
-
--- that is the room for all entries of the tables in the bytes
+-- the room asked by what two forms list is that for all entries of the tables in the bytes
 room-same : {first f f′ second g g′ : List ℕ} → Loads first f f′ → Loads second g g′ → (s : ℕ) → room-in f′ g′ s ≡ flow-room (table wide first) (table wide second) s
 unfolding room-for
 room-same {first} {f} {f′} {second} {g} {g′} a b s =

@@ -7,18 +7,21 @@ use lib.ListN.{length}
 use Rattle.simulation.specs.Fit.{Amounts}
 use Rattle.simulation.specs.Table.{Table, states-of, steps}
 use Rattle.simulation.specs.Tree.{tree-bytes}
-use Rattle.form.specs.Form.{start-of, entries-listed}
-use Rattle.form.specs.Tables.{first-form, first-table, second-table}
+use Rattle.form.specs.Form.{start-of, entries-listed, table-of}
+use Rattle.form.specs.Tables.{first-form, second-form}
 use Rattle.flows.specs.Flow.{Right, flow-bytes, room-for}
 use Rattle.buffer.specs.Buffer.{over}
 use Rattle.counting.specs.Count.{longest}
 use Rattle.answer.specs.Numbers.{refusal, with-written}
 use Rattle.answer.specs.declared.answer.Answer.{Answer}
 
--- what the flow buffer must have for the state s: the entries that its transitions list in their bytes, also those that the form leaves out
+-- what the flow buffer must have for the state s of the form f over the table of g: the entries that its transitions list in their bytes,
+-- also those that the form leaves out
+abbrev pub room-in : (f g : List ℕ) (s : ℕ) → ℕ
+room-in f g s = room-for (states-of (table-of g)) (length (steps (table-of f) s)) (λ k. entries-listed f (start-of f s + k))
+
 abbrev pub room-asked : (tables : List ℕ) (s : ℕ) → ℕ
-room-asked tables s =
-    room-for (states-of (second-table tables)) (length (steps (first-table tables) s)) (λ k. entries-listed (first-form tables) (start-of (first-form tables) s + k))
+room-asked tables s = room-in (first-form tables) (second-form tables) s
 
 -- a kept pair: the flow is written if the buffer has the room asked, and the answer a then says how long it is
 pub record FlowShown (M N : Table) (room s t : ℕ) (a r : Answer) (flow flow′ : List ℕ) : Type 0 where
