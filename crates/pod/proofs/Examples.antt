@@ -19,7 +19,7 @@ use Rattle.flows.specs.Flow.{Right, flow-record, flow-row, flow-records, amount
 use Rattle.compare.specs.Outcome.{Buffers, Result, success, with-flow, outcome, kept-outcome, left}
 use Rattle.compare.specs.Steps.{RightIfKept}
 use Rattle.pod.specs.Check.{checked, RightFor}
-use Rattle.pod.specs.Examples.{flow-CP, flow-fits, flow-short, rows, watched-flow, watched-short, watched-rows, Covered, All, done, _also_}
+use Rattle.pod.specs.Examples.{flow-CP, tree-fits, tree-short, itself, flow-fits, flow-short, one-state, no-bytes, cut-short, byte-more, codes-exchanged, second-cut-short, rows, watched-first, watched-second, watched-flow, watched-short, watched-rows, Covered, All, done, _also_}
 
 -- the amounts of C, P: any right ones are 01's
 module _ (x : ℕ → Amounts) (right : Right tables.C tables.P 0 0 x) where
@@ -63,6 +63,20 @@ module _ (x : ℕ → Amounts) (right : Right tables.C tables.P 0 0 x) where
       at-11 : x 0 1 1 ≡ 2
       at-11 = omega (arith, unrelated, column-1)
 
+-- each row by itself: all in one declaration come near the limit of what the prover compares at once, and a refusal would not name its row
+
+on-tree-fits : Covered tree-fits
+unfolding checked decode-as node-bytes tree
+on-tree-fits r h = h .result
+
+on-tree-short : Covered tree-short
+unfolding checked decode-as node-bytes tree
+on-tree-short r h = h .result
+
+on-itself : Covered itself
+unfolding checked decode-as node-bytes tree
+on-itself r h = h .result
+
 kept-CP : Kept tables.C tables.P 0 0
 unfolding rank
 kept-CP = refl
@@ -82,35 +96,52 @@ on-flow-fits : Covered flow-fits
 unfolding checked outcome kept-outcome decode-as RightFor
 on-flow-fits r h = h .result ∙ with-CP (flow-fits .buffers) (h .amounts) (h .right) ∙ written-CP .0
 
-on-watched-flow : Covered watched-flow
-unfolding checked outcome kept-outcome decode-as RightFor
-on-watched-flow r h = h .result ∙ with-CP (watched-flow .buffers) (h .amounts) (h .right) ∙ written-CP .1
-
 on-flow-short : Covered flow-short
 unfolding checked decode-as node-bytes tree
 on-flow-short r h = h .result
+
+on-one-state : Covered one-state
+unfolding checked decode-as node-bytes tree
+on-one-state r h = h .result
+
+on-no-bytes : Covered no-bytes
+unfolding checked decode-as node-bytes tree
+on-no-bytes r h = h .result
+
+on-cut-short : Covered cut-short
+unfolding checked decode-as node-bytes tree
+on-cut-short r h = h .result
+
+on-byte-more : Covered byte-more
+unfolding checked decode-as node-bytes tree
+on-byte-more r h = h .result
+
+on-codes-exchanged : Covered codes-exchanged
+unfolding checked decode-as node-bytes tree
+on-codes-exchanged r h = h .result
+
+on-second-cut-short : Covered second-cut-short
+unfolding checked decode-as node-bytes tree
+on-second-cut-short r h = h .result
+
+on-watched-first : Covered watched-first
+unfolding checked decode-as node-bytes tree
+on-watched-first r h = h .result
+
+on-watched-second : Covered watched-second
+unfolding checked decode-as node-bytes tree
+on-watched-second r h = h .result
+
+on-watched-flow : Covered watched-flow
+unfolding checked outcome kept-outcome decode-as RightFor
+on-watched-flow r h = h .result ∙ with-CP (watched-flow .buffers) (h .amounts) (h .right) ∙ written-CP .1
 
 on-watched-short : Covered watched-short
 unfolding checked decode-as node-bytes tree
 on-watched-short r h = h .result
 
--- of a row without a lemma of its own the contract's result computes in place
 pub zeros : All Covered watched-rows
-unfolding checked decode-as node-bytes tree
-zeros = (λ r h. h .result) also (λ r h. h .result) also on-watched-flow also on-watched-short also done
+zeros = on-watched-first also on-watched-second also on-watched-flow also on-watched-short also done
 
 pub starred : All Covered rows
-unfolding checked decode-as node-bytes tree
-starred =
-    (λ r h. h .result)
-    also (λ r h. h .result)
-    also (λ r h. h .result)
-    also on-flow-fits
-    also on-flow-short
-    also (λ r h. h .result)
-    also (λ r h. h .result)
-    also (λ r h. h .result)
-    also (λ r h. h .result)
-    also (λ r h. h .result)
-    also (λ r h. h .result)
-    also done
+starred = on-tree-fits also on-tree-short also on-itself also on-flow-fits also on-flow-short also on-one-state also on-no-bytes also on-cut-short also on-byte-more also on-codes-exchanged also on-second-cut-short also done
