@@ -27,16 +27,15 @@ use random::Random;
 use std::path::Path;
 use table::{parse, Table, Transition, C, CODES, ENTRIES, NARROW, OLD_P, P, STATES, TRANSITIONS};
 
-/// A random table and a near copy: of some tries the one with most rounds
-/// among those whose starts are told apart late.
-fn near(seed: u64, tries: usize, make: impl Fn(&mut Random) -> Table) -> (Table, Table) {
+/// Two random tables: of some tries those with most rounds among those whose
+/// starts are told apart late.
+fn latest(seed: u64, tries: usize, make: impl Fn(&mut Random) -> (Table, Table)) -> (Table, Table) {
     let mut random = Random::new(seed);
     let mut best = None;
     let mut most = (false, 0);
     for _ in 0..tries {
-        let first = make(&mut random);
-        let second = make::edited(&mut random, &first, 3, 2);
-        let ranking = ranks::rank(0, &first, &second);
+        let (first, second) = make(&mut random);
+        let ranking = ranks::rank(0, &first, &second.completed(&first.codes));
         let rounds = (ranking.ranks[0] > 1, ranking.rounds());
         if best.is_none() || rounds > most {
             most = rounds;
@@ -44,6 +43,15 @@ fn near(seed: u64, tries: usize, make: impl Fn(&mut Random) -> Table) -> (Table,
         }
     }
     best.unwrap()
+}
+
+/// The same of a table and a near copy.
+fn near(seed: u64, tries: usize, make: impl Fn(&mut Random) -> Table) -> (Table, Table) {
+    latest(seed, tries, |random| {
+        let first = make(random);
+        let second = make::edited(random, &first, 3, 2);
+        (first, second)
+    })
 }
 
 fn of_states(states: usize) -> impl Fn(&mut Random) -> Table {
@@ -150,6 +158,14 @@ fn watching(random: &mut Random) -> Table {
     make::sprinkled(random, &make::padded(table, STATES), ENTRIES)
 }
 
+/// A pod with two codes more than its contract governs, by which most of its
+/// states stay as they are.
+fn showing(random: &mut Random) -> (Table, Table) {
+    let contract = of_states(64)(random);
+    let pod = make::showing(random, &contract, &[15, 30]);
+    (pod, make::edited(random, &contract, 3, 2))
+}
+
 /// The largest table of the old layout.
 fn largest_old() -> Vec<u8> {
     let mut table = make::limit(&mut Random::new(7), 25, true);
@@ -195,6 +211,7 @@ fn main() {
         ("watched counter", watched_counter(63)),
         ("1024 codes", listed()),
         ("zeros", near(5, 40, watching)),
+        ("half the codes", latest(6, 40, showing)),
     ];
     for (name, (first, second)) in cases {
         let input = program::input(&first.bytes(), &second.bytes());

@@ -38,9 +38,12 @@ struct Step {
   int code;
   long total = 0;
   std::vector<Entry> entries;
+  // Whether the second table does not list the code of this step of the first.
+  bool added = false;
 };
 
 struct Table {
+  std::vector<int> codes;
   std::vector<std::vector<Step>> states;
   std::vector<Set> successors;
 };
@@ -150,7 +153,24 @@ Table parse(const Bytes& bytes) {
     table.successors.push_back(successors);
   }
   rule(reader.done(), 2);
+  table.codes = std::move(codes);
   return table;
+}
+
+// Marks the steps of the first table whose codes the second does not list.
+// States of the second answer these by a step to themselves.
+void complete(Table& first, Table& second) {
+  bool some = false;
+  for (auto& steps : first.states) {
+    for (Step& step : steps) {
+      step.added = !std::binary_search(second.codes.begin(), second.codes.end(),
+                                       step.code);
+      some |= step.added;
+    }
+  }
+  for (std::size_t t = 0; t < second.states.size(); ++t) {
+    second.successors[t] |= Set(some) << t;
+  }
 }
 
 using Relation = std::vector<Set>;
@@ -230,8 +250,14 @@ class Network {
   Graph::Node source_, sink_;
 };
 
-bool fits_some(const Relation& relation, const Step& m,
+// Whether m fits a step of state t, whose own steps are ns.
+bool fits_some(const Relation& relation, const Step& m, int t,
                const std::vector<Step>& ns) {
+  if (m.added) {
+    return std::all_of(m.entries.begin(), m.entries.end(), [&](const Entry& e) {
+      return has(relation[e.target], t);
+    });
+  }
   return std::any_of(ns.begin(), ns.end(), [&](const Step& n) {
     return n.code == m.code && Network(relation, m, n).fits();
   });
@@ -265,7 +291,7 @@ Ranking rank(const Table& first, const Table& second) {
         if (ranking.rounds > 0 && (gone & second.successors[t]) == 0) return;
         const auto& ms = first.states[s];
         bool kept = std::all_of(ms.begin(), ms.end(), [&](const Step& m) {
-          return fits_some(relation, m, second.states[t]);
+          return fits_some(relation, m, t, second.states[t]);
         });
         if (!kept) {
           row |= Set(1) << t;
@@ -354,8 +380,11 @@ class Trees {
     const auto& ns = second_.states[t];
     const Step& m = *std::find_if(
         first_.states[s].begin(), first_.states[s].end(),
-        [&](const Step& m) { return !fits_some(relation, m, ns); });
+        [&](const Step& m) { return !fits_some(relation, m, t, ns); });
     Chosen chosen{&m, std::vector<Set>(m.entries.size()), 0};
+    for (std::size_t i = 0; m.added && i < m.entries.size(); ++i) {
+      chosen.sets[i] = Set(1) << t & ~relation[m.entries[i].target];
+    }
     for (const Step& n : ns) {
       if (n.code != m.code) continue;
       std::vector<bool> cut = Network(relation, m, n).cut();
@@ -433,6 +462,7 @@ int main() {
       return 0;
     }
   }
+  complete(tables[0], tables[1]);
   std::string text = answer(tables[0], tables[1]);
   std::fwrite(text.data(), 1, text.size(), stdout);
 }

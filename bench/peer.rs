@@ -21,9 +21,13 @@ struct Step<S> {
     targets: S,
     /// The same with their weights.
     entries: Vec<(u8, u16)>,
+    /// Whether the second table does not list the code of this step of the
+    /// first.
+    added: bool,
 }
 
 struct Table<S> {
+    codes: Vec<u16>,
     steps: Vec<Step<S>>,
     /// Each state's steps.
     states: Vec<Range<usize>>,
@@ -115,10 +119,24 @@ impl<S: Set> Table<S> {
             })
             .collect();
         Ok(Table {
+            codes,
             steps,
             states,
             successors,
         })
+    }
+
+    /// Marks the steps of the first table whose codes the second does not list.
+    /// States of the second answer these by a step to themselves.
+    fn complete(&mut self, second: &mut Self) {
+        for step in &mut self.steps {
+            step.added = second.codes.binary_search(&step.code).is_err();
+        }
+        if self.steps.iter().any(|step| step.added) {
+            for (t, set) in second.successors.iter_mut().enumerate() {
+                *set |= S::one(t);
+            }
+        }
     }
 
     fn steps_of(&self, state: usize) -> &[Step<S>] {
@@ -133,6 +151,7 @@ impl<S: Set> Step<S> {
             total: 0,
             targets: S::empty(),
             entries: Vec::with_capacity(bytes.len() / 3),
+            added: false,
         };
         let mut lowest = 0;
         for entry in bytes.chunks_exact(3) {
@@ -287,7 +306,11 @@ impl<S: Set, const N: usize> Flow<S, N> {
         }
     }
 
-    fn fits_some(&mut self, relation: &[S; N], m: &Step<S>, ns: &[Step<S>]) -> bool {
+    /// Whether m fits a step of state t, whose own steps are ns.
+    fn fits_some(&mut self, relation: &[S; N], m: &Step<S>, t: usize, ns: &[Step<S>]) -> bool {
+        if m.added {
+            return m.targets.members().all(|s| relation[s].has(t));
+        }
         ns.iter()
             .any(|n| n.code == m.code && self.cut(relation, m, n).is_empty())
     }
@@ -331,7 +354,7 @@ fn rank<S: Set, const N: usize>(
                 }
                 let ns = second.steps_of(t);
                 let mut ms = first.steps_of(s).iter();
-                if !ms.all(|m| flow.fits_some(&relation, m, ns)) {
+                if !ms.all(|m| flow.fits_some(&relation, m, t, ns)) {
                     row |= S::one(t);
                     ranks[s * width + t] = rounds + 1;
                 }
@@ -404,10 +427,15 @@ impl<S: Set, const N: usize> Trees<'_, S, N> {
         let relation = &self.relation;
         let (ms, ns) = (self.first.steps_of(s), self.second.steps_of(t));
         let flow = &mut self.flow;
-        let stuck = |m: &Step<S>| !flow.fits_some(relation, m, ns);
+        let stuck = |m: &Step<S>| !flow.fits_some(relation, m, t, ns);
         let place = ms.iter().position(stuck).expect("a pair that fell");
         let m = &ms[place];
         let mut sets = vec![S::empty(); m.entries.len()];
+        if m.added {
+            for (set, entry) in sets.iter_mut().zip(&m.entries) {
+                *set = S::one(t) & !relation[entry.0 as usize];
+            }
+        }
         for n in ns.iter().filter(|n| n.code == m.code) {
             let cut = flow.cut(relation, m, n);
             let row = |i: usize| relation[m.entries[i].0 as usize];
@@ -483,8 +511,9 @@ fn answer(mut input: &[u8]) -> Result<String, (u32, u32)> {
 }
 
 fn compare<S: Set, const N: usize>(first: &[u8], second: &[u8]) -> Result<String, (u32, u32)> {
-    let first = Table::<S>::parse(first).map_err(|number| (1, number))?;
-    let second = Table::<S>::parse(second).map_err(|number| (2, number))?;
+    let mut first = Table::<S>::parse(first).map_err(|number| (1, number))?;
+    let mut second = Table::<S>::parse(second).map_err(|number| (2, number))?;
+    first.complete(&mut second);
     let mut flow = Flow::<S, N>::new();
     let ranking = rank(&first, &second, &mut flow);
 

@@ -13,7 +13,7 @@ enum { STATES = 128, TABLE_LENGTH = 4487, WIDENED_LENGTH = 2949 };
 enum { INPUT_LENGTH = 2 * (2 + TABLE_LENGTH) };
 
 /* The longest tree, and as long a flow as fits. */
-enum { TREE_LENGTH = 65535, FLOW_LENGTH = 154000 };
+enum { TREE_LENGTH = 65535, FLOW_LENGTH = 150000 };
 
 /* All that the library writes. The members leave no gaps between them on either side. */
 struct results {

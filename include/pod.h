@@ -30,6 +30,8 @@ enum pod_field {
 
 /* Checks the table `first` against `second` and shows the pair (s, t). An accepted table has at most 4,487 bytes.
  * An entry of weight 0 counts in the length that `flow` must have, and nowhere else.
+ * A code that `first` lists and `second` does not is answered by every state of `second` with a step to itself, which
+ * has the place 255 in a flow.
  * ranks: at least states x states numbers. flow, tree: see the refusals 21 and 22.
  * answer: at least POD_FIELDS numbers; a shorter one gets nothing, and then nothing else is touched. */
 void pod_check(const uint8_t *first, pod_size first_len,

@@ -85,6 +85,9 @@ pub struct Pair {
     /// The tables without these.
     pub first: Table,
     pub second: Table,
+    /// The second completed for the codes of the first: what that is judged
+    /// against.
+    pub contract: Table,
     pub ranking: Ranking,
     pub trees: Trees,
     pub subsets: usize,
@@ -103,13 +106,15 @@ impl Pair {
     pub fn in_bytes(subsets: usize, bytes: (Vec<u8>, Vec<u8>), tables: (Table, Table)) -> Pair {
         let (listed, second) = (tables.0, tables.1.supported());
         let first = listed.supported();
-        let ranking = rank(subsets, &first, &second);
-        let trees = Trees::new(subsets, &first, &second, &ranking);
+        let contract = second.completed(&first.codes);
+        let ranking = rank(subsets, &first, &contract);
+        let trees = Trees::new(subsets, &first, &contract, &ranking);
         Pair {
             bytes,
             listed,
             first,
             second,
+            contract,
             ranking,
             trees,
             subsets,
@@ -127,7 +132,8 @@ impl Pair {
     /// The trees of these tables if entries of weight 0 were targets: those
     /// of the first, and those of the second.
     pub fn wrong_trees(&self, (first, second): &(Table, Table)) -> [Trees; 2] {
-        [(first, &self.second), (&self.first, second)]
+        let contract = second.completed(&first.codes);
+        [(first, &self.contract), (&self.first, &contract)]
             .map(|(first, second)| Trees::new(self.subsets, first, second, &self.ranking))
     }
 
@@ -142,8 +148,8 @@ impl Pair {
 
     /// Whether a kept pair's flows can't do without sharing a target out.
     pub fn must_split(&self, s: usize, t: usize) -> bool {
-        let (first, second) = (&self.first, &self.second);
-        must_split(self.subsets, first, second, self.ranking.last(), (s, t))
+        let (first, contract) = (&self.first, &self.contract);
+        must_split(self.subsets, first, contract, self.ranking.last(), (s, t))
     }
 
     fn flow_needed(&self, s: usize) -> u32 {

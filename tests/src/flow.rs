@@ -11,6 +11,9 @@ pub fn needed(first: &Table, second: &Table, s: usize) -> u32 {
     1 + steps.iter().map(room).sum::<usize>() as u32
 }
 
+/// The place of an added transition. No state lists enough to have one there.
+const ADDED: u8 = u8::MAX;
+
 fn rule(holds: bool, words: &str) -> Result<(), String> {
     if holds {
         Ok(())
@@ -26,30 +29,35 @@ fn take<const N: usize>(bytes: &mut &[u8]) -> Result<[u8; N], String> {
 }
 
 /// Says what is wrong with the flows of (s, t), or how many targets of s
-/// are shared out over more than one.
+/// are shared out over more than one. The second table is the completed one.
 pub fn judge(
     subsets: usize,
     first: &Table,
-    second: &Table,
+    contract: &Table,
     kept: &Relation,
     (s, t): (usize, usize),
     mut bytes: &[u8],
 ) -> Result<usize, String> {
-    let (ms, ns) = (&first.states[s], &second.states[t]);
+    let (ms, ns) = (&first.states[s], &contract.states[t]);
     let [count] = take(&mut bytes)?;
     rule(count as usize == ms.len(), "count of transitions")?;
     let mut split = 0;
     for m in ms {
         let [place] = take(&mut bytes)?;
         let fits = |n: &Transition| n.code == m.code && fit_steps(subsets, kept, m, n).fits();
-        rule(ns.iter().position(fits) == Some(place as usize), "place")?;
+        let partner = ns.iter().position(fits).ok_or("no partner")?;
+        let due = match contract.codes.contains(&m.code) {
+            true => partner,
+            false => ADDED as usize,
+        };
+        rule(place as usize == due, "place")?;
         let count = u16::from_le_bytes(take(&mut bytes)?);
         let mut records = Vec::new();
         for _ in 0..count {
             let [from, to] = take(&mut bytes)?;
             records.push((from, to, u32::from_le_bytes(take(&mut bytes)?)));
         }
-        split += shares(kept, m, &ns[place as usize], &records)?;
+        split += shares(kept, m, &ns[partner], &records)?;
     }
     rule(bytes.is_empty(), "bytes after the flows")?;
     Ok(split)
@@ -90,11 +98,11 @@ fn shares(
 pub fn must_split(
     subsets: usize,
     first: &Table,
-    second: &Table,
+    contract: &Table,
     kept: &Relation,
     (s, t): (usize, usize),
 ) -> bool {
-    let ns = &second.states[t];
+    let ns = &contract.states[t];
     let narrow = |m: &&Transition| m.entries.len() <= 8;
     first.states[s].iter().filter(narrow).any(|m| {
         let mut fits = ns

@@ -276,7 +276,7 @@ impl Judged {
     /// depth is the rank.
     pub fn replayed(&self, pair: &Pair, s: usize, t: usize) -> Replay {
         let own = replay(&self.tree, &pair.first).unwrap();
-        let other = replay(&self.tree, &pair.second).unwrap();
+        let other = replay(&self.tree, &pair.contract).unwrap();
         assert!(has(own.followers, s));
         assert!(!has(other.followers, t));
         assert_eq!(own.depth as u32, pair.rank(s, t));
@@ -342,9 +342,9 @@ fn compare(
             if flow_length > flow.len() {
                 return Err("flow longer than its buffer".to_string());
             }
-            let (first, second) = (&pair.first, &pair.second);
+            let (first, contract) = (&pair.first, &pair.contract);
             let kept = pair.ranking.last();
-            split = judge(pair.subsets, first, second, kept, (s, t), flow)?;
+            split = judge(pair.subsets, first, contract, kept, (s, t), flow)?;
         }
         Shown::Tree(bytes) if tree != bytes => {
             return Err(format!("tree {tree:02x?} not {bytes:02x?}"));

@@ -153,13 +153,69 @@ pub fn padded(mut table: Table, states: usize) -> Table {
 
 /// The same table with some codes listed that no transition uses, for a
 /// layout of that width.
-pub fn listing_more(random: &mut Random, width: usize, mut table: Table) -> Table {
+pub fn listing_more(random: &mut Random, width: usize, table: Table) -> Table {
     let more = random.between(0, most_codes(width) - table.codes.len());
     let code = |_| random.below(top(width) + 1) as u16;
-    table.codes.extend((0..more).map(code));
+    let more: Vec<u16> = (0..more).map(code).collect();
+    listing(table, &more)
+}
+
+/// The same table with these codes in its list too.
+pub fn listing(mut table: Table, codes: &[u16]) -> Table {
+    table.codes.extend(codes);
     table.codes.sort();
     table.codes.dedup();
     table
+}
+
+/// The table without some codes: they are neither listed nor taken.
+pub fn without(mut table: Table, codes: &[u16]) -> Table {
+    table.codes.retain(|code| !codes.contains(code));
+    for steps in &mut table.states {
+        steps.retain(|step| !codes.contains(&step.code));
+    }
+    table
+}
+
+/// The table with a step more in most states, by one of these codes, as far
+/// as there is room: two in three lead back to the state itself.
+pub fn showing(random: &mut Random, table: &Table, codes: &[u16]) -> Table {
+    let states = table.states.len();
+    let shape = Shape {
+        states,
+        codes: 1,
+        steps: 1,
+        width: 3,
+        weight: [1, 4, 20_000][random.below(3)],
+    };
+    let mut table = table.clone();
+    for s in 0..states {
+        let mut step = random_step(random, shape, states);
+        if !random.once_in(3) {
+            step.entries = vec![(s as u8, step.entries[0].1)];
+        }
+        step.code = codes[random.below(codes.len())];
+        let entries = table.entries() + step.entries.len();
+        let steps = table.states[s].len();
+        let room = table.transitions() < TRANSITIONS && steps < STEPS && entries <= ENTRIES;
+        if room && !random.once_in(4) {
+            table.states[s].insert(random.between(0, steps), step);
+        }
+    }
+    listing(Table::new(table.states), &table.codes)
+}
+
+/// The table with a door before each of its states, numbered after all of
+/// them: each step leads to the doors of its targets, and a door opens by this
+/// code. At most 64 states.
+pub fn doors(table: &Table, code: u16) -> Table {
+    let states = table.states.len();
+    let mut list = table.states.clone();
+    for entry in list.iter_mut().flatten().flat_map(|step| &mut step.entries) {
+        entry.0 += states as u8;
+    }
+    list.extend((0..states).map(|s| vec![to(code, s)]));
+    listing(Table::new(list), &table.codes)
 }
 
 /// The same table with up to so many entries of weight 0 more, for states
@@ -351,6 +407,13 @@ fn shared(random: &mut Random, step: &Transition, copies: &[Vec<usize>]) -> Tran
     }
 }
 
+/// Two tables of these states. The second lists all codes of the first.
+fn like_listed(first: Vec<Vec<Transition>>, second: Vec<Vec<Transition>>) -> (Table, Table) {
+    let first = Table::new(first);
+    let second = listing(Table::new(second), &first.codes);
+    (first, second)
+}
+
 /// A ring of n states by one code.
 fn ring(n: usize) -> Vec<Vec<Transition>> {
     (0..n).map(|i| vec![to(code(0), (i + 1) % n)]).collect()
@@ -375,7 +438,7 @@ pub fn cycles_to(p: usize, q: usize, ends: usize) -> (Table, Table) {
     for steps in &mut second[..q - 1] {
         steps.push(to(code(1), 0));
     }
-    (Table::new(first), Table::new(second))
+    like_listed(first, second)
 }
 
 /// Two tables of n states each with ranks up to n². Both turn in a cycle of
@@ -394,7 +457,7 @@ pub fn counter(n: usize) -> (Table, Table) {
     for (j, steps) in second.iter_mut().enumerate().skip(1) {
         steps.push(to(code(1), j));
     }
-    (Table::new(first), Table::new(second))
+    like_listed(first, second)
 }
 
 /// Two chains by one code, the second a state shorter: the starts differ
@@ -407,7 +470,7 @@ pub fn chain(n: usize) -> (Table, Table) {
         };
         (0..n).map(step).collect()
     };
-    (Table::new(chain(n)), Table::new(chain(n - 1)))
+    like_listed(chain(n), chain(n - 1))
 }
 
 /// The table with more states, which can do nothing, some numbered below all

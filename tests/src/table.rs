@@ -100,8 +100,21 @@ pub const ZEROS_C: [u8; 38] = [
     0x01, 0x01, 0x00, 0x02, 0x00, 0x00,
 ];
 
+/// C with a code for the display, 1E, by which every state stays as it is.
+pub const SHOWING_C: [u8; 49] = [
+    0x03, 0x00, 0x0a, 0x00, 0x14, 0x00, 0x1e, 0x00, 0x03, 0x02, 0x02, 0x01, 0x05, 0x00, 0x0a, 0x00,
+    0x02, 0x1e, 0x00, 0x01, 0x14, 0x00, 0x01, 0x1e, 0x00, 0x01, 0x1e, 0x00, 0x01, 0x06, 0x00, 0x01,
+    0x01, 0x00, 0x02, 0x01, 0x00, 0x00, 0x01, 0x00, 0x01, 0x01, 0x00, 0x01, 0x01, 0x00, 0x02, 0x01,
+    0x00,
+];
+
 /// The smallest table: one state, no action.
 pub const LONE: [u8; 8] = [0, 0, 1, 0, 0, 0, 0, 0];
+
+/// One state that stands still by code 0A.
+pub const STILL: [u8; 16] = [
+    0x01, 0x00, 0x0a, 0x00, 0x01, 0x01, 0x01, 0x00, 0x0a, 0x00, 0x01, 0x01, 0x00, 0x00, 0x01, 0x00,
+];
 
 /// P, C and the smallest table in the old layout.
 pub const OLD_P: [u8; 24] = [
@@ -145,6 +158,20 @@ impl Table {
         let mut table = self.clone();
         for step in table.states.iter_mut().flatten() {
             step.entries.retain(|&(_, weight)| weight > 0);
+        }
+        table
+    }
+
+    /// The table with a transition to itself, weight 1, after those of each
+    /// state for each of these codes that the table does not list. Its list
+    /// stays: a transition is an added one if its code is not in it.
+    pub fn completed(&self, codes: &[u16]) -> Table {
+        let mut table = self.clone();
+        for &code in codes.iter().filter(|&code| !self.codes.contains(code)) {
+            for (t, steps) in table.states.iter_mut().enumerate() {
+                let entries = vec![(t as u8, 1)];
+                steps.push(Transition { code, entries });
+            }
         }
         table
     }

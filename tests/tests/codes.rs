@@ -179,18 +179,20 @@ fn codes_in_trees() {
 #[test]
 fn codes_unlike_in_one_byte() {
     // P against P with another code for the first step, which is alike in
-    // one byte or has the two exchanged: the starts fall at once.
+    // one byte or has the two exchanged. Where P's own code is listed too, the
+    // starts fall at once; where it is not, after a step by it, for no start
+    // has code 7.
     for code in SOME_CODES {
         let others = [code ^ 1, code ^ 0x80, code ^ 0x100, code ^ 0x8000];
         for other in others.into_iter().chain([code, code.swap_bytes()]) {
             let [[p, _], [q, _]] = [code, other].map(|code| examples([code, 7]));
-            let pair = Pair::new(SUBSETS, &p.bytes(), &q.bytes()).ok().unwrap();
-            let judged = check(&pair, 0, 0, pair.lengths(0, 0), 3);
-            assert_eq!(
-                judged.answer.rank,
-                (code != other) as u32,
-                "{code}, {other}"
-            );
+            let listing = make::listing(q.clone(), &[code]);
+            for (q, rank) in [(listing, 1), (q, 2)] {
+                let pair = Pair::new(SUBSETS, &p.bytes(), &q.bytes()).ok().unwrap();
+                let judged = check(&pair, 0, 0, pair.lengths(0, 0), 3);
+                let due = if code == other { 0 } else { rank };
+                assert_eq!(judged.answer.rank, due, "{code}, {other}");
+            }
         }
     }
 }
@@ -235,7 +237,8 @@ fn any_codes(random: &mut Random, count: usize) -> Vec<u16> {
 #[test]
 fn random_codes() {
     // The same two tables with codes of one byte, with codes that differ in
-    // the high byte alone, and with any: all ranks are equal.
+    // the high byte alone, and with any: all ranks are equal. Both list all
+    // codes, so that it does not matter which others the second lists.
     let mut random = Random::new(72);
     let mut seen = Seen::default();
     for round in 0..600 {
@@ -248,6 +251,7 @@ fn random_codes() {
         };
         let first = make::random(&mut random, shape);
         let second = make::edited(&mut random, &first, round % 4, shape.codes);
+        let [first, second] = [first, second].map(|table| make::listing(table, &[10, 20, 30]));
         let any = any_codes(&mut random, shape.codes);
         let low = random.byte() as u16;
         let ranks = Pair::of(&(first.clone(), second.clone())).ranking.ranks;

@@ -293,14 +293,16 @@ fn wide_nodes() {
             }
         }
     }
-    // And all states: none of the second table has the code that comes next.
+    // And all states: the second table lists the code that comes next, and
+    // none of its states has it.
     for states in [WORD, WORD + 1, STATES] {
         let all = Transition {
             code: 10,
             entries: (0..states as u8).map(|t| (t, 1)).collect(),
         };
-        let second = make::padded(Table::new(vec![vec![all]]), states);
         let first = Table::new(vec![vec![make::to(10, 1)], vec![make::to(20, 1)]]);
+        let second = make::padded(Table::new(vec![vec![all]]), states);
+        let second = make::listing(second, &first.codes);
         seen.judge(&Pair::of(&(first, second)), (0, 0));
         assert!(seen.widest as usize >= states);
     }

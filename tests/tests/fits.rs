@@ -29,7 +29,7 @@ fn kind(p: usize, q: usize) -> usize {
 }
 
 /// A start with these steps to states each of which has the codes of a set:
-/// it is related to those that have all of its codes.
+/// it is related to those that have all of its codes, which all tables list.
 fn start(steps: Vec<Transition>, codes: &[u8]) -> Table {
     let last = codes.len() + 1;
     let mut states = vec![steps];
@@ -38,7 +38,7 @@ fn start(steps: Vec<Transition>, codes: &[u8]) -> Table {
         has.map(|code| make::to(code, last)).collect()
     }));
     states.push(Vec::new());
-    Table::new(states)
+    make::listing(Table::new(states), &[0, 1, 2, 3, 4, 5, 6, 7])
 }
 
 /// A step to the states from 1 on. Those of weight 0 are listed or not.

@@ -8,10 +8,11 @@ use pod_tests::flow::judge;
 use pod_tests::make::{self, Shape};
 use pod_tests::program::{input, output};
 use pod_tests::random::Random;
-use pod_tests::ranks::{fits_some, rank, Relation};
+use pod_tests::ranks::{fit_steps, fits_some, rank, Relation};
 use pod_tests::table::{
-    has, largest, members, parse, parse_at, widen, Set, Table, C, ENTRIES, LONE, NARROW, OLD_C,
-    OLD_LONE, OLD_P, P, PAIRS, STATES, WIDE, WORD, ZEROS_C, ZEROS_P,
+    has, largest, members, parse, parse_at, widen, Set, Table, Transition, C, ENTRIES, LONE,
+    NARROW, OLD_C, OLD_LONE, OLD_P, P, PAIRS, SHOWING_C, STATES, STILL, WIDE, WORD, ZEROS_C,
+    ZEROS_P,
 };
 use pod_tests::tree::{replay, LONGEST};
 
@@ -39,6 +40,12 @@ fn worked_examples() {
     assert_eq!(parse(&exchanged), Err(3));
 }
 
+/// What is found of bytes as the flow of the starts.
+fn judged(pair: &Pair, bytes: &[u8]) -> Result<usize, String> {
+    let (first, contract) = (&pair.first, &pair.contract);
+    judge(SUBSETS, first, contract, pair.ranking.last(), (0, 0), bytes)
+}
+
 #[test]
 fn worked_flow() {
     let pair = Pair::new(SUBSETS, &C, &P).ok().unwrap();
@@ -48,17 +55,13 @@ fn worked_flow() {
         bytes.extend([from, to, amount, 0, 0, 0]);
     }
     assert_eq!(bytes.len(), 22);
-    let judge = |bytes: &[u8]| {
-        let (first, second) = (&pair.first, &pair.second);
-        judge(SUBSETS, first, second, pair.ranking.last(), (0, 0), bytes)
-    };
-    assert_eq!(judge(&bytes), Ok(1));
+    assert_eq!(judged(&pair, &bytes), Ok(1));
     // Each byte matters.
     for at in 0..bytes.len() {
         let mut other = bytes.clone();
         other[at] ^= 1;
-        assert!(judge(&other).is_err(), "byte {at}");
-        assert!(judge(&bytes[..at]).is_err());
+        assert!(judged(&pair, &other).is_err(), "byte {at}");
+        assert!(judged(&pair, &bytes[..at]).is_err());
     }
 }
 
@@ -118,10 +121,10 @@ fn subsets_against_flow_on_many_targets() {
 }
 
 /// What a round keeps of a relation, by the definition.
-fn kept_of(first: &Table, second: &Table, before: &Relation) -> Relation {
+fn kept_of(first: &Table, contract: &Table, before: &Relation) -> Relation {
     let keeps = |s: usize, t: usize| {
         let mut steps = first.states[s].iter();
-        steps.all(|m| fits_some(4, before, m, &second.states[t]))
+        steps.all(|m| fits_some(4, before, m, &contract.states[t]))
     };
     let row = |s: usize| {
         let kept = members(before[s]).filter(|&t| keeps(s, t));
@@ -146,11 +149,12 @@ fn rounds_by_the_definition() {
         };
         let first = make::random_of(&mut random, states, shape);
         let second = make::edited(&mut random, &first, 3, shape.codes);
-        let ranking = Pair::of(&(first.clone(), second.clone())).ranking;
+        let contract = second.completed(&first.codes);
+        let ranking = Pair::of(&(first.clone(), second)).ranking;
         let mut relations = ranking.relations.clone();
         relations.push(ranking.last().clone());
         for two in relations.windows(2) {
-            assert_eq!(kept_of(&first, &second, &two[0]), two[1]);
+            assert_eq!(kept_of(&first, &contract, &two[0]), two[1]);
         }
         for (at, &rank) in ranking.ranks.iter().enumerate() {
             let related = |k: usize| has(relations[k][at / states], at % states);
@@ -191,7 +195,7 @@ fn trees_replayed() {
                 assert_eq!(bytes.len(), lengths.tree);
                 assert_eq!(other.trees.bytes(s, t), bytes);
                 let own = replay(&bytes, &first).unwrap();
-                let against = replay(&bytes, &second).unwrap();
+                let against = replay(&bytes, &pair.contract).unwrap();
                 assert!(has(own.followers, s));
                 assert!(!has(against.followers, t));
                 assert_eq!(own.depth, pair.rank(s, t) as usize);
@@ -254,8 +258,7 @@ fn weights_of_zero() {
     assert_eq!(pair.lengths(0, 0).flow, 58);
     for (from, to) in [(0, 0), (0, 1), (1, 0), (2, 0)] {
         let bytes = [1, 0, 1, 0, from, to, 1, 0, 0, 0];
-        let (first, second, kept) = (&pair.first, &pair.second, pair.ranking.last());
-        let found = judge(SUBSETS, first, second, kept, (0, 0), &bytes);
+        let found = judged(&pair, &bytes);
         assert_eq!(found, Err("record of no target".to_string()));
     }
 }
@@ -270,8 +273,9 @@ fn zeros_taken_for_targets() {
         let (first, second) = alike::small(&mut random, round % 7);
         let dropped = Pair::of(&(first.clone(), second.clone()));
         let [first, second] = [first, second].map(|table| make::sprinkled(&mut random, &table, 4));
+        let contract = second.completed(&first.codes);
         for subsets in [0, SUBSETS] {
-            let ranking = rank(subsets, &first, &second);
+            let ranking = rank(subsets, &first, &contract);
             assert_eq!(ranking.ranks, dropped.ranking.ranks);
         }
         let tables = (first, second);
@@ -293,6 +297,85 @@ fn zeros_taken_for_targets() {
     }
     println!("{larger:?} larger trees");
     assert!(larger.iter().all(|&count| count > 1_000));
+}
+
+#[test]
+fn partial_contracts() {
+    // Codes that are not listed, in order, after what each state has. Code 30
+    // is listed, though no transition has it.
+    let states = vec![vec![make::to(20, 1)], Vec::new()];
+    let table = make::listing(Table::new(states), &[30]);
+    let due = [
+        vec![make::to(20, 1), make::to(5, 0), make::to(40, 0)],
+        vec![make::to(5, 1), make::to(40, 1)],
+    ];
+    let completed = table.completed(&[5, 20, 30, 40]);
+    assert_eq!(completed.states, due);
+    assert_eq!(completed.codes, [20, 30]);
+    assert_eq!(table.completed(&[20, 30]), table);
+
+    assert_eq!(output(&input(&SHOWING_C, &P)), output(&input(&C, &P)));
+    let yes = "tables 1 1\nrow 0 0\nrounds 0 kept 1 verdict yes\n";
+    assert_eq!(output(&input(&STILL, &LONE)), yes);
+    let listing = make::listing(parse(&LONE).unwrap(), &[10]).bytes();
+    assert!(output(&input(&STILL, &listing)).ends_with("\ntree 01 0a 00 01 00 01 00 00\n"));
+}
+
+#[test]
+fn flow_of_an_added_step() {
+    let bytes = |place| [1, place, 1, 0, 0, 0, 1, 0, 0, 0];
+    let pair = Pair::new(SUBSETS, &STILL, &LONE).ok().unwrap();
+    assert_eq!(pair.lengths(0, 0).flow, 10);
+    assert_eq!(judged(&pair, &bytes(255)), Ok(0));
+    for at in 0..10 {
+        for bit in 0..8 {
+            let mut other = bytes(255);
+            other[at] ^= 1 << bit;
+            assert!(judged(&pair, &other).is_err(), "byte {at}");
+        }
+        assert!(judged(&pair, &bytes(255)[..at]).is_err());
+    }
+    // A listed transition has a place of its own.
+    let pair = Pair::new(SUBSETS, &STILL, &STILL).ok().unwrap();
+    assert_eq!(judged(&pair, &bytes(0)), Ok(0));
+    let wrong = Err("place".to_string());
+    assert_eq!(judged(&pair, &bytes(255)), wrong);
+}
+
+#[test]
+fn added_steps_by_the_rule() {
+    // A step by a code that is not listed fits exactly if all its targets are
+    // related to the state itself, and is told apart by those that are not.
+    let mut random = Random::new(10);
+    let (mut fits, mut sets) = (0, 0);
+    for round in 0..1_000 {
+        let (first, second) = alike::small(&mut random, round % 7);
+        let first = make::showing(&mut random, &first, &[5, 15, 300]);
+        let pair = Pair::of(&(first, second));
+        let mut answered = |before: &Relation, m: &Transition, t: usize| {
+            if pair.second.codes.contains(&m.code) {
+                return fits_some(4, before, m, &pair.second.states[t]);
+            }
+            let targets = m.entries.iter().map(|entry| entry.0 as usize);
+            let apart: Vec<bool> = targets.map(|to| !has(before[to], t)).collect();
+            let cut = fit_steps(SUBSETS, before, m, &make::to(m.code, t)).cut;
+            assert_eq!(cut, apart);
+            let count = apart.iter().filter(|apart| **apart).count();
+            fits += (count == 0) as usize;
+            sets += (count > 0 && count < apart.len()) as usize;
+            count == 0
+        };
+        for two in pair.ranking.relations.windows(2) {
+            for (s, ms) in pair.first.states.iter().enumerate() {
+                for t in members(two[0][s]) {
+                    let keeps = ms.iter().all(|m| answered(&two[0], m, t));
+                    assert_eq!(keeps, has(two[1][s], t));
+                }
+            }
+        }
+    }
+    println!("{fits} fit, {sets} do not by some of their targets");
+    assert!(fits > 5_000 && sets > 300);
 }
 
 #[test]

@@ -7,8 +7,8 @@ use pod_tests::random::Random;
 use pod_tests::ranks::rank;
 use pod_tests::stack::deep;
 use pod_tests::table::{
-    largest, parse, Table, Transition, C, CODES, ENTRIES, LONE, OLD_C, OLD_P, P, STATES, STEPS,
-    WIDE, WORD, ZEROS_C, ZEROS_P,
+    largest, parse, Table, Transition, C, CODES, ENTRIES, LONE, OLD_C, OLD_P, P, SHOWING_C, STATES,
+    STEPS, STILL, WIDE, WORD, ZEROS_C, ZEROS_P,
 };
 use std::io::Write;
 use std::path::{Path, PathBuf};
@@ -90,7 +90,8 @@ tree 01 0a 00 02 01 03 00 01 14 00 01 01 01 00 00 02 01 00 00
 #[test]
 fn example_files() {
     // The inputs in examples/. With an entry for every state in each of P's
-    // transitions the text is the same.
+    // transitions the text is the same, and so it is with a code for C's
+    // display that the contract does not list.
     let file = |name: &str| {
         let folder = Path::new(env!("CARGO_MANIFEST_DIR")).join("../examples");
         std::fs::read(folder.join(name)).unwrap()
@@ -98,7 +99,10 @@ fn example_files() {
     assert_eq!(file("p_c.bin"), input(&P, &C));
     assert_eq!(file("c_p.bin"), input(&C, &P));
     assert_eq!(file("zeros.bin"), input(&ZEROS_P, &C));
-    assert!(held(&file("c_p.bin")).ends_with("verdict yes\n"));
+    assert_eq!(file("partial.bin"), input(&SHOWING_C, &P));
+    let text = held(&file("c_p.bin"));
+    assert!(text.ends_with("verdict yes\n"));
+    assert_eq!(run(&file("partial.bin")), text);
     let text = held(&file("p_c.bin"));
     assert!(text.ends_with("\ntree 01 0a 00 02 01 03 00 01 14 00 01 01 01 00 00 02 01 00 00\n"));
     assert_eq!(run(&file("zeros.bin")), text);
@@ -149,6 +153,29 @@ fn same_with_zeros(random: &mut Random, tables: &[Table; 2], count: usize) -> (S
 }
 
 #[test]
+fn partial_contracts() {
+    // Codes that the contract does not list, beside others.
+    assert!(held(&input(&STILL, &LONE)).ends_with("\nrounds 0 kept 1 verdict yes\n"));
+    assert_eq!(held(&input(&SHOWING_C, &P)), held(&input(&C, &P)));
+    let mut random = Random::new(48);
+    let (mut yes, mut no) = (0, 0);
+    for round in 0..120 {
+        let (first, second) = match round % 10 {
+            9 => alike::large(&mut random, round / 10 % 4),
+            kind => alike::small(&mut random, kind % 8),
+        };
+        let first = make::showing(&mut random, &first, &[5, 15, 300]);
+        let text = held_large(&first, &second);
+        let listing = held_large(&first, &make::listing(second, &first.codes));
+        // Those whose answer is another with all codes listed.
+        yes += (text != listing && text.contains("verdict yes\n")) as usize;
+        no += (text != listing && text.contains("\ntree 01 ")) as usize;
+    }
+    println!("{yes} yes, {no} no");
+    assert!(yes > 20 && no > 20);
+}
+
+#[test]
 fn old_tables() {
     // The first two bytes of either are a count of 2,562 codes.
     assert_eq!(held(&input(&OLD_P, &OLD_C)), "refused 1 3\n");
@@ -169,7 +196,8 @@ fn codes_of_two_bytes() {
     let mut all = Table::new(vec![vec![make::to(u16::MAX, 0)]]);
     all.codes = (0..CODES as u16).map(|k| u16::MAX - k).rev().collect();
     assert!(held_large(&all, &all).ends_with("verdict yes\n"));
-    assert!(held_large(&all, &table(&LONE)).ends_with("\ntree 01 ff ff 01 00 01 00 00\n"));
+    let lone = make::listing(table(&LONE), &[u16::MAX]);
+    assert!(held_large(&all, &lone).ends_with("\ntree 01 ff ff 01 00 01 00 00\n"));
     all.codes.insert(0, 0);
     assert_eq!(held_large(&all, &all), "refused 1 3\n");
 }

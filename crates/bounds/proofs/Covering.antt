@@ -1,15 +1,18 @@
 -- What sets of targets tell of a fit, target by target.
 -- Assumes nothing.
-use mathlib.Core.Path.{_≡_, refl, sym, ap, _∙_}
+use mathlib.Core.Path.{_≡_, refl, sym, ap, ap₂, _∙_, subst}
 use mathlib.Core.Bool.{Bool, true, false, not, _&&_, true≢false}
 use mathlib.Core.List.{List}
 use mathlib.Core.Logic.{⊎-elim, _≢_}
 use Prim.Native.Nat.{ℕ, _+_, _^_, _≤_, _<_}
 use native.Mathlib.Omega.{arith}
-use borrow.Author.Tests.{ltb-false, not-true, not-false}
+use borrow.Author.Tests.{lt-ltb, ltb-false, not-true, not-false}
+use lib.Dec.{T}
 use lib.ListN.{length, getD}
 use Rattle.simulation.specs.Limits.{most-states}
-use Rattle.simulation.proofs.Finite.Tests.{both-true, neither-true, last-or-below}
+use Rattle.simulation.specs.Sum.{all-of}
+use Rattle.simulation.proofs.Finite.Tests.{both-true, neither-true, last-or-below, is-true, same-test}
+use Rattle.simulation.proofs.Finite.Lists.{all-of-at, all-of-by}
 use Rattle.word.specs.Mask.{Test, member, up-to, either, both, except}
 use Rattle.relation.specs.Rows.{row-of}
 use Rattle.word.proofs.Mask.{member-none, member-high, some-member}
@@ -60,6 +63,31 @@ module _ (rows ms : List ℕ) where
               let z = both-true (member every u) (member near u) (sym (ap (λ (X : Test). X u) y) ∙ s) in
               ⊎-elim (λ q. near-at i u true q (z .1)) (λ l. h .within i u l (z .0)) (last-or-below i n (omega arith));
         }
+
+  -- the states that each of the first n targets is related to
+  pub record CommonSoFar (n every : ℕ) : Type 0 where
+    pub within : (i u : ℕ) → i < n → member every u ≡ true → holds rows (getD ms i 0) u ≡ true
+    pub all : (u : ℕ) → u < most-states → ((i : ℕ) → i < n → holds rows (getD ms i 0) u ≡ true) → member every u ≡ true
+
+  pub common-start : {every : ℕ} → member every ≡ up-to most-states → CommonSoFar 0 every
+  common-start e = record { within = λ i u a _. absurd (omega arith); all = λ u b _. ap (λ (X : Test). X u) e ∙ lt-ltb u most-states b }
+
+  pub common-next : {n every every′ : ℕ} (near : ℕ) → near ≡ row-of rows (getD ms n 0) → member every′ ≡ both (member every) (member near) → CommonSoFar n every → CommonSoFar (n + 1) every′
+  common-next {n} {every} near e y h =
+      record {
+        within = λ i u a s.
+            let z = both-true (member every u) (member near u) (sym (ap (λ (X : Test). X u) y) ∙ s) in
+            ⊎-elim (λ q. near-at n near e i u true q (z .1)) (λ l. h .within i u l (z .0)) (last-or-below i n (omega arith));
+        all = λ u b s. ap (λ (X : Test). X u) y
+            ∙ ap₂ _&&_ (h .all u b (λ i a. s i (omega arith))) (ap (λ (x : ℕ). member x u) e ∙ s n (omega arith));
+      }
+
+  pub common-end : {n every : ℕ} → length ms ≤ n → n ≤ length ms → CommonSoFar n every → (u : ℕ) → u < most-states → member every u ≡ all-of (λ s. holds rows s u) ms
+  common-end {n} {every} a b h u c =
+      let related : Test = λ s. holds rows s u in
+      same-test (member every u) (all-of related ms)
+      (λ m. all-of-by related 0 ms (λ i d. subst T (sym (h .within i u (omega arith) (is-true (member every u) m))) tt))
+      (λ m. subst T (sym (h .all u c (λ i d. is-true (related (getD ms i 0)) (all-of-at related 0 ms m i (omega arith))))) tt)
 
   pub passed-all : (n some every : ℕ) → length ms ≤ n → BoundsSoFar rows ms n some every → Bounding rows ms some every
   passed-all n some every a h = record { others = λ i u b s. h .others i u (omega arith) s; within = λ i u b s. h .within i u (omega arith) s }

@@ -5,10 +5,14 @@ use simulation::Table;
 use word::Word;
 ghost use mathlib.Core.Bool.{false};
 ghost use mathlib.Core.Path.{_≡_};
+ghost use Prim.Native.Nat.{ℕ, _<_};
 ghost use lib.ListN.{length};
+ghost use Rattle.simulation.specs.Sum.{all-of};
 ghost use Rattle.simulation.specs.Limits.{most-states};
+ghost use Rattle.word.specs.Mask.{member};
 ghost use Rattle.set.specs.Words.{mask};
 ghost use Rattle.relation.specs.Rows.{height};
+ghost use Rattle.relation.specs.Related.{holds};
 ghost use Rattle.gather.specs.Places.{Places};
 ghost use Rattle.bounds.specs.Quick.{SetOf, RowMissing, Bounding, Settles};
 
@@ -88,6 +92,20 @@ fn row_bounds(from: &[u16], rows: &[Word]) -> Bounds
         i += 1;
     }
     Bounds { some, every }
+}
+
+// The states that every target is related to.
+pub fn common(from: &[u16], rows: &[Word]) -> Set
+    requires { ⌜ Places (height (now rows)) (now from) ⌝ }
+    ensures { λ r. ⌜ ((u : ℕ) → u < most-states → member (mask r) u ≡ all-of (λ s. holds (now (rows .entry)) s u) (now (from .entry))) ⌝ }
+{
+    let mut every = set::below(Table::STATES);
+    let mut i = 0;
+    while i < from.len() {
+        every = set::intersection(every, rows::get(rows, from[i] as usize));
+        i += 1;
+    }
+    every
 }
 
 // The bounds for targets that are not many. Those of many would cost more than they settle.

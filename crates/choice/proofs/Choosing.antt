@@ -4,7 +4,7 @@
 use mathlib.Core.Path.{_≡_, refl, sym, ap, ap₂, _∙_, subst, subst₂, fun-ext}
 use mathlib.Core.Bool.{Bool, true, false, not, _&&_, _||_, and-comm}
 use mathlib.Core.List.{List, [], _∷_}
-use mathlib.Core.Logic.{_⊎_, inl, inr, ⊎-elim}
+use mathlib.Core.Logic.{_⊎_, inl, inr, ⊎-elim, _≢_}
 use Prim.Native.Nat.{ℕ, zero, suc, _+_, _-_, _*_, _/_, _≤_, _<_, pred}
 use native.Mathlib.Nat.{zero-add, not-suc-le-zero, le-of-suc-le-suc, sub-self}
 use native.Mathlib.Omega.{arith}
@@ -19,12 +19,15 @@ use Rattle.simulation.specs.Fit.{touched}
 use Rattle.simulation.specs.Table.{Transition, weights, target-at, states-of, steps, no-transition, transition}
 use Rattle.simulation.specs.Round.{Relation, between, fits-step, round, rank}
 use Rattle.simulation.specs.Tree.{before, chosen, cut-of, apart-by, apart}
-use Rattle.simulation.proofs.Finite.Tests.{and-left, and-right, differ-eqb, is-true, same-test, any-some, some-any, any-ext, same-eqb, last-or-below}
+use Rattle.simulation.proofs.Finite.Tests.{and-left, and-right, differ-eqb, is-true, true-T, same-test, any-some, some-any, any-ext, same-eqb, last-or-below}
 use Rattle.simulation.proofs.Finite.Lists.{any-of-at}
+use Rattle.simulation.proofs.Simulation.Steps.{fits-step-code}
+use Rattle.simulation.proofs.Complete.Codes.{lists-same}
 use Rattle.simulation.proofs.Trees.Choice.{Chosen, chosen-law, chosen-at}
 use Rattle.form.specs.Form.{Loaded, table-of, start-of, transitions-of, transition-at}
-use Rattle.form.specs.Tables.{first-form, second-form, first-table, second-table, first-step, second-step}
+use Rattle.form.specs.Tables.{first-form, second-form, first-table, second-table, contract-table, first-step, second-step}
 use Rattle.form.proofs.FormLaws.{counts, start-bound, starts-ascend, transition-of, transition-numbered, weights-length}
+use Rattle.form.proofs.Contract.{own-code, contract-states, answered-listed}
 use Rattle.word.specs.Mask.{Test, member, up-to, without-member, either, except, Lowest}
 use Rattle.set.specs.Words.{mask as mask-of, words}
 use Rattle.relation.specs.Rows.{row-of, height, rows-in, put-row}
@@ -40,8 +43,9 @@ use Rattle.fit.specs.Partner.{NextCoded}
 use Rattle.fit.specs.Ranked.{InRound, Cut}
 use Rattle.fit.proofs.Codes.{other-code}
 use Rattle.fit.proofs.Comparing.{cut-fits}
-use Rattle.fit.proofs.Steps.{upto-next, none-passes}
+use Rattle.fit.proofs.Steps.{upto-next, one-passes, none-passes}
 use Rattle.choice.specs.Choice.{Names, SetsJoined, Parted, Lost, Choice, round-fits-some, Tested}
+use Rattle.choice.proofs.Choices.{choice-width}
 use Rattle.relation.specs.Related.{holds}
 
 -- ---- a walk over the members of a mask
@@ -254,12 +258,29 @@ module _ (f : List ℕ) (l : Loaded f) (t : ℕ) (b : t < states-of (table-of f)
     pub scan-end : {k : ℕ} → Scan f t test k → start-of f (t + 1) ≤ k → any-of test (steps (table-of f) t) ≡ false
     scan-end s h = sym (none-passes f l t b test (λ i a c. s .none i a (omega arith)))
 
+-- ---- what the contract's transitions of a state answer
+
+-- a state of the contract is one of the second table
+pub second-state : (tables : List ℕ) {t : ℕ} → t < states-of (contract-table tables) → t < states-of (second-table tables)
+second-state tables b = omega (arith, contract-states tables)
+
+-- m fits the listed transition l of t
+pub fits-listed : (tables : List ℕ) → Loaded (second-form tables) → (R : Relation) (m : Transition) (t l : ℕ) → t < states-of (contract-table tables)
+    → start-of (second-form tables) t ≤ l → l < start-of (second-form tables) (t + 1) → {b : Bool} → b ≡ fits-step R m (second-step tables l) → b ≡ true
+    → any-of (fits-step R m) (steps (contract-table tables) t) ≡ true
+fits-listed tables loaded R m t l b low high e h =
+    let g = second-form tables in
+    let state = second-state tables b in
+    let same = fits-step-code R m (second-step tables l) (true-T (sym e ∙ h)) in
+    answered-listed tables m t (lists-same (table-of g .codes) same (own-code g loaded l (number-of g loaded t state l low high))) R
+    ∙ sym (one-passes g loaded t state (fits-step R m) l low high e h)
+
 -- ---- a pair that is not kept, with its rank
 
 pub record LostPair (tables ranks : List ℕ) (s t r : ℕ) : Type 0 where
   pub ranked : RanksRight tables ranks
   pub lost : Lost tables s t
-  pub its-rank : r ≡ rank (first-table tables) (second-table tables) s t
+  pub its-rank : r ≡ rank (first-table tables) (contract-table tables) s t
 
 -- a transition of the first table and one of t are compared in the round before its rank
 pub lost-compared : {tables ranks : List ℕ} {s t r : ℕ} → LostPair tables ranks s t r → (j l : ℕ) (amounts : List ℕ) → j < transitions-of (first-form tables)
@@ -269,7 +290,7 @@ lost-compared {tables} {t = t} p j l amounts b low high room =
       ranked = p .ranked;
       later = omega (arith, p .its-rank, p .lost .fell);
       from-first = b;
-      from-second = number-of (second-form tables) (p .ranked .loaded .second) t (p .lost .right) l low high;
+      from-second = number-of (second-form tables) (p .ranked .loaded .second) t (second-state tables (p .lost .right)) l low high;
       amounts-room = room;
     }
 
@@ -278,7 +299,7 @@ lost-compared {tables} {t = t} p j l amounts b low high room =
 module _ (tables : List ℕ) (s t : ℕ) where
   -- m fits some transition of t in the round before the pair's rank
   abbrev pub matches : Transition → Bool
-  matches m = any-of (fits-step (before (first-table tables) (second-table tables) s t) m) (steps (second-table tables) t)
+  matches m = any-of (fits-step (before (first-table tables) (contract-table tables) s t) m) (steps (contract-table tables) t)
 
   -- those of s before number j do
   pub record Trying (j : ℕ) : Type 0 where
@@ -287,21 +308,39 @@ module _ (tables : List ℕ) (s t : ℕ) where
     pub all : (l : ℕ) → start-of (first-form tables) s ≤ l → l < j → T (matches (first-step tables l))
 
   module _ (l : Loaded (first-form tables)) (p : Lost tables s t) where
-    abbrev some-fails : Chosen (first-table tables) (second-table tables) s t (chosen (first-table tables) (second-table tables) s t)
-    some-fails = chosen-law (first-table tables) (second-table tables) s t (p .left) (p .right) (p .fell)
+    abbrev some-fails : Chosen (first-table tables) (contract-table tables) s t (chosen (first-table tables) (contract-table tables) s t)
+    some-fails = chosen-law (first-table tables) (contract-table tables) s t (p .left) (p .right) (p .fell)
 
     -- the chosen one fits none
-    chosen-unfit : {j r : ℕ} → r ≡ rank (first-table tables) (second-table tables) s t → Choice tables s t j
+    chosen-unfit : {j r : ℕ} → r ≡ rank (first-table tables) (contract-table tables) s t → Choice tables s t j
         → round-fits-some tables t r j ≡ true → ⊥
     chosen-unfit {j} {r} e c h =
-        let q = any-of-at (fits-step (round (first-table tables) (second-table tables) (pred r)) (first-step tables j)) no-transition (steps (second-table tables) t) (subst T (sym h) tt) in
+        let q = any-of-at (fits-step (round (first-table tables) (contract-table tables) (pred r)) (first-step tables j)) no-transition (steps (contract-table tables) t) (subst T (sym h) tt) in
         some-fails .unfit (q .0) (q .1)
-        (subst₂ (λ (r : ℕ) (m : Transition). T (fits-step (round (first-table tables) (second-table tables) (pred r)) m (transition (second-table tables) t (q .0)))) e (c .is) (q .2))
+        (subst₂ (λ (r : ℕ) (m : Transition). T (fits-step (round (first-table tables) (contract-table tables) (pred r)) m (transition (contract-table tables) t (q .0)))) e (c .is) (q .2))
 
-    -- l is one that j fits, so j is not the chosen one
-    pub tested-one : {r j l : ℕ} {sets : List ℕ} → r ≡ rank (first-table tables) (second-table tables) s t → start-of (second-form tables) t ≤ l → l < start-of (second-form tables) (t + 1)
-        → round-fits-some tables t r j ≡ true → Tested tables s t r j l sets
-    tested-one e a h f = record { low = a; high = omega arith; one = λ _. f; none = λ q. absurd (omega (arith, q)); found = λ w. absurd (chosen-unfit e w f) }
+    -- j fits one, so it is not the chosen one
+    pub tested-one : {r j l : ℕ} {sets : List ℕ} → r ≡ rank (first-table tables) (contract-table tables) s t → start-of (second-form tables) t ≤ l
+        → l ≢ start-of (second-form tables) (t + 1) → round-fits-some tables t r j ≡ true → Tested tables s t r j l sets
+    tested-one e a h f = record { low = a; one = λ _. f; none = λ q. absurd (h q); found = λ w. absurd (chosen-unfit e w f) }
+
+    -- j fits none, and the sets are those that its targets have among the contract's transitions of t
+    pub tested-none : {r j l : ℕ} {sets : List ℕ} → r ≡ rank (first-table tables) (contract-table tables) s t → start-of (second-form tables) t ≤ l
+        → l ≡ start-of (second-form tables) (t + 1) → round-fits-some tables t r j ≡ false
+        → ((i : ℕ) → i < length (first-step tables j .entries) → (u : ℕ)
+        → member (row-of sets i) u ≡ apart (round (first-table tables) (contract-table tables) (pred r)) (first-step tables j) (steps (contract-table tables) t) i u)
+        → Tested tables s t r j l sets
+    tested-none {j = j} e a h f sets =
+        record {
+          low = a;
+          one = λ q. absurd (q h);
+          none = λ _. f;
+          found = λ w. record {
+            set = λ i b.
+                fun-ext (sets i (omega (arith, choice-width tables l s t j (p .left) w)))
+                ∙ ap₂ (λ (q : ℕ) (m : Transition). apart (round (first-table tables) (contract-table tables) (pred q)) m (steps (contract-table tables) t) i) e (w .is);
+          };
+        }
 
     -- not all of them do
     not-all : (j : ℕ) → ((l : ℕ) → start-of (first-form tables) s ≤ l → l < j → T (matches (first-step tables l))) → j < start-of (first-form tables) (s + 1)
@@ -310,9 +349,9 @@ module _ (tables : List ℕ) (s t : ℕ) where
         let k = w .place in
         let here = transition-of (first-form tables) l s k (p .left) (w .here) in
         go k (decLt j (start-of (first-form tables) (s + 1))) (λ b.
-        let q = any-of-at (fits-step (before (first-table tables) (second-table tables) s t) (transition (first-table tables) s k)) no-transition (steps (second-table tables) t)
+        let q = any-of-at (fits-step (before (first-table tables) (contract-table tables) s t) (transition (first-table tables) s k)) no-transition (steps (contract-table tables) t)
         (subst (λ (m : Transition). T (matches m)) here (h (start-of (first-form tables) s + k) (omega arith) b)) in
-        w .unfit (q .0) (q .1) (subst (λ (m : Transition). T (fits-step (before (first-table tables) (second-table tables) s t) m (transition (second-table tables) t (q .0)))) (w .same) (q .2)))
+        w .unfit (q .0) (q .1) (subst (λ (m : Transition). T (fits-step (before (first-table tables) (contract-table tables) s t) m (transition (contract-table tables) t (q .0)))) (w .same) (q .2)))
         (omega (arith, counts (first-form tables) l s (p .left), w .here))
       where
         go : (k : ℕ) → Dec (j < start-of (first-form tables) (s + 1)) → (start-of (first-form tables) s + k < j → ⊥) → start-of (first-form tables) s + k < start-of (first-form tables) (s + 1) → j < start-of (first-form tables) (s + 1)
@@ -334,7 +373,7 @@ module _ (tables : List ℕ) (s t : ℕ) where
         record {
           low = w .low;
           high = w .high;
-          is = here ∙ sym (chosen-at (first-table tables) (second-table tables) s t (j - start-of (first-form tables) s) (omega (arith, counts (first-form tables) l s (p .left), w .low, w .high))
+          is = here ∙ sym (chosen-at (first-table tables) (contract-table tables) s t (j - start-of (first-form tables) s) (omega (arith, counts (first-form tables) l s (p .left), w .low, w .high))
               (λ i c. subst (λ (m : Transition). T (matches m)) (transition-of (first-form tables) l s i (p .left) (omega (arith, counts (first-form tables) l s (p .left), w .high)))
               (w .all (start-of (first-form tables) s + i) (omega arith) (omega (arith, w .low))))
               (λ x. subst T (ap matches (sym here) ∙ e) x));
@@ -362,7 +401,7 @@ apart-is : (R : Relation) (m : Transition) (ns : List Transition) (i u : ℕ) �
 unfolding apart
 apart-is R m ns i u = refl
 
--- m fits none of the transitions of t before number k, and the sets hold what those add
+-- m fits none of the listed transitions of t before number k, and the sets hold what those add
 pub record SetsGathering (R : Relation) (m : Transition) (tables : List ℕ) (t k : ℕ) (sets : List ℕ) : Type 0 where
   pub scan : Scan (second-form tables) t (fits-step R m) k
   pub gathered : (i : ℕ) → i < length (m .entries) → (u : ℕ)
@@ -407,9 +446,8 @@ module _ (R : Relation) (m : Transition) (tables : List ℕ) (l : Loaded (second
           move (omega arith) (gathering-next (passed n (k + n) refl (omega arith)) (omega (arith, next .to)) (parted-other R m (second-step tables (k + n)) other sets) refl)
 
   pub gathering-end : {k : ℕ} {sets : List ℕ} → SetsGathering R m tables t k sets → start-of (second-form tables) (t + 1) ≤ k → (i : ℕ) → i < length (m .entries)
-      → member (row-of sets i) ≡ apart R m (steps (second-table tables) t) i
-  gathering-end {k} g h i lt =
-      fun-ext (λ u.
+      → (u : ℕ) → member (row-of sets i) u ≡ apart R m (steps (second-table tables) t) i u
+  gathering-end {k} g h i lt u =
       g .gathered i lt u
       ∙ ap (any-of (λ n. apart-by R m i n u)) (take-all (k - start-of (second-form tables) t) (steps (second-table tables) t) (omega (arith, counts (second-form tables) l t b, g .scan .high)))
-      ∙ apart-is R m (steps (second-table tables) t) i u)
+      ∙ apart-is R m (steps (second-table tables) t) i u

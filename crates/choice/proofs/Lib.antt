@@ -2,3 +2,4 @@
 -- Assumes nothing.
 pub mod Choices
 pub mod Choosing
+pub mod Added

@@ -3,6 +3,7 @@ use fit::ranked;
 use form::Form;
 use form::tables;
 use relation::Relation;
+use relation::ranks::lasts;
 use relation::rows;
 use set::Set;
 use set::walk;
@@ -10,29 +11,30 @@ use word::Word;
 ghost use mathlib.Core.Path.{_≡_};
 ghost use mathlib.Core.Bool.{true, not, _&&_};
 ghost use Prim.Native.Nat.{ℕ, pred, _+_, _*_, _≤_, _<_};
-ghost use lib.Dec.{eqb};
+ghost use lib.Dec.{T, eqb};
 ghost use lib.ListN.{length, getD};
 ghost use Rattle.simulation.specs.Limits.{most-pairs, most-states};
 ghost use Rattle.simulation.specs.Sum.{any};
 ghost use Rattle.simulation.specs.Fit.{touched};
 ghost use Rattle.simulation.specs.Table.{target-at, states-of};
 ghost use Rattle.simulation.specs.Round.{round, rank};
+ghost use Rattle.simulation.specs.Complete.{lists};
 ghost use Rattle.word.specs.Mask.{member};
 ghost use Rattle.set.specs.Words.{mask};
 ghost use Rattle.relation.specs.Rows.{height};
 ghost use Rattle.relation.specs.Related.{holds};
 ghost use Rattle.form.specs.Form.{transitions-of, start-of};
-ghost use Rattle.form.specs.Tables.{first-form, second-form, first-table, second-table, first-step, second-step, BothLoaded};
+ghost use Rattle.form.specs.Tables.{first-form, second-form, first-table, second-table, contract-table, first-step, second-step, BothLoaded};
 ghost use Rattle.relate.specs.Ranked.{RanksRight};
 ghost use Rattle.fit.specs.Ranked.{InRound};
-ghost use Rattle.choice.specs.Choice.{Names, SetsJoined, Parted, Lost, Choice, SetsChosen, round-fits-some, Tested};
+ghost use Rattle.choice.specs.Choice.{Names, SetsJoined, Parted, PartedAdded, Lost, Choice, SetsChosen, round-fits-some, Tested};
 
 // The rank of the pair (s, t).
 pub fn rank_at(tables: &[u16], ranks: &[u16], s: usize, t: usize) -> u16
-    requires { ⌜ BothLoaded (now tables) × (s < most-states) × (t < most-states) × (s * states-of (second-table (now tables)) + t < length (now ranks)) ⌝ }
-    ensures { λ r. ⌜ r ≡ getD (now (ranks .entry)) (s * states-of (second-table (now (tables .entry))) + t) 0 ⌝ }
+    requires { ⌜ BothLoaded (now tables) × (s < most-states) × (t < most-states) × (s * states-of (contract-table (now tables)) + t < length (now ranks)) ⌝ }
+    ensures { λ r. ⌜ r ≡ getD (now (ranks .entry)) (s * states-of (contract-table (now (tables .entry))) + t) 0 ⌝ }
 {
-    ranks[s * tables::states(tables, Form::SECOND) + t]
+    ranks[s * tables::width(tables) + t]
 }
 
 // What some row that the set names is related to.
@@ -102,7 +104,7 @@ fn part_sets(
 ) -> bool
     requires { ⌜ InRound (now tables) (now ranks) r j k (now amounts) × (2 * most-states ≤ height (now sets))
         × (first-step (now tables) j .code ≡ second-step (now tables) k .code) ⌝ }
-    ensures { λ b. ⌜ Parted (round (first-table (now (tables .entry))) (second-table (now (tables .entry))) (pred r))
+    ensures { λ b. ⌜ Parted (round (first-table (now (tables .entry))) (contract-table (now (tables .entry))) (pred r))
         (first-step (now (tables .entry)) j) (second-step (now (tables .entry)) k) b (now (sets .entry)) (now (sets .exit)) ⌝ }
 {
     let rel = &mut sets[Relation::WORDS..2 * Relation::WORDS];
@@ -116,9 +118,9 @@ fn part_sets(
     false
 }
 
-// The first transition of t that the transition j of s fits in the round before the pair's rank r, or the end of t's transitions if there is
-// none. If j is the one chosen, the sets are those of its targets.
-pub fn find_sets(
+// The first listed transition of t that the transition j of s fits in the round before the pair's rank r, or the end of t's transitions if
+// there is none; the second table lists the code of j. If j is the one chosen, the sets are those of its targets.
+fn find_listed(
     tables: &[u16],
     ranks: &[u16],
     s: usize,
@@ -128,9 +130,10 @@ pub fn find_sets(
     sets: &mut [Word],
     amounts: &mut [u32],
 ) -> usize
-    requires { ⌜ RanksRight (now tables) (now ranks) × Lost (now tables) s t × (r ≡ rank (first-table (now tables)) (second-table (now tables)) s t)
+    requires { ⌜ RanksRight (now tables) (now ranks) × Lost (now tables) s t × (r ≡ rank (first-table (now tables)) (contract-table (now tables)) s t)
         × (start-of (first-form (now tables)) s ≤ j) × (j < start-of (first-form (now tables)) (s + 1))
-        × (2 * most-states ≤ height (now sets)) × (most-pairs ≤ length (now amounts)) ⌝ }
+        × (2 * most-states ≤ height (now sets)) × (most-pairs ≤ length (now amounts))
+        × T (lists (second-table (now tables) .codes) (first-step (now tables) j .code)) ⌝ }
     ensures { λ l. ⌜ Tested (now (tables .entry)) s t r j l (now (sets .exit)) ⌝ }
 {
     rows::clear(sets, tables::targets(tables, Form::FIRST, j).len());
@@ -147,8 +150,54 @@ pub fn find_sets(
     l
 }
 
-// Whether t has many transitions and j fits l, one of them, in the round before round r, in room for rows of a relation. Where there are few,
-// trying them in turn costs less.
+// Whether j, whose code the second table does not list, fits the transition of t to itself in the round before round r: all its targets must be
+// related to t. Each that is not must be told apart from t.
+fn part_added(tables: &[u16], ranks: &[u16], t: usize, r: u16, j: usize, sets: &mut [Word]) -> bool
+    requires { ⌜ RanksRight (now tables) (now ranks) × (0 < r) × (j < transitions-of (first-form (now tables)))
+        × (t < states-of (contract-table (now tables))) × (most-states ≤ height (now sets)) ⌝ }
+    ensures { λ b. ⌜ PartedAdded (round (first-table (now (tables .entry))) (contract-table (now (tables .entry))) (pred r))
+        (first-step (now (tables .entry)) j) t b (now (sets .exit)) ⌝ }
+{
+    let targets = tables::targets(tables, Form::FIRST, j);
+    let mut apart: Word = 0;
+    let mut i = 0;
+    while i < targets.len() {
+        let rank = rank_at(tables, ranks, targets[i] as usize, t);
+        let lost = 1 - lasts(rank, r);
+        rows::put(sets, i, set::with_bit(set::empty(), t, lost));
+        apart += lost;
+        i += 1;
+    }
+    apart == 0
+}
+
+// A number other than the end of t's transitions if the transition j of s fits one of t in the round before the pair's rank r: that one's, if it
+// is listed. If j is the one chosen, the sets are those of its targets.
+pub fn find_sets(
+    tables: &[u16],
+    ranks: &[u16],
+    s: usize,
+    t: usize,
+    r: u16,
+    j: usize,
+    sets: &mut [Word],
+    amounts: &mut [u32],
+) -> usize
+    requires { ⌜ RanksRight (now tables) (now ranks) × Lost (now tables) s t × (r ≡ rank (first-table (now tables)) (contract-table (now tables)) s t)
+        × (start-of (first-form (now tables)) s ≤ j) × (j < start-of (first-form (now tables)) (s + 1))
+        × (2 * most-states ≤ height (now sets)) × (most-pairs ≤ length (now amounts)) ⌝ }
+    ensures { λ l. ⌜ Tested (now (tables .entry)) s t r j l (now (sets .exit)) ⌝ }
+{
+    let code = tables::code(tables, Form::FIRST, j);
+    if fit::lists_code(tables, t, code) {
+        return find_listed(tables, ranks, s, t, r, j, sets, amounts);
+    }
+    let fits = part_added(tables, ranks, t, r, j, sets);
+    tables::start_of(tables, Form::SECOND, t + 1) + fits as usize
+}
+
+// Whether t has many transitions and j fits l, if it is a listed one of them, in the round before round r, in room for rows of a relation. Where
+// there are few, trying them in turn costs less.
 fn guessed(
     tables: &[u16],
     ranks: &[u16],
@@ -159,13 +208,12 @@ fn guessed(
     rel: &mut [Word],
     amounts: &mut [u32],
 ) -> bool
-    requires { ⌜ InRound (now tables) (now ranks) r j l (now amounts) × (most-states ≤ height (now rel)) × (t < states-of (second-table (now tables)))
-        × (start-of (second-form (now tables)) t ≤ l) × (l < start-of (second-form (now tables)) (t + 1)) ⌝ }
+    requires { ⌜ RanksRight (now tables) (now ranks) × (0 < r) × (j < transitions-of (first-form (now tables))) × (most-pairs ≤ length (now amounts))
+        × (most-states ≤ height (now rel)) × (t < states-of (contract-table (now tables))) × (start-of (second-form (now tables)) t ≤ l) ⌝ }
     ensures { λ b. ⌜ (b ≡ true → round-fits-some (now (tables .entry)) t r j ≡ true) ⌝ }
 {
-    if tables::start_of(tables, Form::SECOND, t + 1) - tables::start_of(tables, Form::SECOND, t)
-        <= fit::PARTNERS
-    {
+    let end = tables::start_of(tables, Form::SECOND, t + 1);
+    if end - tables::start_of(tables, Form::SECOND, t) <= fit::PARTNERS || end <= l {
         return false;
     }
     ranked::fits(tables, ranks, r, j, l, rel, amounts)
@@ -181,14 +229,14 @@ pub fn choose(
     sets: &mut [Word],
     amounts: &mut [u32],
 ) -> usize
-    requires { ⌜ RanksRight (now tables) (now ranks) × Lost (now tables) s t × (r ≡ rank (first-table (now tables)) (second-table (now tables)) s t)
+    requires { ⌜ RanksRight (now tables) (now ranks) × Lost (now tables) s t × (r ≡ rank (first-table (now tables)) (contract-table (now tables)) s t)
         × (2 * most-states ≤ height (now sets)) × (most-pairs ≤ length (now amounts)) ⌝ }
     ensures { λ j. ⌜ Choice (now (tables .entry)) s t j × SetsChosen (now (tables .entry)) s t (now (sets .exit)) ⌝ }
 {
     let last = tables::start_of(tables, Form::SECOND, t + 1);
     let mut j = tables::start_of(tables, Form::FIRST, s);
     let mut l = find_sets(tables, ranks, s, t, r, j, sets, amounts);
-    while l < last {
+    while l != last {
         j += 1;
         if !guessed(tables, ranks, t, r, j, l, sets, amounts) {
             l = find_sets(tables, ranks, s, t, r, j, sets, amounts);

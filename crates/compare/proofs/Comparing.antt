@@ -17,7 +17,8 @@ use Rattle.simulation.specs.Round.{pairs, rank, rank-list, maximum, zeros}
 use Rattle.simulation.specs.Demands.{Kept}
 use Rattle.simulation.proofs.Finite.Tests.{or-cases, or-left, or-right}
 use Rattle.simulation.proofs.Simulation.RankList.{rank-list-length, rank-list-at}
-use Rattle.form.specs.Tables.{first-form, second-form, first-table, second-table}
+use Rattle.form.specs.Tables.{first-table, contract-table}
+use Rattle.form.proofs.Contract.{contract-states}
 use Rattle.simulation.specs.Limits.{most-pairs, most-states}
 use Rattle.pair_tree.proofs.Putting.{count-small}
 use Rattle.ranking.specs.Rows.{Open, RanksFilled}
@@ -75,22 +76,22 @@ module _ (M N : Table) (s t : ℕ) where
       go (yes a) (no c) k = (none-sent, λ _ c′ _. absurd (c c′))
       go (yes a) (yes c) (no k) = (none-sent, λ _ _ k′. absurd (k k′))
 
-module _ (M N : Table) (room s t : ℕ) (b : Buffers) where
+module _ (M N : Table) (room listed s t : ℕ) (b : Buffers) where
   -- the condition says what the call does, whatever amounts there are
-  by-condition : {n : ℕ} (c : Condition M N room s t b n) {r : Result} (x : ℕ → Amounts) → RightIfKept M N s t x → r ≡ result-of M N room s t b x c → Compared M N room s t b r
-  by-condition c x f e = record { amounts = x; right = f; result = e ∙ sym (met M N room s t b x c) }
+  by-condition : {n : ℕ} (c : Condition M N room s t b n) {r : Result} (x : ℕ → Amounts) → RightIfKept M N s t x → r ≡ result-of M N room s t b listed x c → Compared M N room listed s t b r
+  by-condition c x f e = record { amounts = x; right = f; result = e ∙ sym (met M N room listed s t b x c) }
 
-  pub is-outside : {r : Answer} → ¬ Inside M N s t b → r ≡ refusal 11 0 0 → Compared M N room s t b (left r b)
+  pub is-outside : {r : Answer} → ¬ Inside M N s t b → r ≡ refusal 11 0 0 → Compared M N room listed s t b (left r b)
   is-outside h e = let x = fair-amounts M N s t in by-condition (outside h) (x .0) (x .1) (ap (λ (q : Answer). left q b) e)
 
-  pub has-short-ranks : {r : Answer} {n : ℕ} → Inside M N s t b → n ≡ pairs M N → length (b .ranks) < n → r ≡ refusal 20 0 n → Compared M N room s t b (left r b)
+  pub has-short-ranks : {r : Answer} {n : ℕ} → Inside M N s t b → n ≡ pairs M N → length (b .ranks) < n → r ≡ refusal 20 0 n → Compared M N room listed s t b (left r b)
   has-short-ranks i en h e =
       let x = fair-amounts M N s t in
       by-condition (short-ranks i (omega arith)) (x .0) (x .1) (ap (λ (q : Answer). left q b) (e ∙ ap (refusal 20 0) en))
 
   module _ (ready : Ready M N s t b) {r : Answer} where
     -- a kept pair: what was shown of its flow is what the call does
-    flow-compared : Kept M N s t → {flow′ : List ℕ} → FlowShown M N room s t (success M N s t 0) r (b .flow) flow′ → Compared M N room s t b (left r (lent (over (rank-list M N) (b .ranks)) flow′ (b .tree)))
+    flow-compared : Kept M N s t → {flow′ : List ℕ} → FlowShown M N room listed s t (success M N s t 0) r (b .flow) flow′ → Compared M N room listed s t b (left r (lent (over (rank-list M N) (b .ranks)) flow′ (b .tree)))
     unfolding success
     flow-compared k {flow′} f = go (decLt (length (b .flow)) room)
       where
@@ -100,12 +101,12 @@ module _ (M N : Table) (room s t : ℕ) (b : Buffers) where
         at : Answer → List ℕ → Result
         at q l = left q (lent (over (rank-list M N) (b .ranks)) l (b .tree))
 
-        go : Dec (length (b .flow) < room) → Compared M N room s t b (at r flow′)
+        go : Dec (length (b .flow) < room) → Compared M N room listed s t b (at r flow′)
         go (yes h) = by-condition (short-flow ready k h) x (λ _ _ _. f .right) (ap₂ at (f .refused h .0) (f .refused h .1))
         go (no h) = let w = f .written (omega arith) in by-condition (flow-fits ready k (omega arith)) x (λ _ _ _. f .right) (ap₂ at (w .0) (w .1))
 
     -- a pair that is not kept
-    tree-compared : ¬ Kept M N s t → {tree′ : List ℕ} → TreeShown M N s t (success M N s t 0) r (b .tree) tree′ → Compared M N room s t b (left r (lent (over (rank-list M N) (b .ranks)) (b .flow) tree′))
+    tree-compared : ¬ Kept M N s t → {tree′ : List ℕ} → TreeShown M N s t (success M N s t 0) r (b .tree) tree′ → Compared M N room listed s t b (left r (lent (over (rank-list M N) (b .ranks)) (b .flow) tree′))
     unfolding success
     tree-compared k {tree′} f = go (decLt longest (length (tree-bytes M N s t))) (decLt (length (b .tree)) (length (tree-bytes M N s t)))
       where
@@ -115,7 +116,7 @@ module _ (M N : Table) (room s t : ℕ) (b : Buffers) where
         fair : RightIfKept M N s t none-sent
         fair _ _ k′ = absurd (k k′)
 
-        go : Dec (longest < length (tree-bytes M N s t)) → Dec (length (b .tree) < length (tree-bytes M N s t)) → Compared M N room s t b (at r tree′)
+        go : Dec (longest < length (tree-bytes M N s t)) → Dec (length (b .tree) < length (tree-bytes M N s t)) → Compared M N room listed s t b (at r tree′)
         go (yes h) d = let w = f .long h in by-condition (long-tree ready k h) none-sent fair (ap₂ at (w .0) (w .1))
         go (no h) (yes g) = let w = f .refused (omega arith) g in by-condition (short-tree ready k (omega arith) g) none-sent fair (ap₂ at (w .0) (w .1))
         go (no h) (no g) = let w = f .written (omega arith) (omega arith) in by-condition (tree-fits ready k (omega arith) (omega arith)) none-sent fair (ap₂ at (w .0) (w .1))
@@ -139,11 +140,11 @@ module _ {tables old : List ℕ} {s t : ℕ} (chosen : Chosen tables old s t) wh
   M = first-table tables
 
   abbrev N : Table
-  N = second-table tables
+  N = contract-table tables
 
   pub place-small : {w : ℕ} → w ≡ states-of N → s * w + t < most-pairs
   place-small {w} e =
-      let all = count-small (first-form tables) (second-form tables) (chosen .loaded .first) (chosen .loaded .second) {p = states-of M} refl e in
+      let all = count-small (chosen .loaded) {p = states-of M} refl e in
       omega (arith, place-below s t (states-of M) w (chosen .first) (omega (arith, chosen .second)), all)
 
   -- once the ranks are there
@@ -180,7 +181,7 @@ module _ {tables old : List ℕ} {s t : ℕ} (chosen : Chosen tables old s t) wh
           rows-kept = found .rows-are;
           amounts-room = b;
           first = chosen .first;
-          second = chosen .second;
+          second = omega (arith, chosen .second, contract-states tables);
           kept = sym rank-here ∙ z;
         }
 
@@ -198,20 +199,20 @@ module _ {tables old : List ℕ} {s t : ℕ} (chosen : Chosen tables old s t) wh
               ∙ here (found .ranks-are) 0 0 (omega (arith, chosen .first)) (omega (arith, chosen .second))
 
       -- what ranking leaves, of a kept pair and of another
-      module _ {room : ℕ} {flow : List ℕ} where
-        pub flow-ranked : {r : Answer} {flow′ : List ℕ} → getD new (s * w + t) 0 ≡ 0 → FlowShown M N room s t a r flow flow′ → PairRanked M N room s t r old new flow flow′
+      module _ {room listed : ℕ} {flow : List ℕ} where
+        pub flow-ranked : {r : Answer} {flow′ : List ℕ} → getD new (s * w + t) 0 ≡ 0 → FlowShown M N room listed s t a r flow flow′ → PairRanked M N room listed s t r old new flow flow′
         flow-ranked {r} {flow′} z h =
             record {
               ranks-are = found .ranks-are;
-              if-kept = λ _. subst (λ (q : Answer). FlowShown M N room s t q r flow flow′) answer-after h;
+              if-kept = λ _. subst (λ (q : Answer). FlowShown M N room listed s t q r flow flow′) answer-after h;
               if-fallen = λ n. absurd (n (sym rank-here ∙ z));
             }
 
-        pub other-ranked : getD new (s * w + t) 0 ≢ 0 → PairRanked M N room s t a old new flow flow
+        pub other-ranked : getD new (s * w + t) 0 ≢ 0 → PairRanked M N room listed s t a old new flow flow
         other-ranked z = record { ranks-are = found .ranks-are; if-kept = λ k. absurd (z (rank-here ∙ k)); if-fallen = λ _. (answer-after, refl) }
 
   -- what there is to show after that
-  module _ {room : ℕ} {a : Answer} {new flow flow′ : List ℕ} (ranked : PairRanked M N room s t a old new flow flow′) where
+  module _ {room listed : ℕ} {a : Answer} {new flow flow′ : List ℕ} (ranked : PairRanked M N room listed s t a old new flow flow′) where
     -- the answer's rank tells whether the pair is kept
     rank-told : Kept M N s t → a .rank ≡ 0
     unfolding success
@@ -236,15 +237,15 @@ module _ {tables old : List ℕ} {s t : ℕ} (chosen : Chosen tables old s t) wh
     ready tree = ((chosen .first, chosen .second), chosen .ranks-room)
 
     module _ {tree : List ℕ} where
-      pub flow-after : a .rank ≡ 0 → Compared M N room s t (lent old flow tree) (left a (lent new flow′ tree))
+      pub flow-after : a .rank ≡ 0 → Compared M N room listed s t (lent old flow tree) (left a (lent new flow′ tree))
       flow-after z =
-          subst (λ (l : List ℕ). Compared M N room s t (lent old flow tree) (left a (lent l flow′ tree))) (sym (ranked .ranks-are))
-          (flow-compared M N room s t (lent old flow tree) (ready tree) (is-kept z) (ranked .if-kept (is-kept z)))
+          subst (λ (l : List ℕ). Compared M N room listed s t (lent old flow tree) (left a (lent l flow′ tree))) (sym (ranked .ranks-are))
+          (flow-compared M N room listed s t (lent old flow tree) (ready tree) (is-kept z) (ranked .if-kept (is-kept z)))
 
-      pub tree-after : {q : Answer} {tree′ : List ℕ} → a .rank ≢ 0 → TreeShown M N s t a q tree tree′ → Compared M N room s t (lent old flow tree) (left q (lent new flow′ tree′))
+      pub tree-after : {q : Answer} {tree′ : List ℕ} → a .rank ≢ 0 → TreeShown M N s t a q tree tree′ → Compared M N room listed s t (lent old flow tree) (left q (lent new flow′ tree′))
       tree-after {q} {tree′} z h =
           let n : ¬ Kept M N s t = λ k. z (rank-told k) in
           let e = ranked .if-fallen n in
-          subst (λ (l : List ℕ). Compared M N room s t (lent old flow tree) (left q (lent new l tree′))) (sym (e .1))
-          (subst (λ (l : List ℕ). Compared M N room s t (lent old flow tree) (left q (lent l flow tree′))) (sym (ranked .ranks-are))
-          (tree-compared M N room s t (lent old flow tree) (ready tree) n (subst (λ (p : Answer). TreeShown M N s t p q tree tree′) (e .0) h)))
+          subst (λ (l : List ℕ). Compared M N room listed s t (lent old flow tree) (left q (lent new l tree′))) (sym (e .1))
+          (subst (λ (l : List ℕ). Compared M N room listed s t (lent old flow tree) (left q (lent l flow tree′))) (sym (ranked .ranks-are))
+          (tree-compared M N room listed s t (lent old flow tree) (ready tree) n (subst (λ (p : Answer). TreeShown M N s t p q tree tree′) (e .0) h)))

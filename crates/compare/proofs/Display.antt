@@ -19,7 +19,7 @@ use Rattle.compare.specs.Condition.{Condition, outside, short-ranks, sho
 abbrev pub handed : Result → List ℕ
 handed r = filled-part (r .buffers .flow) (r .buffers .tree) (r .answer .rank) (r .answer .written)
 
-module _ (M N : Table) (room s t : ℕ) (b : Buffers) (x : ℕ → Amounts) where
+module _ (M N : Table) (room listed s t : ℕ) (b : Buffers) (x : ℕ → Amounts) where
   -- the bytes that a call writes
   unfoldable pub written-by : {n : ℕ} → Condition M N room s t b n → List ℕ
   written-by (outside _) = []
@@ -27,10 +27,10 @@ module _ (M N : Table) (room s t : ℕ) (b : Buffers) (x : ℕ → Amounts) wher
   written-by (short-flow _ _ _) = []
   written-by (short-tree _ _ _ _) = []
   written-by (long-tree _ _ _) = []
-  written-by (flow-fits _ _ _) = flow-bytes M N s t x
+  written-by (flow-fits _ _ _) = flow-bytes M N listed s t x
   written-by (tree-fits _ _ _ _) = tree-bytes M N s t
 
-  pub handed-written : {n : ℕ} (c : Condition M N room s t b n) → handed (result-of M N room s t b x c) ≡ written-by c
+  pub handed-written : {n : ℕ} (c : Condition M N room s t b n) → handed (result-of M N room s t b listed x c) ≡ written-by c
   unfolding success written-by filled-part
   handed-written (outside _) = first-none (b .flow)
   handed-written (short-ranks _ _) = first-none (b .flow)
@@ -38,7 +38,7 @@ module _ (M N : Table) (room s t : ℕ) (b : Buffers) (x : ℕ → Amounts) wher
   handed-written (short-tree _ _ _ _) = first-none (b .flow)
   handed-written (long-tree _ _ _) = first-none (b .flow)
   handed-written (flow-fits r k h) =
-      let bs = flow-bytes M N s t x in
+      let bs = flow-bytes M N listed s t x in
       part-kept (over bs (b .flow)) (b .tree) (rank M N s t) (length bs) k ∙ first-over bs (b .flow)
   handed-written (tree-fits r k h g) =
       let bs = tree-bytes M N s t in

@@ -20,7 +20,7 @@ use Rattle.simulation.specs.Tree.{tree-bytes}
 use Rattle.answer.specs.Numbers.{refusal}
 use Rattle.compare.specs.Condition.{Inside, Condition, short-ranks, short-flow, short-tree, long-tree, result-of, Ready, outside, flow-fits, tree-fits}
 
-module _ (M N : Table) (room s t : ℕ) (b : Buffers) (x : ℕ → Amounts) where
+module _ (M N : Table) (room listed s t : ℕ) (b : Buffers) (x : ℕ → Amounts) where
   -- a call by the results of its six tests
   shaped : (out few kept short-flow long short-tree : Bool) → Result
   shaped o f k w l u = elim o [
@@ -30,7 +30,7 @@ module _ (M N : Table) (room s t : ℕ) (b : Buffers) (x : ℕ → Amounts) wher
       | false ↦ elim k [
         | true ↦ elim w [
           | true ↦ record { answer = refusal 21 0 room; buffers = ranked M N b }
-          | false ↦ record { answer = success M N s t (length (flow-bytes M N s t x)); buffers = with-flow M N (flow-bytes M N s t x) b }
+          | false ↦ record { answer = success M N s t (length (flow-bytes M N listed s t x)); buffers = with-flow M N (flow-bytes M N listed s t x) b }
         ]
         | false ↦ elim l [
           | true ↦ record { answer = refusal 23 0 0; buffers = ranked M N b }
@@ -61,7 +61,7 @@ module _ (M N : Table) (room s t : ℕ) (b : Buffers) (x : ℕ → Amounts) wher
   abbrev U : Bool
   U = ltb (length (b .tree)) (length (tree-bytes M N s t))
 
-  outcome-shaped : outcome M N room s t b x ≡ shaped O F K W L U
+  outcome-shaped : outcome M N room listed s t b x ≡ shaped O F K W L U
   unfolding outcome kept-outcome fallen-outcome shaped
   outcome-shaped = refl
 
@@ -100,7 +100,7 @@ module _ (M N : Table) (room s t : ℕ) (b : Buffers) (x : ℕ → Amounts) wher
   ready : Ready M N s t b → shaped O F K W L U ≡ shaped false false K W L U
   ready r = ap (λ (o : Bool). shaped o F K W L U) (is-inside (r .0)) ∙ ap (λ (f : Bool). shaped false f K W L U) (not-below (length (b .ranks)) (pairs M N) (r .1))
 
-  pub met : {n : ℕ} (c : Condition M N room s t b n) → outcome M N room s t b x ≡ result-of M N room s t b x c
+  pub met : {n : ℕ} (c : Condition M N room s t b n) → outcome M N room listed s t b x ≡ result-of M N room s t b listed x c
   unfolding shaped
   met (outside h) = outcome-shaped ∙ ap (λ (o : Bool). shaped o F K W L U) (is-outside h)
   met (short-ranks i h) = outcome-shaped ∙ ap (λ (o : Bool). shaped o F K W L U) (is-inside i) ∙ ap (λ (f : Bool). shaped false f K W L U) (below (length (b .ranks)) (pairs M N) h)
@@ -140,7 +140,7 @@ module _ (M N : Table) (room s t : ℕ) (b : Buffers) (x : ℕ → Amounts) wher
       place (yes h) (no g) = (11, outside (λ i. g (i .1)))
       place (yes h) (yes g) = with-ranks (h, g) (decLt (length (b .ranks)) (pairs M N))
 
-  pub number-met : {n : ℕ} (c : Condition M N room s t b n) → result-of M N room s t b x c .answer .number ≡ n
+  pub number-met : {n : ℕ} (c : Condition M N room s t b n) → result-of M N room s t b listed x c .answer .number ≡ n
   unfolding success
   number-met (outside h) = refl
   number-met (short-ranks i h) = refl
@@ -151,11 +151,11 @@ module _ (M N : Table) (room s t : ℕ) (b : Buffers) (x : ℕ → Amounts) wher
   number-met (tree-fits r k h g) = refl
 
   -- each number exactly under its condition
-  pub numbered : (n : ℕ) → (outcome M N room s t b x .answer .number ≡ n) ↔ Condition M N room s t b n
+  pub numbered : (n : ℕ) → (outcome M N room listed s t b x .answer .number ≡ n) ↔ Condition M N room s t b n
   numbered n = (
     λ e. subst (Condition M N room s t b) (sym (given (some-condition .1)) ∙ e) (some-condition .1),
     λ c. given c,
   )
     where
-      given : {n : ℕ} → Condition M N room s t b n → outcome M N room s t b x .answer .number ≡ n
+      given : {n : ℕ} → Condition M N room s t b n → outcome M N room listed s t b x .answer .number ≡ n
       given c = ap (λ (r : Result). r .answer .number) (met c) ∙ number-met c

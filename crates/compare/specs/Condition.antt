@@ -32,12 +32,12 @@ module _ (M N : Table) (room s t : ℕ) (b : Buffers) where
     flow-fits : Ready M N s t b → Kept M N s t → room ≤ length (b .flow) → Condition 0
     tree-fits : Ready M N s t b → ¬ Kept M N s t → length (tree-bytes M N s t) ≤ longest → length (tree-bytes M N s t) ≤ length (b .tree) → Condition 0
 
-  -- what it answers and leaves in the buffers then; x are the amounts of a flow
-  abbrev pub result-of : (x : ℕ → Amounts) {n : ℕ} → Condition n → Result
-  result-of x (outside _) = record { answer = refusal 11 0 0; buffers = b }
-  result-of x (short-ranks _ _) = record { answer = refusal 20 0 (pairs M N); buffers = b }
-  result-of x (short-flow _ _ _) = record { answer = refusal 21 0 room; buffers = ranked M N b }
-  result-of x (short-tree _ _ _ _) = record { answer = refusal 22 0 (length (tree-bytes M N s t)); buffers = ranked M N b }
-  result-of x (long-tree _ _ _) = record { answer = refusal 23 0 0; buffers = ranked M N b }
-  result-of x (flow-fits _ _ _) = record { answer = success M N s t (length (flow-bytes M N s t x)); buffers = with-flow M N (flow-bytes M N s t x) b }
-  result-of x (tree-fits _ _ _ _) = record { answer = success M N s t (length (tree-bytes M N s t)); buffers = with-tree M N (tree-bytes M N s t) b }
+  -- what it answers and leaves in the buffers then; the first transitions of t are listed, and x are the amounts of a flow
+  abbrev pub result-of : (listed : ℕ) (x : ℕ → Amounts) {n : ℕ} → Condition n → Result
+  result-of listed x (outside _) = record { answer = refusal 11 0 0; buffers = b }
+  result-of listed x (short-ranks _ _) = record { answer = refusal 20 0 (pairs M N); buffers = b }
+  result-of listed x (short-flow _ _ _) = record { answer = refusal 21 0 room; buffers = ranked M N b }
+  result-of listed x (short-tree _ _ _ _) = record { answer = refusal 22 0 (length (tree-bytes M N s t)); buffers = ranked M N b }
+  result-of listed x (long-tree _ _ _) = record { answer = refusal 23 0 0; buffers = ranked M N b }
+  result-of listed x (flow-fits _ _ _) = record { answer = success M N s t (length (flow-bytes M N listed s t x)); buffers = with-flow M N (flow-bytes M N listed s t x) b }
+  result-of listed x (tree-fits _ _ _ _) = record { answer = success M N s t (length (tree-bytes M N s t)); buffers = with-tree M N (tree-bytes M N s t) b }

@@ -56,12 +56,12 @@ module _ (M N : Table) where
   abbrev pub with-tree : List ℕ → Buffers → Buffers
   with-tree bytes b = record { ranks = over (rank-list M N) (b .ranks); flow = b .flow; tree = over bytes (b .tree) }
 
-  -- a kept pair, where the flow buffer must have the room asked; the amounts x are free, and right
-  unfoldable pub kept-outcome : (room s t : ℕ) → Buffers → (ℕ → Amounts) → Result
+  -- a kept pair, where the flow buffer must have the room asked, and the first transitions of t are listed; the amounts x are free, and right
+  unfoldable pub kept-outcome : (room listed s t : ℕ) → Buffers → (ℕ → Amounts) → Result
   unfolding flow-bytes success
-  kept-outcome room s t b x = elim (ltb (length (b .flow)) room) [
+  kept-outcome room listed s t b x = elim (ltb (length (b .flow)) room) [
     | true ↦ record { answer = refusal 21 0 room; buffers = ranked b }
-    | false ↦ record { answer = success s t (length (flow-bytes M N s t x)); buffers = with-flow (flow-bytes M N s t x) b }
+    | false ↦ record { answer = success s t (length (flow-bytes M N listed s t x)); buffers = with-flow (flow-bytes M N listed s t x) b }
   ]
 
   -- a pair that is not kept
@@ -75,13 +75,13 @@ module _ (M N : Table) where
     ]
   ]
 
-  -- a call on two accepted tables
-  unfoldable pub outcome : (room s t : ℕ) → Buffers → (ℕ → Amounts) → Result
+  -- a call on two accepted tables, where N is completed for the codes of M
+  unfoldable pub outcome : (room listed s t : ℕ) → Buffers → (ℕ → Amounts) → Result
   unfolding kept-outcome fallen-outcome rank
-  outcome room s t b x = elim (leb (states-of M) s || leb (states-of N) t) [
+  outcome room listed s t b x = elim (leb (states-of M) s || leb (states-of N) t) [
     | true ↦ record { answer = refusal 11 0 0; buffers = b }
     | false ↦ elim (ltb (length (b .ranks)) (pairs M N)) [
       | true ↦ record { answer = refusal 20 0 (pairs M N); buffers = b }
-      | false ↦ elim (eqb (rank M N s t) 0) [ true ↦ kept-outcome room s t b x | false ↦ fallen-outcome s t b ]
+      | false ↦ elim (eqb (rank M N s t) 0) [ true ↦ kept-outcome room listed s t b x | false ↦ fallen-outcome s t b ]
     ]
   ]

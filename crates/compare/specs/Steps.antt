@@ -10,7 +10,7 @@ use Rattle.simulation.specs.Fit.{Amounts}
 use Rattle.simulation.specs.Table.{Table, states-of}
 use Rattle.simulation.specs.Round.{pairs, rank-list}
 use Rattle.simulation.specs.Demands.{Kept}
-use Rattle.form.specs.Tables.{first-table, second-table, BothLoaded}
+use Rattle.form.specs.Tables.{first-table, contract-table, BothLoaded}
 use Rattle.flows.specs.Flow.{Right}
 use Rattle.buffer.specs.Buffer.{over}
 use Rattle.witness.specs.Shown.{FlowShown}
@@ -22,22 +22,22 @@ abbrev pub RightIfKept : (M N : Table) (s t : ℕ) → (ℕ → Amounts) → Typ
 RightIfKept M N s t x = s < states-of M → t < states-of N → Kept M N s t → Right M N s t x
 
 -- a call on two accepted tables does what `outcome` says, with amounts that are right
-pub record Compared (M N : Table) (room s t : ℕ) (b : Buffers) (r : Result) : Type 0 where
+pub record Compared (M N : Table) (room listed s t : ℕ) (b : Buffers) (r : Result) : Type 0 where
   pub amounts : ℕ → Amounts
   pub right : RightIfKept M N s t amounts
-  pub result : r ≡ outcome M N room s t b amounts
+  pub result : r ≡ outcome M N room listed s t b amounts
 
 -- two loaded tables, a pair of their states, and a place for each rank
 pub record Chosen (tables ranks : List ℕ) (s t : ℕ) : Type 0 where
   pub loaded : BothLoaded tables
   pub first : s < states-of (first-table tables)
-  pub second : t < states-of (second-table tables)
-  pub ranks-room : pairs (first-table tables) (second-table tables) ≤ length ranks
+  pub second : t < states-of (contract-table tables)
+  pub ranks-room : pairs (first-table tables) (contract-table tables) ≤ length ranks
 
 -- the ranks are filled in, and the flow of a kept pair is shown; of another pair the answer says all but what will be written
-pub record PairRanked (M N : Table) (room s t : ℕ) (r : Answer) (ranks ranks′ flow flow′ : List ℕ) : Type 0 where
+pub record PairRanked (M N : Table) (room listed s t : ℕ) (r : Answer) (ranks ranks′ flow flow′ : List ℕ) : Type 0 where
   pub ranks-are : ranks′ ≡ over (rank-list M N) ranks
-  pub if-kept : Kept M N s t → FlowShown M N room s t (success M N s t 0) r flow flow′
+  pub if-kept : Kept M N s t → FlowShown M N room listed s t (success M N s t 0) r flow flow′
   pub if-fallen : ¬ Kept M N s t → (r ≡ success M N s t 0) × (flow′ ≡ flow)
 
 -- the answer of an accepted call, but for what is written, from the ranks and the place of the chosen pair among them

@@ -13,7 +13,7 @@ ghost use Prim.Native.Nat.{_≤_, _<_};
 ghost use lib.Dec.{leb};
 ghost use lib.ListN.{length};
 ghost use Rattle.simulation.specs.Limits.{most-pairs};
-ghost use Rattle.form.specs.Tables.{first-table, second-table, BothLoaded};
+ghost use Rattle.form.specs.Tables.{first-table, contract-table, listed-steps, BothLoaded};
 ghost use Rattle.witness.specs.Shown.{room-asked};
 ghost use Rattle.compare.specs.Outcome.{lent, left};
 ghost use Rattle.compare.specs.Steps.{Chosen, PairRanked, found-answer, Compared};
@@ -49,13 +49,13 @@ fn rank_pairs(
     flow: &mut [u8],
 ) -> Answer
     requires { ⌜ Chosen (now tables) (now ranks) s t × (most-pairs ≤ length (now amounts)) ⌝ }
-    ensures { λ r. ⌜ PairRanked (first-table (now (tables .entry))) (second-table (now (tables .entry))) (room-asked (now (tables .entry)) s) s t r
+    ensures { λ r. ⌜ PairRanked (first-table (now (tables .entry))) (contract-table (now (tables .entry))) (room-asked (now (tables .entry)) s) (listed-steps (now (tables .entry)) t) s t r
         (now (ranks .entry)) (now (ranks .exit)) (now (flow .entry)) (now (flow .exit)) ⌝ }
 {
     let all = Relation::full();
     let mut rows = all.rows;
     let r = ranking::rank(tables, ranks, &mut rows, amounts);
-    let place = s * tables::states(tables, Form::SECOND) + t;
+    let place = s * tables::width(tables) + t;
     let a = found(ranks, place, r.rounds, r.kept);
     if ranks[place] == 0 {
         return witness::show_flow(tables, &rows, s, t, a, amounts, flow);
@@ -73,7 +73,7 @@ fn show(
     tree: &mut [u8],
 ) -> Answer
     requires { ⌜ Chosen (now tables) (now ranks) s t ⌝ }
-    ensures { λ r. ⌜ Compared (first-table (now (tables .entry))) (second-table (now (tables .entry))) (room-asked (now (tables .entry)) s) s t
+    ensures { λ r. ⌜ Compared (first-table (now (tables .entry))) (contract-table (now (tables .entry))) (room-asked (now (tables .entry)) s) (listed-steps (now (tables .entry)) t) s t
         (lent (now (ranks .entry)) (now (flow .entry)) (now (tree .entry))) (left r (lent (now (ranks .exit)) (now (flow .exit)) (now (tree .exit)))) ⌝ }
 {
     let mut amounts = [1u32; Table::PAIRS];
@@ -101,11 +101,11 @@ pub fn compare_tables(
     tree: &mut [u8],
 ) -> Answer
     requires { ⌜ BothLoaded (now tables) ⌝ }
-    ensures { λ r. ⌜ Compared (first-table (now (tables .entry))) (second-table (now (tables .entry))) (room-asked (now (tables .entry)) s) s t
+    ensures { λ r. ⌜ Compared (first-table (now (tables .entry))) (contract-table (now (tables .entry))) (room-asked (now (tables .entry)) s) (listed-steps (now (tables .entry)) t) s t
         (lent (now (ranks .entry)) (now (flow .entry)) (now (tree .entry))) (left r (lent (now (ranks .exit)) (now (flow .exit)) (now (tree .exit)))) ⌝ }
 {
     let p = tables::states(tables, Form::FIRST);
-    let q = tables::states(tables, Form::SECOND);
+    let q = tables::width(tables);
     let pairs = p * q;
     let needed = pairs as u32;
     let outside = is_outside(s, t, p, q);

@@ -12,13 +12,13 @@ use lib.ListN.{length, getD, set, length-set}
 use lib.Seq.{getD-set-same, getD-set-other}
 use borrow.Author.Tests.{eq-eqb, ne-eqb}
 use Rattle.simulation.specs.Limits.{most-states, most-pairs}
-use Rattle.form.specs.Tables.{first-form, second-form, first-table, second-table, first-step}
+use Rattle.form.specs.Tables.{first-table, contract-table, first-step}
 use Rattle.simulation.specs.Sum.{sum, when}
 use Rattle.simulation.specs.Table.{Table, targets, states-of}
 use Rattle.simulation.specs.Round.{pairs}
 use Rattle.simulation.specs.Length.{head-length, pair-length}
 use Rattle.simulation.proofs.Finite.Sums.{sum-bound, sum-none, sum-more, when-most}
-use Rattle.form.proofs.FormLaws.{limits, pairs-bound}
+use Rattle.form.proofs.Contract.{contract-few, contract-pairs}
 use Rattle.word.specs.Mask.{Test, member, without-member, Lowest}
 use Rattle.relation.specs.Rows.{row-of}
 use Rattle.word.proofs.Mask.{member-none}
@@ -197,7 +197,7 @@ module _ {tables : List ℕ} {s t j : ℕ} {sets counts : List ℕ} {bytes : ℕ
   M = first-table tables
 
   abbrev N : Table
-  N = second-table tables
+  N = contract-table tables
 
   abbrev due : ℕ
   due = getD counts (s * states-of N + t) 0
@@ -209,12 +209,12 @@ module _ {tables : List ℕ} {s t j : ℕ} {sets counts : List ℕ} {bytes : ℕ
   pub hand-choice : ChoiceGiven tables s t j
   hand-choice = record { loaded = g .loaded; lost = g .lost; choice = g .choice }
 
-  -- the same by a width that is the number of states of the second table
+  -- the same by a width that is the number of states of the contract
   pub hand-place : (width : ℕ) → width ≡ states-of N → s * width + t < length counts
   hand-place width e = omega (arith, ap (λ (n : ℕ). s * n + t) e, lost-place (g .lost), g .tally .room)
 
   pub hand-low : (width : ℕ) → width ≡ states-of N → s * width + t < most-pairs
-  hand-low width e = omega (arith, ap (λ (n : ℕ). s * n + t) e, lost-place (g .lost), pairs-bound (first-form tables) (second-form tables) (g .loaded .first) (g .loaded .second))
+  hand-low width e = omega (arith, ap (λ (n : ℕ). s * n + t) e, lost-place (g .lost), contract-pairs tables (g .loaded))
 
   due-small : due ≤ bytes
   due-small = g .tally .few s t (g .lost .left) (g .lost .right)
@@ -244,7 +244,7 @@ module _ {tables : List ℕ} {s t j : ℕ} {sets counts : List ℕ} {bytes : ℕ
         record {
           few = few-targets hand-choice et;
           words = omega (arith, few-targets hand-choice et, g .words);
-          narrow = limits (second-form tables) (g .loaded .second) .states-few;
+          narrow = contract-few tables (g .loaded);
           low = state-low hand-choice et;
           room = λ i b. omega (arith, state-row hand-choice et i b, g .tally .room, length-set counts (s * states-of N + t) 0);
           inside = λ i u b h. child-lost hand-choice et (g .told) i u b h .0 .right;
@@ -275,7 +275,7 @@ module _ {tables : List ℕ} {s t j : ℕ} {sets counts : List ℕ} {bytes : ℕ
         }
 
 module _ {tables : List ℕ} {s t j : ℕ} {sets counts : List ℕ} {bytes : ℕ} (g : HandGiven tables s t j sets counts bytes) (under : bytes ≤ longest)
-    {ts : List ℕ} (et : ts ≡ targets (first-step tables j)) (width : ℕ) (e : width ≡ states-of (second-table tables)) where
+    {ts : List ℕ} (et : ts ≡ targets (first-step tables j)) (width : ℕ) (e : width ≡ states-of (contract-table tables)) where
   -- the bytes stay small, the counts below can be raised, and what is owed goes down by what is counted
   pub hand-fits : bytes + getD counts (s * width + t) 0 * (head-length + 4 * length ts) < 2 ^ 30
   hand-fits = subst (λ (n : ℕ). bytes + getD counts (s * n + t) 0 * (head-length + 4 * length ts) < 2 ^ 30) (sym e) (fits g et under)
@@ -293,16 +293,16 @@ module _ {tables : List ℕ} {s t j : ℕ} {sets counts : List ℕ} {bytes : ℕ
 
 -- ---- the root
 
-module _ {tables : List ℕ} {s t : ℕ} (lost : Lost tables s t) (counts : List ℕ) (room : pairs (first-table tables) (second-table tables) ≤ length counts)
-    (none : (k : ℕ) → k < pairs (first-table tables) (second-table tables) → getD counts k 0 ≡ 0) where
+module _ {tables : List ℕ} {s t : ℕ} (lost : Lost tables s t) (counts : List ℕ) (room : pairs (first-table tables) (contract-table tables) ≤ length counts)
+    (none : (k : ℕ) → k < pairs (first-table tables) (contract-table tables) → getD counts k 0 ≡ 0) where
   -- the root's count has its place; set to 1 among zeros, it makes the root's length owed
-  pub root-in : s * states-of (second-table tables) + t < length counts
+  pub root-in : s * states-of (contract-table tables) + t < length counts
   root-in = omega (arith, lost-place lost)
 
-  pub one-counted : OneCounted tables s t (set counts (s * states-of (second-table tables) + t) 1)
+  pub one-counted : OneCounted tables s t (set counts (s * states-of (contract-table tables) + t) 1)
   one-counted =
       let M = first-table tables in
-      let N = second-table tables in
+      let N = contract-table tables in
       record {
         tally = record {
           room = omega (arith, length-set counts (s * states-of N + t) 1);
@@ -317,16 +317,16 @@ module _ {tables : List ℕ} {s t : ℕ} (lost : Lost tables s t) (counts : List
         );
       }
     where
-      few : (u v : ℕ) → u < states-of (first-table tables) → v < states-of (second-table tables) → Dec (u * states-of (second-table tables) + v ≡ s * states-of (second-table tables) + t)
-          → getD (set counts (s * states-of (second-table tables) + t) 1) (u * states-of (second-table tables) + v) 0 ≤ 1
+      few : (u v : ℕ) → u < states-of (first-table tables) → v < states-of (contract-table tables) → Dec (u * states-of (contract-table tables) + v ≡ s * states-of (contract-table tables) + t)
+          → getD (set counts (s * states-of (contract-table tables) + t) 1) (u * states-of (contract-table tables) + v) 0 ≤ 1
       few u v a b (yes e) =
           omega (
             arith,
-            ap (λ (k : ℕ). getD (set counts (s * states-of (second-table tables) + t) 1) k 0) e ∙ getD-set-same counts (s * states-of (second-table tables) + t) 1 0 root-in,
+            ap (λ (k : ℕ). getD (set counts (s * states-of (contract-table tables) + t) 1) k 0) e ∙ getD-set-same counts (s * states-of (contract-table tables) + t) 1 0 root-in,
           )
       few u v a b (no d) =
           omega (
             arith,
-            getD-set-other counts (s * states-of (second-table tables) + t) (u * states-of (second-table tables) + v) 1 0 d,
-            none (u * states-of (second-table tables) + v) (place-below u v (states-of (first-table tables)) (states-of (second-table tables)) a b),
+            getD-set-other counts (s * states-of (contract-table tables) + t) (u * states-of (contract-table tables) + v) 1 0 d,
+            none (u * states-of (contract-table tables) + v) (place-below u v (states-of (first-table tables)) (states-of (contract-table tables)) a b),
           )

@@ -15,8 +15,9 @@ use Rattle.simulation.specs.Limits.{most-states}
 use Rattle.simulation.specs.Table.{states-of}
 use Rattle.simulation.specs.Round.{pairs}
 use Rattle.simulation.proofs.Finite.Tests.{and-left}
-use Rattle.form.specs.Tables.{first-form, second-form, first-table, second-table, BothLoaded}
+use Rattle.form.specs.Tables.{first-form, first-table, contract-table, BothLoaded}
 use Rattle.form.proofs.FormLaws.{limits}
+use Rattle.form.proofs.Contract.{contract-few}
 use Rattle.word.specs.Mask.{Test, member, without-member, Lowest}
 use Rattle.relate.specs.Ranked.{RanksRight}
 use Rattle.choice.specs.Choice.{Lost}
@@ -36,31 +37,34 @@ place-below s t m n a b = let row : suc s * n ≤ m * n = mul-le-mul-right n a i
 
 module _ (tables : List ℕ) (P : ℕ → ℕ → Type 0) (s t : ℕ) where
   -- what holds at a pair holds at its number's row and column
-  pub at-number : t < states-of (second-table tables) → P s t → P (row tables (number tables s t)) (column tables (number tables s t))
+  pub at-number : t < states-of (contract-table tables) → P s t → P (row tables (number tables s t)) (column tables (number tables s t))
   at-number b h = subst (λ (u : ℕ). P u (column tables (number tables s t))) (sym (digits-div s b)) (subst (P s) (sym (digits-mod s b)) h)
 
   -- and what holds at the row and the column of a pair's number holds at the pair
-  pub from-number : (p : ℕ) → t < states-of (second-table tables) → p ≡ number tables s t → P (row tables p) (column tables p) → P s t
+  pub from-number : (p : ℕ) → t < states-of (contract-table tables) → p ≡ number tables s t → P (row tables p) (column tables p) → P s t
   from-number p b e h = subst (λ (u : ℕ). P u t) (ap (row tables) e ∙ digits-div s b) (subst (P (row tables p)) (ap (column tables) e ∙ digits-mod s b) h)
 
 -- ---- a pair that is not kept
 
 module _ {tables : List ℕ} {s t : ℕ} (p : Lost tables s t) where
   -- its number is below the number of pairs
-  pub lost-place : number tables s t < pairs (first-table tables) (second-table tables)
-  lost-place = place-below s t (states-of (first-table tables)) (states-of (second-table tables)) (p .left) (p .right)
+  pub lost-place : number tables s t < pairs (first-table tables) (contract-table tables)
+  lost-place = place-below s t (states-of (first-table tables)) (states-of (contract-table tables)) (p .left) (p .right)
 
   -- its states are below the largest count of states
   pub lost-low : BothLoaded tables → (s < most-states) × (t < most-states)
-  lost-low b = (omega (arith, p .left, limits (first-form tables) (b .first) .states-few), omega (arith, p .right, limits (second-form tables) (b .second) .states-few))
+  lost-low b = (omega (arith, p .left, limits (first-form tables) (b .first) .states-few), omega (arith, p .right, contract-few tables b))
 
-  -- what asking for its rank rests on
+  -- what asking for its number, and for its rank, rests on
+  pub number-asked : BothLoaded tables → BothLoaded tables × (s < most-states) × (t < most-states)
+  number-asked b = let low = lost-low b in (b, low .0, low .1)
+
   pub rank-asked : {ranks : List ℕ} → RanksRight tables ranks → BothLoaded tables × (s < most-states) × (t < most-states) × (number tables s t < length ranks)
   rank-asked g = let low = lost-low (g .loaded) in (g .loaded, low .0, low .1, pair-place g (p .left) (p .right))
 
 -- the same for a pair that is given by its number
-pub number-place : (tables : List ℕ) (p : ℕ) → Lost tables (row tables p) (column tables p) → p < pairs (first-table tables) (second-table tables)
-number-place tables p l = subst (λ (k : ℕ). k < pairs (first-table tables) (second-table tables)) (div-add-mod' p (states-of (second-table tables))) (lost-place l)
+pub number-place : (tables : List ℕ) (p : ℕ) → Lost tables (row tables p) (column tables p) → p < pairs (first-table tables) (contract-table tables)
+number-place tables p l = subst (λ (k : ℕ). k < pairs (first-table tables) (contract-table tables)) (div-add-mod' p (states-of (contract-table tables))) (lost-place l)
 
 -- ---- sets
 

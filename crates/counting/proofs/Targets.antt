@@ -16,7 +16,7 @@ use Rattle.simulation.specs.Length.{head-length, one-length, pair-length}
 use Rattle.simulation.proofs.Finite.Sums.{sum-ext}
 use Rattle.simulation.proofs.Trees.Length.{pair-length-step}
 use Rattle.form.specs.Form.{transitions-of}
-use Rattle.form.specs.Tables.{first-form, first-table, second-table, first-step, BothLoaded}
+use Rattle.form.specs.Tables.{first-form, first-table, contract-table, first-step, BothLoaded}
 use Rattle.form.proofs.FormLaws.{sound}
 use Rattle.word.specs.Mask.{Test, member}
 use Rattle.relation.specs.Rows.{row-of}
@@ -35,7 +35,7 @@ module _ {tables : List ℕ} {s t j : ℕ} (g : ChoiceGiven tables s t j) where
   M = first-table tables
 
   abbrev N : Table
-  N = second-table tables
+  N = contract-table tables
 
   -- the first table has a transition of that number
   pub step-number : j < transitions-of (first-form tables)
@@ -75,7 +75,7 @@ module _ {tables : List ℕ} {s t j : ℕ} (g : ChoiceGiven tables s t j) where
       pub child-lost : (i v : ℕ) → i < length ts → T (member (row-of sets i) v) → Lost tables (getD ts i 0) v × (rank M N (getD ts i 0) v < rank M N s t)
       child-lost i v b h =
           subst (λ (u : ℕ). Lost tables u v × (rank M N u v < rank M N s t)) (sym (targets-are i))
-          (below-lost tables (g .loaded .first) (g .loaded .second) s t (g .lost) i v (omega (arith, count-is)) (subst (λ (X : Test). T (X v)) (set-at i b) h))
+          (below-lost tables (g .loaded) s t (g .lost) i v (omega (arith, count-is)) (subst (λ (X : Test). T (X v)) (set-at i b) h))
 
       -- the pair's length: a code and a count, and for each target a state, a weight, a count and the lengths of its set
       pub length-parts : pair-length M N s t ≡ head-length + sum (length ts) (λ i. 4 + sum (states-of N) (λ v. when (member (row-of sets i) v) (pair-length M N (getD ts i 0) v)))

@@ -11,7 +11,7 @@ use Rattle.simulation.specs.Sum.{sum, when}
 use Rattle.simulation.specs.Table.{Table, states-of}
 use Rattle.simulation.specs.Round.{pairs}
 use Rattle.simulation.specs.Length.{pair-length}
-use Rattle.form.specs.Tables.{first-table, second-table, BothLoaded}
+use Rattle.form.specs.Tables.{first-table, contract-table, BothLoaded}
 use Rattle.word.specs.Mask.{member}
 use Rattle.relation.specs.Rows.{row-of, height}
 use Rattle.choice.specs.Choice.{Lost, Choice, SetsChosen}
@@ -57,19 +57,19 @@ longest = most-tree-bytes
 module _ (tables : List ℕ) where
   -- a count for each pair, none above the bytes so far
   pub record Tally (counts : List ℕ) (bytes : ℕ) : Type 0 where
-    pub room : pairs (first-table tables) (second-table tables) ≤ length counts
-    pub few : (u v : ℕ) → u < states-of (first-table tables) → v < states-of (second-table tables) → getD counts (u * states-of (second-table tables) + v) 0 ≤ bytes
+    pub room : pairs (first-table tables) (contract-table tables) ≤ length counts
+    pub few : (u v : ℕ) → u < states-of (first-table tables) → v < states-of (contract-table tables) → getD counts (u * states-of (contract-table tables) + v) 0 ≤ bytes
     pub small : bytes < 2 ^ 30
 
   -- some transitions are counted: the bytes so far and those owed are as many as before
   pub record Tallied (counts : List ℕ) (bytes : ℕ) (counts′ : List ℕ) (bytes′ : ℕ) : Type 0 where
     pub tally : Tally counts′ bytes′
-    pub total : bytes′ + owed (first-table tables) (second-table tables) counts′ ≡ bytes + owed (first-table tables) (second-table tables) counts
+    pub total : bytes′ + owed (first-table tables) (contract-table tables) counts′ ≡ bytes + owed (first-table tables) (contract-table tables) counts
 
   -- every count is 0 but that of the pair (s, t), which is 1
   pub record OneCounted (s t : ℕ) (counts : List ℕ) : Type 0 where
     pub tally : Tally counts 1
-    pub total : owed (first-table tables) (second-table tables) counts ≡ pair-length (first-table tables) (second-table tables) s t
+    pub total : owed (first-table tables) (contract-table tables) counts ≡ pair-length (first-table tables) (contract-table tables) s t
 
   -- a pair that is not kept, with its transition and the sets of its targets
   pub record HandGiven (s t j : ℕ) (sets counts : List ℕ) (bytes : ℕ) : Type 0 where

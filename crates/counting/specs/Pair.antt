@@ -3,15 +3,15 @@
 use mathlib.Core.List.{List}
 use Prim.Native.Nat.{ℕ, _+_, _*_, _/_, _%_}
 use Rattle.simulation.specs.Table.{states-of}
-use Rattle.form.specs.Tables.{second-table}
+use Rattle.form.specs.Tables.{contract-table}
 
 module _ (tables : List ℕ) where
   -- a pair's number, and the pair of a number
   abbrev pub number : ℕ → ℕ → ℕ
-  number s t = s * states-of (second-table tables) + t
+  number s t = s * states-of (contract-table tables) + t
 
   abbrev pub row : ℕ → ℕ
-  row p = p / states-of (second-table tables)
+  row p = p / states-of (contract-table tables)
 
   abbrev pub column : ℕ → ℕ
-  column p = p % states-of (second-table tables)
+  column p = p % states-of (contract-table tables)

@@ -68,7 +68,7 @@ pub fn hand_on(
     if LONGEST < bytes {
         return bytes;
     }
-    let width = tables::states(tables, Form::SECOND);
+    let width = tables::width(tables);
     let targets = tables::targets(tables, Form::FIRST, j);
     let at = s * width + t;
     let c = counts[at];

@@ -1,5 +1,4 @@
 // A pair of states by its number: s times the states of the second table, and t.
-use form::Form;
 use form::tables;
 ghost use mathlib.Core.Path.{_≡_};
 ghost use Prim.Native.Nat.{_+_, _<_};
@@ -12,5 +11,5 @@ pub fn number(tables: &[u16], s: usize, t: usize) -> usize
     requires { ⌜ BothLoaded (now tables) × (s < most-states) × (t < most-states) ⌝ }
     ensures { λ r. ⌜ (r ≡ number (now (tables .entry)) s t) × (r < most-pairs + most-states) ⌝ }
 {
-    s * tables::states(tables, Form::SECOND) + t
+    s * tables::width(tables) + t
 }

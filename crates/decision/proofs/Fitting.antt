@@ -20,8 +20,9 @@ use Rattle.relation.specs.Rows.{height}
 use Rattle.relation.specs.Related.{holds}
 use Rattle.matrix.specs.Problem.{Sides, joins}
 use Rattle.form.specs.Form.{Loaded, transitions-of, transition-at}
-use Rattle.form.specs.Tables.{first-form, second-form, first-table, second-table, first-step, second-step}
+use Rattle.form.specs.Tables.{first-form, second-form, first-table, contract-table, first-step, second-step}
 use Rattle.form.proofs.FormLaws.{limits, limited-at, distribution-at, positive-at, weights-length, targets-length}
+use Rattle.form.proofs.Contract.{contract-states}
 use Rattle.transport.specs.Answer.{MaximumFlow}
 use Rattle.gather.specs.Places.{Places, Ascending, Gathered}
 use Rattle.decision.specs.Fitting.{relation-of, fitting, Asked, SharedOut}
@@ -87,9 +88,9 @@ module _ {tables rows amounts : List ℕ} {j l : ℕ} (asked : Asked tables rows
   -- the rows between the targets
   related-at : (i k : ℕ) → i < length (weights m) → k < length (weights n) → between R m n i k ≡ holds rows (target-at m i) (target-at n k)
   related-at i k a b =
-      relation-at (states-of (first-table tables)) (states-of (second-table tables)) (holds rows)
+      relation-at (states-of (first-table tables)) (states-of (contract-table tables)) (holds rows)
       (distribution-at (first-form tables) first j (asked .from-first) .in-range i (omega (arith, weights-length m)))
-      (distribution-at (second-form tables) second l (asked .from-second) .in-range k (omega (arith, weights-length n)))
+      (omega (arith, contract-states tables, distribution-at (second-form tables) second l (asked .from-second) .in-range k (omega (arith, weights-length n))))
 
   agree : {rel : List ℕ} → Gathered rows (targets m) (targets n) (length (targets m)) rel → Agree (length (weights m)) (length (weights n)) (holds rel) (between R m n)
   agree h i k a b = h .related-at i k (omega (arith, first-paired)) (omega (arith, second-paired)) ∙ sym (related-at i k a b)

@@ -14,7 +14,7 @@ use Rattle.relation.specs.Rows.{height}
 use Rattle.relation.specs.Related.{holds}
 use Rattle.matrix.specs.Matrix.{cell}
 use Rattle.form.specs.Form.{transitions-of}
-use Rattle.form.specs.Tables.{first-form, second-form, first-table, second-table, first-step, second-step, BothLoaded}
+use Rattle.form.specs.Tables.{first-form, second-form, first-table, contract-table, first-step, second-step, BothLoaded}
 
 -- the relation that the rows hold between the states of two tables
 abbrev pub held : Table → Table → List ℕ → Relation
@@ -22,7 +22,7 @@ held M N rows = relation (states-of M) (states-of N) (holds rows)
 
 -- the same for the two tables of a list
 abbrev pub relation-of : (tables rows : List ℕ) → Relation
-relation-of tables rows = held (first-table tables) (second-table tables) rows
+relation-of tables rows = held (first-table tables) (contract-table tables) rows
 
 -- transition j of the first table fits transition l of the second in the relation of the rows, whatever their codes
 abbrev pub fitting : (tables rows : List ℕ) (j l : ℕ) → Bool

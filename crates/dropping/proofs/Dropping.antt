@@ -25,7 +25,7 @@ use Rattle.relation.proofs.RowLaws.{length-put, row-put, row-put-other}
 use Rattle.relation.proofs.Parts.{part-height, part-put, part-put-before, part-put-after}
 use Rattle.word.proofs.Mask.{member-none, no-member, one-is, some-member}
 use Rattle.relation.specs.Related.{holds}
-use Rattle.form.specs.Tables.{first-table, second-table}
+use Rattle.form.specs.Tables.{first-table, contract-table}
 use Rattle.decision.specs.Fitting.{held, relation-of}
 use Rattle.fit.specs.Held.{matched}
 use Rattle.dropping.specs.Falling.{falls, Doubtless, Judged, Fallen, StatesOnly, Falling, DoubtsKnown}
@@ -198,8 +198,8 @@ finding-end {M} {N} {R} {waits} {fell} {lost} e h =
 pub record Waiting (tables rows : List ℕ) (left : ℕ) (marks : List ℕ) (fell : ℕ) : Type 0 where
   pub room : HasMarks marks
   pub waits : (s : ℕ) → member left s ≡ true
-      → (s < states-of (first-table tables)) × Doubtless (first-table tables) (second-table tables) (relation-of tables rows) s (holds (doubt-in marks) s)
-  pub found : Finding (first-table tables) (second-table tables) (relation-of tables rows) (member left) (lost-in marks) fell
+      → (s < states-of (first-table tables)) × Doubtless (first-table tables) (contract-table tables) (relation-of tables rows) s (holds (doubt-in marks) s)
+  pub found : Finding (first-table tables) (contract-table tables) (relation-of tables rows) (member left) (lost-in marks) fell
 
 -- at first the rows with a pair in doubt wait, and in no other a pair falls
 pub waiting-start : {tables sets rows marks : List ℕ} {doubtful fell : ℕ} → fell ≡ 0 → Dropping tables sets rows marks doubtful → Waiting tables rows doubtful marks fell
@@ -211,21 +211,21 @@ waiting-start {tables} {sets} {rows} {marks} {doubtful} none d =
       found = finding-start none (d .none-lost) kept;
     }
   where
-    ready : DoubtsKnown (first-table tables) (second-table tables) rows doubtful (doubt-in marks)
+    ready : DoubtsKnown (first-table tables) (contract-table tables) rows doubtful (doubt-in marks)
     ready = d .ready
 
-    kept : (s t : ℕ) → s < states-of (first-table tables) → member doubtful s ≡ false → T (falls (first-table tables) (second-table tables) (relation-of tables rows) s t) → ⊥
+    kept : (s t : ℕ) → s < states-of (first-table tables) → member doubtful s ≡ false → T (falls (first-table tables) (contract-table tables) (relation-of tables rows) s t) → ⊥
     kept s t a m h =
         let R = relation-of tables rows in
-        let lives = survives (first-table tables) (second-table tables) R s t in
+        let lives = survives (first-table tables) (contract-table tables) R s t in
         let x : T (related R s t) = and-left (related R s t) (not lives) h in
         T-not lives (and-right (related R s t) (not lives) h)
-        (and-both (related R s t) (matched (first-table tables) (second-table tables) R s t) x (ready .sure s a t (ap (λ (b : Bool). b && holds (doubt-in marks) s t) m) x))
+        (and-both (related R s t) (matched (first-table tables) (contract-table tables) R s t) x (ready .sure s a t (ap (λ (b : Bool). b && holds (doubt-in marks) s t) m) x))
 
 -- one row more is judged: its doubts are settled, and the pairs that fall are lost
 pub waiting-next : {tables rows marks marks₁ marks₂ : List ℕ} {left rest s fell : ℕ} (z row fell′ : Set) → s < most-states
     → marks₁ ≡ put-row marks (0 + s) z → marks₂ ≡ put-row marks₁ (most-states + s) row
-    → member left s ≡ true → member rest ≡ without-member s (member left) → member (mask row) ≡ falls (first-table tables) (second-table tables) (relation-of tables rows) s
+    → member left s ≡ true → member rest ≡ without-member s (member left) → member (mask row) ≡ falls (first-table tables) (contract-table tables) (relation-of tables rows) s
     → Judged (eqb (mask row) 0) s fell (mask fell′) → Waiting tables rows left marks fell → Waiting tables rows rest marks₂ (mask fell′)
 waiting-next {tables} {rows} {marks} {marks₁} {marks₂} {left} {rest} {s} {fell} z row fell′ few p q has e d judged h =
     record {
@@ -238,7 +238,7 @@ waiting-next {tables} {rows} {marks} {marks₁} {marks₂} {left} {rest} {s} {fe
     M = first-table tables
 
     N : Table
-    N = second-table tables
+    N = contract-table tables
 
     R : Relation
     R = relation-of tables rows
@@ -262,5 +262,5 @@ waiting-next {tables} {rows} {marks} {marks₁} {marks₂} {left} {rest} {s} {fe
 
 -- no row waits
 pub waiting-end : {tables rows marks : List ℕ} {left fell : ℕ} → left ≡ 0 → Waiting tables rows left marks fell
-    → Fallen (first-table tables) (second-table tables) (relation-of tables rows) (lost-in marks) fell
+    → Fallen (first-table tables) (contract-table tables) (relation-of tables rows) (lost-in marks) fell
 waiting-end e h = finding-end (λ s _. ap (λ (n : ℕ). member n s) e ∙ member-none s) (h .found)

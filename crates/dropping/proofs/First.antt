@@ -14,13 +14,14 @@ use Rattle.simulation.specs.Table.{Transition, Table, weights, states-of, steps
 use Rattle.simulation.specs.Round.{related, between, fits-step, survives, round}
 use Rattle.simulation.specs.Demands.{Sound}
 use Rattle.simulation.proofs.Finite.Tests.{is-true, is-false, same-test}
-use Rattle.simulation.proofs.Finite.Lists.{all-of-at, all-of-by, any-of-at, any-of-by}
+use Rattle.simulation.proofs.Finite.Lists.{any-of-at, any-of-by}
 use Rattle.simulation.proofs.Fit.Quick.{fits-full}
 use Rattle.simulation.proofs.Simulation.Rounds.{in-zero, in-right}
 use Rattle.fit.specs.Held.{matched, coded}
 use Rattle.lacking.specs.Lacking.{lacks-one}
 use Rattle.dropping.specs.Falling.{falls}
 use Rattle.dropping.proofs.Dropping.{with-both}
+use Rattle.dropping.proofs.Answers.{all-alike}
 
 -- before the first round all pairs are there
 pub all-pairs : (M N : Table) (s t : ℕ) → s < states-of M → related (round M N 0) s t ≡ ltb t (states-of N)
@@ -54,11 +55,7 @@ module _ (M N : Table) (sound-first : Sound M) (sound-second : Sound N) where
 
   first-matched : (s t : ℕ) → matched M N (round M N 0) s t ≡ all-of (λ (m : Transition). coded (m .code) (steps N t)) (steps M s)
   first-matched s t =
-      let F : Transition → Bool = λ m. any-of (fits-step (round M N 0) m) (steps N t) in
-      let G : Transition → Bool = λ m. coded (m .code) (steps N t) in
-      same-test (all-of F (steps M s)) (all-of G (steps M s))
-      (λ h. all-of-by G no-transition (steps M s) (λ k a. subst T (first-answers s t k a) (all-of-at F no-transition (steps M s) h k a)))
-      (λ h. all-of-by F no-transition (steps M s) (λ k a. subst T (sym (first-answers s t k a)) (all-of-at G no-transition (steps M s) h k a)))
+      all-alike (λ m. any-of (fits-step (round M N 0) m) (steps N t)) (λ m. coded (m .code) (steps N t)) no-transition (steps M s) (first-answers s t)
 
   -- the pairs that fall are those that lack a code
   pub first-falls : (s : ℕ) → s < states-of M → lacks-one M N s ≡ falls M N (round M N 0) s

@@ -14,7 +14,7 @@ use Rattle.word.specs.Mask.{Test, member, both, except}
 use Rattle.relation.specs.Rows.{row-of}
 use Rattle.relation.specs.Related.{holds}
 use Rattle.form.specs.Form.{Loaded, start-of}
-use Rattle.form.specs.Tables.{first-form, first-table, second-table}
+use Rattle.form.specs.Tables.{first-form, first-table, contract-table}
 use Rattle.decision.specs.Fitting.{relation-of}
 use Rattle.fit.specs.Held.{matched, answered}
 use Rattle.fit.proofs.Steps.{upto-next, one-fails, all-pass}
@@ -63,7 +63,7 @@ kept-columns N row doubt columns e h t m =
 
 -- the states that match the state s
 abbrev matching : (tables rows : List ℕ) (s : ℕ) → Test
-matching tables rows s = matched (first-table tables) (second-table tables) (relation-of tables rows) s
+matching tables rows s = matched (first-table tables) (contract-table tables) (relation-of tables rows) s
 
 -- all transitions of the state s are passed
 module _ (tables rows : List ℕ) (loaded : Loaded (first-form tables)) (s : ℕ) (a : s < states-of (first-table tables)) where
@@ -71,7 +71,7 @@ module _ (tables rows : List ℕ) (loaded : Loaded (first-form tables)) (s : ℕ
   left-at {near} {left} h t = go (matching tables rows s t) refl
     where
       answer : Transition → Bool
-      answer m = any-of (fits-step (relation-of tables rows) m) (steps (second-table tables) t)
+      answer m = any-of (fits-step (relation-of tables rows) m) (steps (contract-table tables) t)
 
       pass : matching tables rows s t ≡ true → (k : ℕ) → start-of (first-form tables) s ≤ k → k < start-of (first-form tables) (s + 1) → (b : Bool)
           → answered tables rows k t ≡ b → answered tables rows k t ≡ true
@@ -88,17 +88,17 @@ module _ (tables rows : List ℕ) (loaded : Loaded (first-form tables)) (s : ℕ
           ∙ sym (and-false (member near t))
 
   -- those that are gone fall: outside doubt no pair does
-  pub kept-end : {near left : ℕ} (doubt fallen : ℕ) → StatesOnly (second-table tables) (row-of rows s)
-      → Doubtless (first-table tables) (second-table tables) (relation-of tables rows) s (member doubt)
+  pub kept-end : {near left : ℕ} (doubt fallen : ℕ) → StatesOnly (contract-table tables) (row-of rows s)
+      → Doubtless (first-table tables) (contract-table tables) (relation-of tables rows) s (member doubt)
       → member near ≡ both (holds rows s) (member doubt) → Answering tables rows s near (start-of (first-form tables) (s + 1)) left
-      → member fallen ≡ except (member near) (member left) → member fallen ≡ falls (first-table tables) (second-table tables) (relation-of tables rows) s
+      → member fallen ≡ except (member near) (member left) → member fallen ≡ falls (first-table tables) (contract-table tables) (relation-of tables rows) s
   kept-end {near} {left} doubt fallen columns sure e h d = fun-ext (λ t.
       ap (λ (X : Test). X t) d
       ∙ ap (λ (b : Bool). member near t && not b) (left-at h t)
       ∙ with-both (member near t) (matching tables rows s t)
       ∙ ap (λ (X : Test). X t && not (matching tables rows s t)) e
-      ∙ doubted (holds rows s t) (member doubt t) (matching tables rows s t) (λ o m. sure t o (subst T (sym (related-row (first-table tables) (second-table tables) rows s a columns t)) m))
-      ∙ sym (falls-is (first-table tables) (second-table tables) rows s a columns t))
+      ∙ doubted (holds rows s t) (member doubt t) (matching tables rows s t) (λ o m. sure t o (subst T (sym (related-row (first-table tables) (contract-table tables) rows s a columns t)) m))
+      ∙ sym (falls-is (first-table tables) (contract-table tables) rows s a columns t))
     where
       doubted : (b c m : Bool) → (c ≡ false → T b → T m) → ((b && c) && not m) ≡ (b && not m)
       doubted true true m k = refl

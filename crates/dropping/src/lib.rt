@@ -18,9 +18,9 @@ ghost use Rattle.word.specs.Mask.{member};
 ghost use Rattle.set.specs.Words.{mask};
 ghost use Rattle.relation.specs.Rows.{row-of};
 ghost use Rattle.form.specs.Form.{transitions-of};
-ghost use Rattle.form.specs.Tables.{first-form, first-table, second-table, BothLoaded};
+ghost use Rattle.form.specs.Tables.{first-form, first-table, contract-table, BothLoaded};
 ghost use Rattle.decision.specs.Fitting.{relation-of};
-ghost use Rattle.fit.specs.Held.{answered};
+ghost use Rattle.fit.specs.Held.{fits-listed, answered};
 ghost use Rattle.fit.specs.Known.{Lent, Tried};
 ghost use Rattle.links.specs.Links.{Empty};
 ghost use Rattle.links.specs.Places.{HasMarks, lost-in};
@@ -38,8 +38,8 @@ fn join_unless(passes: bool, set: Set, t: usize) -> Set
     set::insert(set, t)
 }
 
-// The states of a set that do not answer the transition j.
-fn drop_step(
+// The states of a set that list no transition that the transition j fits.
+fn drop_listed(
     tables: &[u16],
     j: usize,
     sets: &[Word],
@@ -49,8 +49,8 @@ fn drop_step(
     amounts: &mut [u32],
 ) -> Set
     requires { ⌜ Lent (now tables) (now sets) (now rows) (now amounts) × Tried (now tables) (now rows) (now tried)
-        × (j < transitions-of (first-form (now tables))) × StatesOnly (second-table (now tables)) (mask near) ⌝ }
-    ensures { λ r. ⌜ ((t : ℕ) → member (mask r) t ≡ (member (mask near) t && not (answered (now (tables .entry)) (now (rows .entry)) j t)))
+        × (j < transitions-of (first-form (now tables))) × StatesOnly (contract-table (now tables)) (mask near) ⌝ }
+    ensures { λ r. ⌜ ((t : ℕ) → member (mask r) t ≡ (member (mask near) t && not (fits-listed (now (tables .entry)) (now (rows .entry)) j t)))
         × Tried (now (tables .entry)) (now (rows .entry)) (now (tried .exit)) ⌝ }
 {
     let known = fit::bounds_of(tables::targets(tables, Form::FIRST, j), rows);
@@ -67,6 +67,29 @@ fn drop_step(
     fallen
 }
 
+// The states of a set that do not answer the transition j. Where the second table does not list its code, a state answers by the
+// transition to itself, which all targets of j must be related to.
+fn drop_step(
+    tables: &[u16],
+    j: usize,
+    sets: &[Word],
+    rows: &[Word],
+    near: Set,
+    tried: &mut [u8],
+    amounts: &mut [u32],
+) -> Set
+    requires { ⌜ Lent (now tables) (now sets) (now rows) (now amounts) × Tried (now tables) (now rows) (now tried)
+        × (j < transitions-of (first-form (now tables))) × StatesOnly (contract-table (now tables)) (mask near) ⌝ }
+    ensures { λ r. ⌜ ((t : ℕ) → member (mask r) t ≡ (member (mask near) t && not (answered (now (tables .entry)) (now (rows .entry)) j t)))
+        × Tried (now (tables .entry)) (now (rows .entry)) (now (tried .exit)) ⌝ }
+{
+    if tables::lists(tables, Form::SECOND, tables::code(tables, Form::FIRST, j)) {
+        return drop_listed(tables, j, sets, rows, near, tried, amounts);
+    }
+    let from = tables::targets(tables, Form::FIRST, j);
+    set::difference(near, bounds::common(from, rows))
+}
+
 // The pairs of row s that the round drops, transition by transition. Those outside doubt are known to survive.
 fn drop_row(
     tables: &[u16],
@@ -79,10 +102,10 @@ fn drop_row(
 ) -> Set
     requires { ⌜ Lent (now tables) (now sets) (now rows) (now amounts) × Tried (now tables) (now rows) (now tried)
         × (s < states-of (first-table (now tables)))
-        × Doubtless (first-table (now tables)) (second-table (now tables)) (relation-of (now tables) (now rows)) s (member (mask doubt))
-        × StatesOnly (second-table (now tables)) (row-of (now rows) s) ⌝ }
+        × Doubtless (first-table (now tables)) (contract-table (now tables)) (relation-of (now tables) (now rows)) s (member (mask doubt))
+        × StatesOnly (contract-table (now tables)) (row-of (now rows) s) ⌝ }
     ensures { λ r. ⌜ (member (mask r)
-        ≡ falls (first-table (now (tables .entry))) (second-table (now (tables .entry))) (relation-of (now (tables .entry)) (now (rows .entry))) s)
+        ≡ falls (first-table (now (tables .entry))) (contract-table (now (tables .entry))) (relation-of (now (tables .entry)) (now (rows .entry))) s)
         × Tried (now (tables .entry)) (now (rows .entry)) (now (tried .exit)) ⌝ }
 {
     let near = set::intersection(rows::get(rows, s), doubt);
@@ -138,8 +161,8 @@ pub fn drop_rows(
 // The first round: all pairs are related, so that transitions with the same code fit. Returns the rows that lose a pair.
 pub fn first_round(tables: &[u16], marks: &mut [Word]) -> Set
     requires { ⌜ BothLoaded (now tables) × HasMarks (now marks) × Empty (lost-in (now marks)) ⌝ }
-    ensures { λ r. ⌜ Fallen (first-table (now (tables .entry))) (second-table (now (tables .entry)))
-        (round (first-table (now (tables .entry))) (second-table (now (tables .entry))) 0) (lost-in (now (marks .exit))) (mask r) ⌝ }
+    ensures { λ r. ⌜ Fallen (first-table (now (tables .entry))) (contract-table (now (tables .entry)))
+        (round (first-table (now (tables .entry))) (contract-table (now (tables .entry))) 0) (lost-in (now (marks .exit))) (mask r) ⌝ }
 {
     let p = tables::states(tables, Form::FIRST);
     let mut fell = set::empty();

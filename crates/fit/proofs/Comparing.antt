@@ -10,7 +10,7 @@ use Rattle.simulation.specs.Table.{Transition, weights, targets, states-of}
 use Rattle.simulation.specs.Round.{Relation, between, fits-step, round}
 use Rattle.simulation.proofs.Fit.Agree.{fits-agree, cut-agree}
 use Rattle.relation.specs.Related.{holds}
-use Rattle.form.specs.Tables.{first-table, second-table, first-step, second-step}
+use Rattle.form.specs.Tables.{first-table, contract-table, first-step, second-step}
 use Rattle.form.proofs.FormLaws.{weights-length}
 use Rattle.relate.specs.Rows.{Rows}
 use Rattle.relate.proofs.Relating.{related-round}
@@ -20,13 +20,13 @@ use Rattle.fit.proofs.Codes.{same-code}
 
 -- the cut of the rows that were asked for
 pub cut-found : {tables ranks : List ℕ} {r j k : ℕ} {amounts rel rel′ ws vs : List ℕ} {mask : ℕ} → InRound tables ranks r j k amounts
-    → Rows ranks (states-of (second-table tables)) r (targets (first-step tables j)) (targets (second-step tables k)) rel rel′
+    → Rows ranks (states-of (contract-table tables)) r (targets (first-step tables j)) (targets (second-step tables k)) rel rel′
     → ws ≡ weights (first-step tables j) → vs ≡ weights (second-step tables k) → CutOf ws vs rel′ mask
-    → Cut (round (first-table tables) (second-table tables) (pred r)) (first-step tables j) (second-step tables k) rel′ mask
+    → Cut (round (first-table tables) (contract-table tables) (pred r)) (first-step tables j) (second-step tables k) rel′ mask
 cut-found {tables} {ranks} {r} {j} {k} {rel′ = rel′} {mask = mask} g w ew ev answer =
     let m = first-step tables j in
     let n = second-step tables k in
-    let R = between (round (first-table tables) (second-table tables) (pred r)) m n in
+    let R = between (round (first-table tables) (contract-table tables) (pred r)) m n in
     let a : CutOf (weights m) (weights n) rel′ mask = subst₂ (λ (p q : List ℕ). CutOf p q rel′ mask) ew ev answer in
     let rows = related-round j k (g .ranked) (g .from-first) (g .from-second) r (g .later) w in
     let same : (i l : ℕ) → i < length (weights m) → l < length (weights n) → R i l ≡ holds rel′ i l =

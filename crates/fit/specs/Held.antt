@@ -4,7 +4,7 @@ use mathlib.Core.Bool.{Bool}
 use mathlib.Core.List.{List}
 use Prim.Native.Nat.{ℕ}
 use lib.Dec.{eqb}
-use Rattle.form.specs.Tables.{second-table, first-step, second-step}
+use Rattle.form.specs.Tables.{second-table, contract-table, first-step, second-step}
 use Rattle.simulation.specs.Sum.{all-of, any-of}
 use Rattle.simulation.specs.Table.{Transition, Table, steps}
 use Rattle.simulation.specs.Round.{Relation, fits-step}
@@ -18,9 +18,13 @@ fits-step-at tables rows j l = fits-step (relation-of tables rows) (first-step t
 abbrev pub matched : Table → Table → Relation → ℕ → ℕ → Bool
 matched M N R s t = all-of (λ m. any-of (fits-step R m) (steps N t)) (steps M s)
 
--- transition j of the first table fits some transition of the state t
+-- transition j of the first table fits some transition that the second lists for the state t
+abbrev pub fits-listed : (tables rows : List ℕ) (j t : ℕ) → Bool
+fits-listed tables rows j t = any-of (fits-step (relation-of tables rows) (first-step tables j)) (steps (second-table tables) t)
+
+-- or one that the contract has for it
 abbrev pub answered : (tables rows : List ℕ) (j t : ℕ) → Bool
-answered tables rows j t = any-of (fits-step (relation-of tables rows) (first-step tables j)) (steps (second-table tables) t)
+answered tables rows j t = any-of (fits-step (relation-of tables rows) (first-step tables j)) (steps (contract-table tables) t)
 
 -- one of the transitions has the code
 abbrev pub coded : ℕ → List Transition → Bool

@@ -11,7 +11,7 @@ use Rattle.relation.specs.Rows.{row-of, height}
 use Rattle.form.specs.Form.{start-of, transitions-of, transition-at}
 use Rattle.form.specs.Tables.{first-form, second-form, second-table, BothLoaded}
 use Rattle.simulation.specs.Table.{targets, states-of}
-use Rattle.fit.specs.Held.{fits-step-at, answered}
+use Rattle.fit.specs.Held.{fits-step-at, fits-listed}
 
 -- place l has the set of the targets of the transition l
 pub record TargetSets (g sets : List ℕ) : Type 0 where
@@ -33,7 +33,7 @@ pub record Tried (tables rows tried : List ℕ) : Type 0 where
   pub passed : (j t l : ℕ) → j < transitions-of (first-form tables) → t < states-of (second-table tables) → l < getD tried ((j + 1) * most-states + t) 0
       → start-of (second-form tables) t + l < start-of (second-form tables) (t + 1) → fits-step-at tables rows j (start-of (second-form tables) t + l) ≡ false
 
--- r says whether transition j fits some transition of t, and what has been tried by then is known
+-- r says whether transition j fits some listed transition of t, and what has been tried by then is known
 pub record SomeFits (tables rows : List ℕ) (j t : ℕ) (tried : List ℕ) (r : Bool) : Type 0 where
-  pub answer : r ≡ answered tables rows j t
+  pub answer : r ≡ fits-listed tables rows j t
   pub known : Tried tables rows tried

@@ -14,6 +14,7 @@ ghost use mathlib.Core.Bool.{true};
 ghost use Prim.Native.Nat.{_<_, _≤_};
 ghost use Rattle.simulation.specs.Limits.{most-transitions};
 ghost use Rattle.simulation.specs.Table.{targets, states-of, steps};
+ghost use Rattle.simulation.specs.Complete.{lists};
 ghost use Rattle.set.specs.Words.{mask};
 ghost use Rattle.relation.specs.Rows.{height};
 ghost use Rattle.form.specs.Form.{transitions-of};
@@ -105,7 +106,7 @@ fn fits_guess(
     decision::decide(tables, j, l, rows::get(sets, l), rows, amounts)
 }
 
-// Transition j of the first table fits some transition of the state t with the same code. Those known not to be fitted are passed over. The
+// Transition j of the first table fits some listed transition of the state t with the same code. Those known not to be fitted are passed over. The
 // partner found last for t is the guess: like-coded transitions of one state often have the same.
 pub fn fits_some(
     tables: &[u16],
@@ -153,6 +154,17 @@ pub fn has_code(tables: &[u16], t: usize, code: u16) -> bool
     let start = tables::start_of(tables, Form::SECOND, t);
     let end = tables::start_of(tables, Form::SECOND, t + 1);
     next_coded(tables, code, start, end) < end
+}
+
+// Whether the second table lists the code. A transition of t that has it tells so at once.
+pub fn lists_code(tables: &[u16], t: usize, code: u16) -> bool
+    requires { ⌜ BothLoaded (now tables) × (t < states-of (second-table (now tables))) ⌝ }
+    ensures { λ r. ⌜ r ≡ lists (second-table (now (tables .entry)) .codes) code ⌝ }
+{
+    if has_code(tables, t, code) {
+        return true;
+    }
+    tables::lists(tables, Form::SECOND, code)
 }
 
 // The place in t of the first transition that the transition j of the first table fits, of which there is one; the amounts share it out.

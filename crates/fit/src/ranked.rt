@@ -9,7 +9,7 @@ ghost use lib.ListN.{length};
 ghost use Rattle.simulation.specs.Round.{fits-step, round};
 ghost use Rattle.set.specs.Words.{mask};
 ghost use Rattle.relation.specs.Rows.{height};
-ghost use Rattle.form.specs.Tables.{first-table, second-table, first-step, second-step};
+ghost use Rattle.form.specs.Tables.{first-table, contract-table, first-step, second-step};
 ghost use Rattle.fit.specs.Ranked.{InRound, Cut};
 
 // The cut of the transitions j and k in the round before round r, with the rows of that round between their targets.
@@ -23,7 +23,7 @@ pub fn round_cut(
     amounts: &mut [u32],
 ) -> Set
     requires { ⌜ InRound (now tables) (now ranks) r j k (now amounts) × (length (first-step (now tables) j .entries) ≤ height (now rel)) ⌝ }
-    ensures { λ found. ⌜ Cut (round (first-table (now (tables .entry))) (second-table (now (tables .entry))) (pred r))
+    ensures { λ found. ⌜ Cut (round (first-table (now (tables .entry))) (contract-table (now (tables .entry))) (pred r))
         (first-step (now (tables .entry)) j) (second-step (now (tables .entry)) k) (now (rel .exit)) (mask found) ⌝ }
 {
     relate::rows(tables, ranks, r, j, k, rel);
@@ -43,7 +43,7 @@ pub fn fits(
     amounts: &mut [u32],
 ) -> bool
     requires { ⌜ InRound (now tables) (now ranks) r j l (now amounts) × (length (first-step (now tables) j .entries) ≤ height (now rel)) ⌝ }
-    ensures { λ b. ⌜ b ≡ fits-step (round (first-table (now (tables .entry))) (second-table (now (tables .entry))) (pred r))
+    ensures { λ b. ⌜ b ≡ fits-step (round (first-table (now (tables .entry))) (contract-table (now (tables .entry))) (pred r))
         (first-step (now (tables .entry)) j) (second-step (now (tables .entry)) l) ⌝ }
 {
     if tables::code(tables, Form::FIRST, j) != tables::code(tables, Form::SECOND, l) {

@@ -1,20 +1,55 @@
--- The flows of a kept pair: the transition at the place reported is fitted, and right amounts exist.
+-- Places: how a flow names them, and where one is found. In the flows of a kept pair the transition at the place is fitted, and right amounts exist.
 -- Assumes nothing.
-use Prim.Native.Nat.{ℕ, suc, _<_}
+use mathlib.Core.Path.{_≡_, refl, ap}
+use mathlib.Core.Bool.{Bool, true, false, cond}
+use mathlib.Core.List.{List, [], _∷_, _++_}
+use Prim.Native.Nat.{ℕ, suc, _≤_, _<_}
+use native.Mathlib.Nat.{not-suc-le-zero, le-of-suc-le-suc}
+use native.Mathlib.Omega.{arith}
 use native.Mathlib.Decide.{decLt}
+use borrow.Author.Tests.{lt-ltb, le-ltb}
 use lib.Dec.{T}
 use lib.ListN.{length}
+use Rattle.simulation.specs.Limits.{most-of-state}
 use Rattle.simulation.specs.Fit.{Amounts, Fits}
-use Rattle.simulation.specs.Table.{Table, weights, states-of, steps, transition}
-use Rattle.simulation.specs.Round.{between, fits-step, pairs}
+use Rattle.simulation.specs.Table.{Transition, Table, weights, states-of, steps, transition}
+use Rattle.simulation.specs.Round.{Relation, between, fits-step, pairs}
 use Rattle.simulation.specs.Demands.{Kept}
 use Rattle.decision.specs.Fitting.{SharesIn}
+use Rattle.fit.specs.Partner.{place}
 use Rattle.fit.proofs.Partner.{place-fits}
-use Rattle.flows.specs.Flow.{kept-relation, place-of, partner, Right}
+use Rattle.flows.specs.Flow.{kept-relation, added-place, named-place, place-of, partner, Right}
 use Rattle.simulation.proofs.Fit.Hall.{fits?→Fits}
 use Rattle.simulation.proofs.Simulation.Steps.{fits-step-fits}
 use Rattle.simulation.proofs.Simulation.Rounds.{in-matched}
 use Rattle.simulation.proofs.Simulation.Greatest.{kept-in}
+
+pub named-listed : (n k : ℕ) → k < n → named-place n k ≡ k
+unfolding named-place
+named-listed n k b = ap (λ (c : Bool). cond c k added-place) (lt-ltb k n b)
+
+pub named-added : (n k : ℕ) → n ≤ k → named-place n k ≡ added-place
+unfolding named-place
+named-added n k b = ap (λ (c : Bool). cond c k added-place) (le-ltb k n b)
+
+-- no listed place is named so, since a state lists at most as many transitions as a byte can count
+pub named-told : (n k : ℕ) → n ≤ most-of-state → named-place n k ≡ added-place → n ≤ k
+named-told n k few e = go (decLt k n)
+  where
+    go : Dec (k < n) → n ≤ k
+    go (yes b) = absurd (omega (arith, named-listed n k b))
+    go (no b) = omega arith
+
+-- where one of the transitions fits, it is found whatever follows them
+pub place-before : (R : Relation) (m : Transition) (ns more : List Transition) → place R m ns < length ns → place R m (ns ++ more) ≡ place R m ns
+unfolding place
+place-before R m [] more b = absurd (not-suc-le-zero b)
+place-before R m (n ∷ ns) more b = go (fits-step R m n) b (place-before R m ns more)
+  where
+    go : (c : Bool) → cond c 0 (suc (place R m ns)) < suc (length ns) → (place R m ns < length ns → place R m (ns ++ more) ≡ place R m ns)
+        → cond c 0 (suc (place R m (ns ++ more))) ≡ cond c 0 (suc (place R m ns))
+    go true b later = refl
+    go false b later = ap suc (later (le-of-suc-le-suc b))
 
 module _ (M N : Table) (s t : ℕ) (a : s < states-of M) (b : t < states-of N) (kept : Kept M N s t) where
   -- the transition k of s fits the one at its place

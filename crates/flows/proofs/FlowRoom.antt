@@ -13,7 +13,7 @@ use Rattle.simulation.proofs.Finite.Sums.{sum-mono, sum-none, sum-more, sum-le}
 use Rattle.simulation.specs.Limits.{most-states, most-of-state, most-entries}
 use Rattle.form.specs.Items.{all-entries}
 use Rattle.form.specs.Form.{start-of}
-use Rattle.form.specs.Tables.{first-form, first-table, second-table}
+use Rattle.form.specs.Tables.{first-form, first-table, second-table, contract-table, listed-steps}
 use Rattle.form.proofs.Items.{entries-most}
 use Rattle.flows.specs.Flow.{step-room, room-for, most-flow, flow-bytes, flow-room}
 use Rattle.flows.specs.FlowSteps.{KeptPair}
@@ -56,12 +56,11 @@ pub room-most : (M N : Table) (s : ℕ) → length (steps M s) ≤ most-of-state
 room-most M N s a b c = room-bound (states-of N) (λ k. length (transition M s k .entries)) (length (steps M s)) a (omega (arith, entries-most M s)) c
 
 pub flow-within : {tables rows x : List ℕ} {s t : ℕ} → KeptPair tables rows x s t → (xs : ℕ → Amounts)
-    → length (flow-bytes (first-table tables) (second-table tables) s t xs) ≤ flow-room (first-table tables) (second-table tables) s
+    → length (flow-bytes (first-table tables) (contract-table tables) (listed-steps tables t) s t xs) ≤ flow-room (first-table tables) (second-table tables) s
 unfolding flow-bytes room-for
 flow-within {tables} {rows} {x} {s} {t} q xs =
     let p : Pair tables rows x s t (start-of (first-form tables) s) = record { chosen = q; from = refl } in
     let M = first-table tables in
-    let N = second-table tables in
     let n = length (steps M s) in
-    let one = flow-at M N s t xs in
-    omega (arith, pieces-length one n, sum-mono n (λ k. length (one k)) (λ k. step-room (states-of N) (length (transition M s k .entries))) (most p xs))
+    let one = flow-at M (contract-table tables) (listed-steps tables t) s t xs in
+    omega (arith, pieces-length one n, sum-mono n (λ k. length (one k)) (λ k. step-room (states-of (second-table tables)) (length (transition M s k .entries))) (most p xs))

@@ -1,9 +1,9 @@
 -- The flows of a pair, transition by transition.
 -- Assumes nothing.
-use mathlib.Core.Path.{_≡_, refl, sym, _∙_, ap, subst}
+use mathlib.Core.Path.{_≡_, refl, sym, _∙_, ap, subst, subst₂}
 use mathlib.Core.Bool.{cond}
 use mathlib.Core.List.{List, [], _∷_}
-use Prim.Native.Nat.{ℕ, suc, _+_, _-_, _≤_, _<_}
+use Prim.Native.Nat.{ℕ, _+_, _-_, _≤_, _<_}
 use native.Mathlib.Nat.{not-suc-le-zero}
 use native.Mathlib.Decide.{ℕ-discrete}
 use native.Mathlib.Omega.{arith}
@@ -11,38 +11,39 @@ use lib.Dec.{T, eqb}
 use lib.ListN.{length, set, length-set}
 use borrow.Author.Tests.{eq-eqb, ne-eqb}
 use Rattle.simulation.specs.Limits.{most-transitions, most-of-state}
+use Rattle.simulation.specs.Sum.{any-of}
 use Rattle.simulation.specs.Fit.{Amounts}
-use Rattle.simulation.specs.Table.{Transition, Table, targets, states-of, steps, transition}
-use Rattle.simulation.specs.Round.{fits-step, pairs}
-use Rattle.simulation.proofs.Simulation.Rounds.{in-matched}
-use Rattle.simulation.proofs.Simulation.Greatest.{kept-in}
-use Rattle.form.specs.Form.{table-of, start-of, transitions-of, transition-at}
-use Rattle.form.specs.Tables.{first-form, second-form, first-step}
+use Rattle.simulation.specs.Table.{Transition, Table, targets, states-of, steps, no-transition, transition}
+use Rattle.simulation.specs.Round.{Relation, fits-step}
+use Rattle.simulation.proofs.Finite.Tests.{is-true}
+use Rattle.simulation.proofs.Finite.Lists.{any-of-by}
+use Rattle.form.specs.Form.{start-of, transitions-of, transition-at}
+use Rattle.form.specs.Tables.{first-form, first-table, second-table, contract-table, listed-steps, first-step}
 use Rattle.form.proofs.FormLaws.{limits, counts, transition-number, transition-of}
-use Rattle.decision.specs.Fitting.{relation-of, SharesIn}
-use Rattle.fit.specs.Partner.{Sought}
+use Rattle.form.proofs.Contract.{contract-states}
+use Rattle.decision.specs.Fitting.{SharesIn}
 use Rattle.matrix.specs.Matrix.{cell}
 use Rattle.buffer.specs.Buffer.{Filled}
-use Rattle.flows.specs.Flow.{kept-relation, one-flow, place-of, partner, step-room, room-for, Right, flow-bytes, flow-room}
-use Rattle.flows.specs.FlowSteps.{Shown, KeptPair, Flowed}
+use Rattle.flows.specs.Flow.{kept-relation, named-place, one-flow, place-of, partner, step-room, room-for, Right, flow-bytes, flow-room}
+use Rattle.flows.specs.FlowSteps.{KeptPair, Answered, Shown, Flowed}
 use Rattle.buffer.proofs.Buffer.{part-from, back}
 use Rattle.flows.proofs.Pieces.{Plan, Going, going-start, going-within, going-room, going-fits, going-next, going-end, going-ext, stored, stored-past}
 use Rattle.flows.proofs.FlowBytes.{flow-length}
 use Rattle.flows.proofs.FlowPlace.{partner-fits}
-use Rattle.flows.proofs.FlowStep.{few-second, room-enough}
+use Rattle.flows.proofs.FlowStep.{few-contract, room-enough}
 
 -- the flow of the transition k of s
-abbrev pub flow-at : (M N : Table) (s t : ℕ) (xs : ℕ → Amounts) → ℕ → List ℕ
-flow-at M N s t xs k = one-flow (place-of M N s t k) (transition M s k) (partner M N s t k) (xs k)
+abbrev pub flow-at : (M N : Table) (listed s t : ℕ) (xs : ℕ → Amounts) → ℕ → List ℕ
+flow-at M N listed s t xs k = one-flow (named-place listed (place-of M N s t k)) (transition M s k) (partner M N s t k) (xs k)
 
 abbrev pub head-at : Table → ℕ → List ℕ
 head-at M s = length (steps M s) ∷ []
 
 -- the flows of the first k transitions are written, with amounts that are right
-pub record Flowing (M N : Table) (s t : ℕ) (old : List ℕ) (k at : ℕ) (now : List ℕ) : Type 0 where
+pub record Flowing (M N : Table) (listed s t : ℕ) (old : List ℕ) (k at : ℕ) (now : List ℕ) : Type 0 where
   pub amounts : ℕ → Amounts
   pub right : (l : ℕ) → l < k → SharesIn (kept-relation M N) (transition M s l) (partner M N s t l) (amounts l)
-  pub going : Going (head-at M s) (flow-at M N s t amounts) (length (steps M s)) old k at now
+  pub going : Going (head-at M s) (flow-at M N listed s t amounts) (length (steps M s)) old k at now
 
 -- amounts for one transition more
 with-amounts : (ℕ → Amounts) → ℕ → Amounts → ℕ → Amounts
@@ -68,14 +69,18 @@ module _ {tables rows x : List ℕ} {s t start : ℕ} (p : Pair tables rows x s 
   abbrev f : List ℕ
   f = first-form tables
 
-  abbrev g : List ℕ
-  g = second-form tables
-
   abbrev M : Table
-  M = table-of f
+  M = first-table tables
 
   abbrev N : Table
-  N = table-of g
+  N = contract-table tables
+
+  -- how many states the second table has, and with it the contract
+  abbrev width : ℕ
+  width = states-of (second-table tables)
+
+  abbrev listed : ℕ
+  listed = listed-steps tables t
 
   abbrev n : ℕ
   n = length (steps M s)
@@ -99,57 +104,53 @@ module _ {tables rows x : List ℕ} {s t start : ℕ} (p : Pair tables rows x s 
   step-is : (k : ℕ) → k < n → transition-at f (start + k) ≡ transition M s k
   step-is k lt = ap (λ (i : ℕ). transition-at f (i + k)) (p .from) ∙ transition-of f (q .loaded .first) s k (q .first) lt
 
+  state : t < states-of N
+  state = omega (arith, contract-states tables, q .second)
+
   -- each transition fits some transition of t
-  pub step-sought : (y : List ℕ) (k : ℕ) → k < n → length y ≡ length x → Sought tables rows y (start + k) t
-  step-sought y k lt e =
-      let r = in-matched M N (pairs M N) s t (kept-in M N (suc (pairs M N)) s t (q .first) (q .second) (q .kept)) k lt in
+  pub step-answered : (y : List ℕ) (k : ℕ) → k < n → length y ≡ length x → Answered tables rows y (start + k) t
+  step-answered y k lt e =
+      let r = partner-fits M N s t (q .first) state (q .kept) k lt in
+      let some = any-of-by (fits-step (kept-relation M N) (transition M s k)) no-transition (steps N t) (place-of M N s t k) (r .0) (r .1) in
       record {
         loaded = q .loaded;
         rows-room = q .rows-room;
         amounts-room = omega (arith, q .amounts-room);
         from-first = number-below k lt;
         state = q .second;
-        some = (
-          r .0,
-          r .1,
-          subst (λ m. T (fits-step (relation-of tables rows) m (transition N t (r .0)))) (sym (step-is k lt))
-              (subst (λ R. T (fits-step R (transition M s k) (transition N t (r .0)))) (sym (q .rows-kept)) (r .2)),
-        );
+        some = is-true _ (subst₂ (λ (R : Relation) (m : Transition). T (any-of (fits-step R m) (steps N t))) (sym (q .rows-kept)) (sym (step-is k lt)) some);
       }
 
   -- the flow of a transition has room
-  pub most : (xs : ℕ → Amounts) (k : ℕ) → k < n → length (flow-at M N s t xs k) ≤ step-room (states-of N) (length (transition M s k .entries))
+  pub most : (xs : ℕ → Amounts) (k : ℕ) → k < n → length (flow-at M N listed s t xs k) ≤ step-room width (length (transition M s k .entries))
   most xs k lt =
-      let r = partner-fits M N s t (q .first) (q .second) (q .kept) k lt in
-      let few : length (targets (partner M N s t k)) ≤ states-of N =
-      subst (λ m. length (targets m) ≤ states-of N) (transition-of g (q .loaded .second) t (place-of M N s t k) (q .second) (r .0))
-      (few-second g (q .loaded .second) (start-of g t + place-of M N s t k)
-      (transition-number g (q .loaded .second) t (place-of M N s t k) (q .second) (r .0))) in
+      let r = partner-fits M N s t (q .first) state (q .kept) k lt in
       omega (
         arith,
-        flow-length (place-of M N s t k) (targets (transition M s k)) (targets (partner M N s t k)) (xs k),
-        room-enough (transition M s k) (partner M N s t k) few,
+        flow-length (named-place listed (place-of M N s t k)) (targets (transition M s k)) (targets (partner M N s t k)) (xs k),
+        room-enough (transition M s k) (partner M N s t k) (few-contract (q .loaded) t (place-of M N s t k) (r .0)),
       )
 
-  pub flow-plan : (xs : ℕ → Amounts) (old : List ℕ) → flow-room M N s ≤ length old → Plan (head-at M s) (flow-at M N s t xs) (λ k. step-room (states-of N) (length (transition M s k .entries))) n old
+  pub flow-plan : (xs : ℕ → Amounts) (old : List ℕ) → flow-room M (second-table tables) s ≤ length old
+      → Plan (head-at M s) (flow-at M N listed s t xs) (λ k. step-room width (length (transition M s k .entries))) n old
   unfolding room-for
   flow-plan xs old room = record { room = room; most = most xs }
 
-  module _ (old : List ℕ) (room : flow-room M N s ≤ length old) where
-    flowing-start : Filled (head-at M s) 1 old old → Flowing M N s t old 0 1 old
+  module _ (old : List ℕ) (room : flow-room M (second-table tables) s ≤ length old) where
+    flowing-start : Filled (head-at M s) 1 old old → Flowing M N listed s t old 0 1 old
     flowing-start w = record { amounts = λ k i j. 0; right = λ l lt. absurd (not-suc-le-zero lt); going = going-start (flow-plan (λ k i j. 0) old room) w }
 
-    module _ {k at : ℕ} {now : List ℕ} (w : Flowing M N s t old k at now) where
+    module _ {k at : ℕ} {now : List ℕ} (w : Flowing M N listed s t old k at now) where
       pub flowing-within : at ≤ length now
       flowing-within = going-within (flow-plan (w .amounts) old room) (w .going)
 
       module _ (lt : k < n) where
-        pub flowing-room : step-room (states-of N) (length (transition-at f (start + k) .entries)) ≤ length (part-from at now)
-        flowing-room = subst (λ (m : Transition). step-room (states-of N) (length (m .entries)) ≤ length (part-from at now)) (sym (step-is k lt)) (going-room (flow-plan (w .amounts) old room) (w .going) lt)
+        pub flowing-room : step-room width (length (transition-at f (start + k) .entries)) ≤ length (part-from at now)
+        flowing-room = subst (λ (m : Transition). step-room width (length (m .entries)) ≤ length (part-from at now)) (sym (step-is k lt)) (going-room (flow-plan (w .amounts) old room) (w .going) lt)
 
-        module _ {r : ℕ} {y ys : List ℕ} (d : Shown M N (first-step tables (start + k)) t r y (part-from at now) ys) where
-          shown : Shown M N (transition M s k) t r y (part-from at now) ys
-          shown = subst (λ m. Shown M N m t r y (part-from at now) ys) (step-is k lt) d
+        module _ {r : ℕ} {y ys : List ℕ} (d : Shown M N listed (first-step tables (start + k)) t r y (part-from at now) ys) where
+          shown : Shown M N listed (transition M s k) t r y (part-from at now) ys
+          shown = subst (λ m. Shown M N listed m t r y (part-from at now) ys) (step-is k lt) d
 
           abbrev more : ℕ → Amounts
           more = with-amounts (w .amounts) k (cell y)
@@ -158,16 +159,16 @@ module _ {tables rows x : List ℕ} {s t start : ℕ} (p : Pair tables rows x s 
           flowing-fits =
               omega (arith, going-fits (flow-plan (w .amounts) old room) (w .going) lt, shown .filled .count, most (λ _. cell y) k lt)
 
-          pub flowing-next : Flowing M N s t old (k + 1) (at + r) (back at now ys)
+          pub flowing-next : Flowing M N listed s t old (k + 1) (at + r) (back at now ys)
           flowing-next = record {
             amounts = more;
             right = λ l lt. at-place l lt (ℕ-discrete l k);
             going =
                 going-next (flow-plan more old room)
-                (going-ext (flow-at M N s t more) (λ l lt. ap (λ z. one-flow (place-of M N s t l) (transition M s l) (partner M N s t l) z)
+                (going-ext (flow-at M N listed s t more) (λ l lt. ap (λ z. one-flow (named-place listed (place-of M N s t l)) (transition M s l) (partner M N s t l) z)
                 (sym (with-other (w .amounts) k (cell y) l (λ e. omega arith)))) (w .going))
                 lt
-                (subst (λ z. Filled (one-flow (place-of M N s t k) (transition M s k) (partner M N s t k) z) r (part-from at now) ys)
+                (subst (λ z. Filled (one-flow (named-place listed (place-of M N s t k)) (transition M s k) (partner M N s t k) z) r (part-from at now) ys)
                 (sym (with-same (w .amounts) k (cell y))) (shown .filled));
           }
             where
@@ -179,23 +180,23 @@ module _ {tables rows x : List ℕ} {s t start : ℕ} (p : Pair tables rows x s 
                   subst (λ z. SharesIn (kept-relation M N) (transition M s l) (partner M N s t l) z) (sym (with-other (w .amounts) k (cell y) l e)) (w .right l (omega arith))
 
   -- the first byte is the count
-  module _ (old : List ℕ) (room : flow-room M N s ≤ length old) {v : ℕ} (e : v ≡ n) where
-    pub room-kept : flow-room M N s ≤ length (set old 0 v)
-    room-kept = subst (λ (z : ℕ). flow-room M N s ≤ z) (sym (length-set old 0 v)) room
+  module _ (old : List ℕ) (room : flow-room M (second-table tables) s ≤ length old) {v : ℕ} (e : v ≡ n) where
+    pub room-kept : flow-room M (second-table tables) s ≤ length (set old 0 v)
+    room-kept = subst (λ (z : ℕ). flow-room M (second-table tables) s ≤ z) (sym (length-set old 0 v)) room
 
     pub room-some : 0 < length old
     unfolding room-for
     room-some = omega (arith, room)
 
-    pub flowing-begin : Flowing M N s t (set old 0 v) 0 1 (set old 0 v)
+    pub flowing-begin : Flowing M N listed s t (set old 0 v) 0 1 (set old 0 v)
     flowing-begin = flowing-start (set old 0 v) room-kept (subst (λ (z : ℕ). Filled (z ∷ []) 1 (set old 0 v) (set old 0 v)) e (stored v old room-some))
 
-    pub flowing-end : {k at : ℕ} {now : List ℕ} → Flowing M N s t (set old 0 v) k at now → n ≤ k → Flowed M N s t at old now
+    pub flowing-end : {k at : ℕ} {now : List ℕ} → Flowing M N listed s t (set old 0 v) k at now → n ≤ k → Flowed M N listed s t at old now
     unfolding Right flow-bytes
     flowing-end {k} {at} {now} w le = record {
       amounts = w .amounts;
       right = λ l lt. w .right l (omega arith);
       filled =
           stored-past n at _ old now
-          (subst (λ (z : ℕ). Filled (flow-bytes M N s t (w .amounts)) at (set old 0 z) now) e (going-end (flow-plan (w .amounts) (set old 0 v) room-kept) (w .going) le));
+          (subst (λ (z : ℕ). Filled (flow-bytes M N listed s t (w .amounts)) at (set old 0 z) now) e (going-end (flow-plan (w .amounts) (set old 0 v) room-kept) (w .going) le));
     }

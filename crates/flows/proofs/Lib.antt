@@ -7,5 +7,6 @@ pub mod FlowBytes
 pub mod FlowRow
 pub mod FlowPlace
 pub mod FlowStep
+pub mod FlowAdded
 pub mod FlowWhole
 pub mod FlowRoom

@@ -3,7 +3,7 @@
 use mathlib.Core.Bool.{cond, not}
 use mathlib.Core.List.{List, [], _∷_, _++_}
 use Prim.Native.Nat.{ℕ, _+_, _*_, _/_, _%_, _<_}
-use lib.Dec.{T, eqb}
+use lib.Dec.{T, ltb, eqb}
 use lib.ListN.{length, getD}
 use Rattle.simulation.specs.Sum.{sum, when, below, concat}
 use Rattle.simulation.specs.Fit.{Amounts, Shares}
@@ -53,6 +53,14 @@ unfoldable pub flow-of : ℕ → (ms ns : List ℕ) → Amounts → List ℕ
 unfolding amounts-count flow-records
 flow-of k ms ns x = head-of k (amounts-count (length ms) (length ns) x) ++ flow-records ms ns x
 
+-- the place of an added transition in a flow: no listed transition has it
+abbrev pub added-place : ℕ
+added-place = most-of-state
+
+-- a place as a flow names it, where the first n are those of listed transitions
+unfoldable pub named-place : (n k : ℕ) → ℕ
+named-place n k = cond (ltb k n) k added-place
+
 -- the flow of one transition m over n, the transition at place k
 abbrev pub one-flow : ℕ → Transition → Transition → Amounts → List ℕ
 one-flow k m n x = flow-of k (targets m) (targets n) x
@@ -79,9 +87,11 @@ module _ (M N : Table) where
   Right s t x = (k : ℕ) → k < length (steps M s) →
       Shares (λ i j. T (between (kept-relation M N) (transition M s k) (partner s t k) i j)) (weights (transition M s k)) (weights (partner s t k)) (x k)
 
-  unfoldable pub flow-bytes : (s t : ℕ) → (ℕ → Amounts) → List ℕ
-  unfolding below concat flow-of place round
-  flow-bytes s t x = length (steps M s) ∷ concat (below 0 (length (steps M s)) (λ k. one-flow (place-of s t k) (transition M s k) (partner s t k) (x k)))
+  -- where the first transitions of t are listed, and the others were added to complete the table
+  unfoldable pub flow-bytes : (listed s t : ℕ) → (ℕ → Amounts) → List ℕ
+  unfolding below concat flow-of place round named-place
+  flow-bytes listed s t x =
+      length (steps M s) ∷ concat (below 0 (length (steps M s)) (λ k. one-flow (named-place listed (place-of s t k)) (transition M s k) (partner s t k) (x k)))
 
   -- what the flow buffer must have: all entries of M count, those of weight 0 too
   abbrev pub flow-room : ℕ → ℕ

@@ -159,7 +159,7 @@ module _ (f : List ℕ) (l : Loaded f) where
 
   module _ (j : ℕ) (h : j < transitions-of f) where
     -- each transition is one of some state
-    by-state : (P : Transition → Type 0) → ((s k : ℕ) → k < length (steps (table-of f) s) → P (transition (table-of f) s k)) → P (transition-at f j)
+    pub by-state : (P : Transition → Type 0) → ((s k : ℕ) → k < length (steps (table-of f) s) → P (transition (table-of f) s k)) → P (transition-at f j)
     unfolding transitions-of
     by-state P p =
         let o = crossed-at (start-of f) (count-of f) j (omega (arith, l .from-zero)) h in

@@ -7,3 +7,4 @@ pub mod FormLists
 pub mod FormLaws
 pub mod Support
 pub mod TablesLaws
+pub mod Contract

@@ -2,8 +2,9 @@
 -- Assumes nothing.
 use mathlib.Core.List.{List}
 use Prim.Native.Nat.{ℕ}
-use lib.ListN.{take, drop}
-use Rattle.simulation.specs.Table.{Transition, Table}
+use lib.ListN.{length, take, drop}
+use Rattle.simulation.specs.Table.{Transition, Table, steps}
+use Rattle.simulation.specs.Complete.{contract-for}
 use Rattle.form.specs.Form.{form-size, transition-at, table-of, Loaded}
 
 -- the form that begins at a place
@@ -21,6 +22,14 @@ first-table tables = table-of (first-form tables)
 
 abbrev pub second-table : List ℕ → Table
 second-table tables = table-of (second-form tables)
+
+-- what the first table is judged against: the second, completed for the codes of the first
+abbrev pub contract-table : List ℕ → Table
+contract-table tables = contract-for (first-table tables) (second-table tables)
+
+-- how many transitions the second table lists for the state t: in the contract they stand before those that are added
+abbrev pub listed-steps : (tables : List ℕ) (t : ℕ) → ℕ
+listed-steps tables t = length (steps (second-table tables) t)
 
 -- the transition numbered j over all transitions of the first table, and of the second
 abbrev pub first-step : List ℕ → ℕ → Transition

@@ -1,14 +1,16 @@
-// The states of the second table that lack a code.
+// The states of the contract that lack a code.
 use form::Form;
 use form::tables;
 use set::Set;
 use word::Word;
 ghost use mathlib.Core.Path.{_≡_};
 ghost use Prim.Native.Nat.{_+_, _*_, _<_};
+ghost use lib.Dec.{T};
 ghost use Rattle.simulation.specs.Table.{states-of};
+ghost use Rattle.simulation.specs.Complete.{lists};
 ghost use Rattle.word.specs.Mask.{member, part, word-bits};
 ghost use Rattle.set.specs.Words.{words, mask};
-ghost use Rattle.form.specs.Tables.{first-table, second-table, BothLoaded};
+ghost use Rattle.form.specs.Tables.{first-table, second-table, contract-table, BothLoaded};
 ghost use Rattle.lacking.specs.Lacking.{lacks, lacks-one};
 
 // Word w of the states of the second table that lack the code.
@@ -41,19 +43,31 @@ fn lacking(tables: &[u16], code: u16) -> Set
     without
 }
 
-// The states of the second table that lack a code of the state s.
+// The states of the contract that lack a code of the first table: none, if the second table does not list it.
+fn unanswered(tables: &[u16], code: u16) -> Set
+    requires { ⌜ BothLoaded (now tables) × T (lists (first-table (now tables) .codes) code) ⌝ }
+    ensures { λ r. ⌜ member (mask r) ≡ lacks (contract-table (now (tables .entry))) code ⌝ }
+{
+    if tables::lists(tables, Form::SECOND, code) {
+        return lacking(tables, code);
+    }
+    set::empty()
+}
+
+// The states of the contract that lack a code of the state s.
 pub fn lacking_one(tables: &[u16], s: usize) -> Set
     requires { ⌜ BothLoaded (now tables) × (s < states-of (first-table (now tables))) ⌝ }
-    ensures { λ r. ⌜ member (mask r) ≡ lacks-one (first-table (now (tables .entry))) (second-table (now (tables .entry))) s ⌝ }
+    ensures { λ r. ⌜ member (mask r) ≡ lacks-one (first-table (now (tables .entry))) (contract-table (now (tables .entry))) s ⌝ }
 {
     let end = tables::start_of(tables, Form::FIRST, s + 1);
     let mut without = set::empty();
-    let mut j = tables::start_of(tables, Form::FIRST, s);
+    let start = tables::start_of(tables, Form::FIRST, s);
+    let mut j = start;
     while j < end {
-        without = set::union(
-            without,
-            lacking(tables, tables::code(tables, Form::FIRST, j)),
-        );
+        if !tables::repeats(tables, Form::FIRST, start, j) {
+            let code = tables::code(tables, Form::FIRST, j);
+            without = set::union(without, unanswered(tables, code));
+        }
         j += 1;
     }
     without

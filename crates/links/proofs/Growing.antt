@@ -11,15 +11,15 @@ use borrow.Author.Tests.{eq-eqb, ne-eqb}
 use lib.Dec.{eqb}
 use lib.ListN.{length, getD}
 use Rattle.simulation.proofs.Finite.Tests.{last-or-below, left-true, right-true}
-use Rattle.simulation.specs.Table.{targets}
-use Rattle.form.specs.Form.{transition-at}
+use Rattle.simulation.specs.Table.{targets, states-of}
+use Rattle.form.specs.Form.{transition-at, table-of}
 use Rattle.word.specs.Mask.{Test, member, with-member, either}
 use Rattle.set.specs.Words.{mask}
 use Rattle.relation.specs.Rows.{row-of, height, put-row}
 use Rattle.set.specs.declared.Set.{Set}
 use Rattle.relation.proofs.RowLaws.{row-put, row-put-other}
 use Rattle.relation.specs.Related.{holds}
-use Rattle.links.specs.Links.{RowsBelow, RowsGrown, Joins}
+use Rattle.links.specs.Links.{RowsBelow, Linked, RowsGrown, Joins, Looped}
 
 -- members of a set with one more, and of the union of two
 pub with-old : (x y s t : ℕ) → member y ≡ with-member s (member x) → member x t ≡ true → member y t ≡ true
@@ -95,3 +95,12 @@ joins-set rows s t x room e =
         ∙ ap (λ (y : ℕ). member y k) (sym (row-put rows t x room))
         ∙ ap (λ (u : ℕ). holds (put-row rows t x) u k) (sym c)
         ∙ m)
+
+-- what is linked stays so where each state comes before itself too
+pub linked-looped : {n : ℕ} {f before before′ : List ℕ} → n ≡ states-of (table-of f) → Linked f before → Looped n before before′ → length before′ ≡ length before → Linked f before′
+linked-looped {f = f} {before} {before′} e linked looped same =
+    record {
+      room = omega (arith, linked .room);
+      links = λ s a j i b c d. looped .grown .still _ _ (linked .links s a j i b c d);
+      states = subst (λ (n : ℕ). RowsBelow n before′) e (looped .within (subst (λ (n : ℕ). RowsBelow n before) (sym e) (linked .states)));
+    }

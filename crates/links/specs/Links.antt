@@ -4,14 +4,16 @@ use mathlib.Core.Path.{_≡_}
 use mathlib.Core.Bool.{true, false}
 use mathlib.Core.List.{List}
 use Prim.Native.Nat.{ℕ, _+_, _≤_, _<_}
+use lib.Dec.{T}
 use lib.ListN.{length, getD}
 use Rattle.simulation.specs.Limits.{most-states}
+use Rattle.simulation.specs.Complete.{lists}
 use Rattle.relation.specs.Rows.{height}
 use Rattle.word.specs.Mask.{member}
-use Rattle.form.specs.Form.{start-of, transition-at, table-of}
+use Rattle.form.specs.Form.{start-of, transitions-of, transition-at, table-of}
 use Rattle.relation.specs.Related.{holds}
 use Rattle.simulation.specs.Table.{targets, states-of}
-use Rattle.form.specs.Tables.{first-form, second-form}
+use Rattle.form.specs.Tables.{first-form, second-form, second-table, first-step}
 use Rattle.fit.specs.Known.{TargetSets}
 use Rattle.links.specs.Places.{HasSets, before-in, behind-in, targets-in, doubt-in, lost-in}
 
@@ -38,11 +40,21 @@ pub record Linked (f before : List ℕ) : Type 0 where
   pub links : (s : ℕ) → s < states-of (table-of f) → StateLinks f s before
   pub states : RowsBelow (states-of (table-of f)) before
 
+-- the second table lists the code of each of the first n transitions of the first
+abbrev pub ListedBefore : (tables : List ℕ) (n : ℕ) → Type 0
+ListedBefore tables n = (j : ℕ) → j < n → T (lists (second-table tables .codes) (first-step tables j .code))
+
+-- behind has, for each state, those that list a transition to it, and the state itself where a transition of the first table has a code that the second does not list
+pub record ContractLinked (tables behind : List ℕ) : Type 0 where
+  pub listed : Linked (second-form tables) behind
+  pub loops : (j t : ℕ) → j < transitions-of (first-form tables) → ¬ T (lists (second-table tables .codes) (first-step tables j .code)) → t < states-of (second-table tables)
+      → holds behind t t ≡ true
+
 -- the sets that are known before the rounds, each kind in its place
 pub record SetsKnown (tables sets : List ℕ) : Type 0 where
   pub room : HasSets sets
   pub first : Linked (first-form tables) (before-in sets)
-  pub second : Linked (second-form tables) (behind-in sets)
+  pub second : ContractLinked tables (behind-in sets)
   pub targets : TargetSets (second-form tables) (targets-in sets)
 
 -- no pair of the first rows is missing in the second
@@ -53,6 +65,12 @@ pub record RowsGrown (rows rows′ : List ℕ) : Type 0 where
 pub record Joins (s : ℕ) (rows rows′ : List ℕ) : Type 0 where
   pub grown : RowsGrown rows rows′
   pub within : (n : ℕ) → s < n → RowsBelow n rows → RowsBelow n rows′
+
+-- each of the first n rows has its own number too, and no number from n on is new
+pub record Looped (n : ℕ) (rows rows′ : List ℕ) : Type 0 where
+  pub grown : RowsGrown rows rows′
+  pub own : (t : ℕ) → t < n → holds rows′ t t ≡ true
+  pub within : RowsBelow n rows → RowsBelow n rows′
 
 -- each member of a set is in doubt in each row of another; the lost pairs stay
 pub record DoubtsAdded (rows more : ℕ) (marks marks′ : List ℕ) : Type 0 where

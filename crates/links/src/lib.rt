@@ -8,22 +8,24 @@ use set::walk;
 use simulation::Table;
 use word::Word;
 ghost use mathlib.Core.Path.{_≡_};
-ghost use mathlib.Core.Bool.{true};
+ghost use mathlib.Core.Bool.{true, false};
 ghost use Prim.Native.Nat.{ℕ, _<_, _≤_};
+ghost use lib.Dec.{T};
 ghost use lib.ListN.{length, getD};
 ghost use Rattle.simulation.specs.Limits.{most-states};
 ghost use Rattle.simulation.specs.Table.{states-of};
+ghost use Rattle.simulation.specs.Complete.{lists};
 ghost use Rattle.word.specs.Mask.{member};
 ghost use Rattle.set.specs.Words.{mask};
 ghost use Rattle.relation.specs.Rows.{height};
 ghost use Rattle.relation.specs.Related.{holds};
-ghost use Rattle.form.specs.Form.{Loaded, table-of};
-ghost use Rattle.form.specs.Tables.{form-at, BothLoaded};
+ghost use Rattle.form.specs.Form.{Loaded, transitions-of, table-of};
+ghost use Rattle.form.specs.Tables.{form-at, first-form, second-table, first-step, BothLoaded};
 ghost use Rattle.gather.specs.Places.{Places};
 ghost use Rattle.links.specs.Places.{HasSets, HasMarks, behind-in, lost-in};
-ghost use Rattle.links.specs.Links.{Empty, Linked, SetsKnown, Covered, StateLinks, Joins, DoubtsAdded, Doubted};
+ghost use Rattle.links.specs.Links.{Empty, Linked, ListedBefore, Looped, ContractLinked, SetsKnown, Covered, StateLinks, Joins, DoubtsAdded, Doubted};
 
-// Sets that are known before the rounds, in one lent slice: the states that lead to a state of the first table, and of the second, and the
+// Sets that are known before the rounds, in one lent slice: the states that lead to a state of the first table, and of the contract, and the
 // targets of each transition of the second. Where each kind begins: the row of the first two, and the word of all.
 pub struct Sets {}
 
@@ -93,6 +95,54 @@ fn link(tables: &[u16], which: usize, before: &mut [Word])
     }
 }
 
+// Whether the second table lists the code of the transition j, where it does so for all transitions before it.
+fn also_listed(tables: &[u16], j: usize) -> bool
+    requires { ⌜ BothLoaded (now tables) × (j < transitions-of (first-form (now tables))) × ListedBefore (now tables) j ⌝ }
+    ensures { λ r. ⌜ (r ≡ true → T (lists (second-table (now (tables .entry)) .codes) (first-step (now (tables .entry)) j .code))) ⌝ }
+{
+    if tables::repeats(tables, Form::FIRST, 0, j) {
+        return true;
+    }
+    let code = tables::code(tables, Form::FIRST, j);
+    tables::lists(tables, Form::SECOND, code)
+}
+
+// Whether some transition of the first table has a code that the second does not list.
+fn has_added(tables: &[u16]) -> bool
+    requires { ⌜ BothLoaded (now tables) ⌝ }
+    ensures { λ r. ⌜ (r ≡ false → ListedBefore (now (tables .entry)) (transitions-of (first-form (now (tables .entry))))) ⌝ }
+{
+    let n = tables::start_of(tables, Form::FIRST, tables::states(tables, Form::FIRST));
+    let mut j = 0;
+    while j < n && also_listed(tables, j) {
+        j += 1;
+    }
+    j < n
+}
+
+// Each of the first n states comes before itself.
+fn link_loops(n: usize, before: &mut [Word])
+    requires { ⌜ (n ≤ most-states) × (most-states ≤ height (now before)) ⌝ }
+    ensures { λ r. ⌜ Looped n (now (before .entry)) (now (before .exit)) ⌝ }
+{
+    let mut s = 0;
+    while s < n {
+        rows::put(before, s, set::insert(rows::get(before, s), s));
+        s += 1;
+    }
+}
+
+// For each state of the contract, those that have a transition to it. `behind` is empty at first.
+fn link_contract(tables: &[u16], behind: &mut [Word])
+    requires { ⌜ BothLoaded (now tables) × (most-states ≤ height (now behind)) × Empty (now behind) ⌝ }
+    ensures { λ r. ⌜ ContractLinked (now (tables .entry)) (now (behind .exit)) ⌝ }
+{
+    link(tables, Form::SECOND, behind);
+    if has_added(tables) {
+        link_loops(tables::states(tables, Form::SECOND), behind);
+    }
+}
+
 // All sets that are known before the rounds, over zeros.
 pub fn fill_sets(tables: &[u16], sets: &mut [Word])
     requires { ⌜ BothLoaded (now tables) × HasSets (now sets) × ((i : ℕ) → getD (now sets) i 0 ≡ 0) ⌝ }
@@ -101,11 +151,11 @@ pub fn fill_sets(tables: &[u16], sets: &mut [Word])
     let before = &mut sets[Sets::BEFORE_AT..Sets::BEHIND_AT];
     link(tables, Form::FIRST, before);
     let behind = &mut sets[Sets::BEHIND_AT..Sets::TARGETS_AT];
-    link(tables, Form::SECOND, behind);
+    link_contract(tables, behind);
     fit::target_sets(tables, &mut sets[Sets::TARGETS_AT..Sets::WORDS]);
 }
 
-// The states behind a member of the set, in the second table.
+// The states behind a member of the set, in the contract.
 fn behind_all(set: Set, sets: &[Word]) -> Set
     requires { ⌜ HasSets (now sets) ⌝ }
     ensures { λ r. ⌜ ((u t : ℕ) → member (mask set) u ≡ true → holds (behind-in (now (sets .entry))) u t ≡ true → member (mask r) t ≡ true) ⌝ }

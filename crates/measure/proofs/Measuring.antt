@@ -20,8 +20,9 @@ use Rattle.simulation.specs.Length.{head-length, one-length, pair-length, tree-
 use Rattle.simulation.proofs.Finite.Sums.{sum-bound, sum-term, sum-none, sum-more, when-most}
 use Rattle.simulation.proofs.Finite.Tests.{and-left, and-right, and-both, same-eqb, any-some, some-any}
 use Rattle.simulation.proofs.Trees.Length.{pair-length-step}
-use Rattle.form.specs.Tables.{first-form, second-form, first-table, second-table, first-step, BothLoaded}
-use Rattle.form.proofs.FormLaws.{limits, sound, pairs-bound}
+use Rattle.form.specs.Tables.{first-form, first-table, contract-table, first-step, BothLoaded}
+use Rattle.form.proofs.FormLaws.{sound}
+use Rattle.form.proofs.Contract.{contract-few, contract-pairs}
 use Rattle.word.specs.Mask.{Test, member}
 use Rattle.relation.specs.Rows.{row-of}
 use Rattle.relate.specs.Ranked.{RanksRight}
@@ -48,7 +49,7 @@ set-small width lengths s X w h =
 
 -- the length of the children before i
 pub record LengthLoop (tables lengths targets sets : List ℕ) (len i : ℕ) : Type 0 where
-  pub is : len ≡ children-length (states-of (second-table tables)) lengths targets sets i
+  pub is : len ≡ children-length (states-of (contract-table tables)) lengths targets sets i
   pub inside : i ≤ length targets
 
 -- at first there is none
@@ -57,10 +58,10 @@ length-start tables lengths targets sets = record { is = sum-none _; inside = ze
 
 module _ {tables lengths targets sets : List ℕ} (g : ChildrenGiven tables lengths targets sets) (small : (i : ℕ) → getD lengths i 0 ≤ most) where
   abbrev width : ℕ
-  width = states-of (second-table tables)
+  width = states-of (contract-table tables)
 
   node-small : (i : ℕ) → set-length width lengths (getD targets i 0) (member (row-of sets i)) ≤ most-states * most
-  node-small i = set-small width lengths (getD targets i 0) (member (row-of sets i)) (limits (second-form tables) (g .loaded .second) .states-few) small
+  node-small i = set-small width lengths (getD targets i 0) (member (row-of sets i)) (contract-few tables (g .loaded)) small
 
   all-small : (n : ℕ) → n ≤ most-states → children-length width lengths targets sets n ≤ most-children
   all-small n h =
@@ -123,7 +124,7 @@ module _ {tables ranks lengths sets amounts : List ℕ} {s t : ℕ} (g : PairGiv
   M = first-table tables
 
   abbrev N : Table
-  N = second-table tables
+  N = contract-table tables
 
   module _ {j : ℕ} (w : Choice tables s t j) where
     -- the pair with its transition
@@ -209,16 +210,16 @@ module _ {tables ranks order : List ℕ} {n : ℕ} {lengths₀ sets₀ amounts�
     place-known = (omega (arith, place, o .fits), omega (arith, place, o .few))
 
     is-number : number tables (row tables p) (column tables p) ≡ p
-    is-number = div-add-mod' p (states-of (second-table tables))
+    is-number = div-add-mod' p (states-of (contract-table tables))
 
-    low : p < pairs (first-table tables) (second-table tables)
+    low : p < pairs (first-table tables) (contract-table tables)
     low = number-place tables p (o .at (i - 1) place .lost)
 
-    pub pair-noted : (choices : List ℕ) → pairs (first-table tables) (second-table tables) ≤ length choices → p < length choices
+    pub pair-noted : (choices : List ℕ) → pairs (first-table tables) (contract-table tables) ≤ length choices → p < length choices
     pair-noted choices room = omega (arith, low)
 
     pub pair-in : (p < length lengths) × (p < most-pairs)
-    pair-in = (omega (arith, low, l .given .room), omega (arith, low, pairs-bound (first-form tables) (second-form tables) (l .given .ranked .loaded .first) (l .given .ranked .loaded .second)))
+    pair-in = (omega (arith, low, l .given .room), omega (arith, low, contract-pairs tables (l .given .ranked .loaded)))
 
     here-given : PairGiven tables ranks lengths sets amounts (row tables p) (column tables p)
     here-given =
@@ -228,18 +229,18 @@ module _ {tables ranks order : List ℕ} {n : ℕ} {lengths₀ sets₀ amounts�
           lost = a .lost;
           below = λ j v b h.
               let q = a .below j v b h in
-              let c = below-lost tables (l .given .ranked .loaded .first) (l .given .ranked .loaded .second) (row tables p) (column tables p) (a .lost) j v b h .0 .right in
+              let c = below-lost tables (l .given .ranked .loaded) (row tables p) (column tables p) (a .lost) j v b h .0 .right in
               from-number tables (Holds tables lengths) _ v (getD order (q .0) 0) c (q .3) (l .done (q .0) (omega (arith, q .1)) (q .2));
         }
 
     -- that pair can be measured
-    pub measure-pair : {choices : List ℕ} → PairNoted tables order n choices → (width : ℕ) → width ≡ states-of (second-table tables)
+    pub measure-pair : {choices : List ℕ} → PairNoted tables order n choices → (width : ℕ) → width ≡ states-of (contract-table tables)
         → PairGiven tables ranks lengths sets amounts (p / width) (p % width) × Choice tables (p / width) (p % width) (getD choices p 0)
     measure-pair {choices} c width e =
         subst (λ (w : ℕ). PairGiven tables ranks lengths sets amounts (p / w) (p % w) × Choice tables (p / w) (p % w) (getD choices p 0)) (sym e) (here-given, c .at (i - 1) place)
 
     -- its length is noted
-    pub measure-next : (width r : ℕ) → width ≡ states-of (second-table tables) → r ≡ min most (pair-length (first-table tables) (second-table tables) (p / width) (p % width))
+    pub measure-next : (width r : ℕ) → width ≡ states-of (contract-table tables) → r ≡ min most (pair-length (first-table tables) (contract-table tables) (p / width) (p % width))
         → {sets′ amounts′ : List ℕ} → length sets′ ≡ length sets → length amounts′ ≡ length amounts
         → MeasureLoop tables ranks order n lengths₀ sets₀ amounts₀ (set lengths p r) sets′ amounts′ (i - 1)
     measure-next width r e er es ea =
@@ -257,14 +258,14 @@ module _ {tables ranks order : List ℕ} {n : ℕ} {lengths₀ sets₀ amounts�
             ap (λ (k : ℕ). getD (set lengths p r) k 0) is-number
             ∙ getD-set-same lengths p r 0 (pair-in .0)
             ∙ er
-            ∙ ap (λ (w : ℕ). min most (pair-length (first-table tables) (second-table tables) (p / w) (p % w))) e
+            ∙ ap (λ (w : ℕ). min most (pair-length (first-table tables) (contract-table tables) (p / w) (p % w))) e
 
         at : (k : ℕ) → i - 1 ≤ k → k < n → Dec (getD order k 0 ≡ p) → Holds tables (set lengths p r) (row tables (getD order k 0)) (column tables (getD order k 0))
         at k a b (yes q) = subst (λ (z : ℕ). Holds tables (set lengths p r) (row tables z) (column tables z)) (sym q) here
         at k a b (no d) =
             let z = getD order k 0 in
             let later : i ≤ k = omega (arith, other k d) in
-            getD-set-other lengths p (number tables (row tables z) (column tables z)) r 0 (λ q. d (sym (div-add-mod' z (states-of (second-table tables))) ∙ q))
+            getD-set-other lengths p (number tables (row tables z) (column tables z)) r 0 (λ q. d (sym (div-add-mod' z (states-of (contract-table tables))) ∙ q))
             ∙ l .done k later b
           where
             other : (k : ℕ) → (getD order k 0 ≡ p → ⊥) → k ≢ i - 1
@@ -311,24 +312,24 @@ module _ {tables order : List ℕ} {n : ℕ} (o : Ordered tables order n) where
 -- ---- the root
 
 -- what asking for the root's length rests on
-pub root-asked : {tables : List ℕ} (lengths : List ℕ) {s t : ℕ} → BothLoaded tables → pairs (first-table tables) (second-table tables) ≤ length lengths → Lost tables s t
+pub root-asked : {tables : List ℕ} (lengths : List ℕ) {s t : ℕ} → BothLoaded tables → pairs (first-table tables) (contract-table tables) ≤ length lengths → Lost tables s t
     → BothLoaded tables × (s < most-states) × (t < most-states) × (number tables s t < length lengths)
 root-asked lengths l room lost = let low = lost-low lost l in (l, low .0, low .1, omega (arith, lost-place lost))
 
 -- a pair below a pair is not longer
 child-short : (tables : List ℕ) → BothLoaded tables → (s t : ℕ) → Lost tables s t → (i v : ℕ)
-    → i < length (chosen (first-table tables) (second-table tables) s t .entries) → T (set-of (first-table tables) (second-table tables) s t i v)
-    → pair-length (first-table tables) (second-table tables) (target-at (chosen (first-table tables) (second-table tables) s t) i) v ≤ pair-length (first-table tables) (second-table tables) s t
+    → i < length (chosen (first-table tables) (contract-table tables) s t .entries) → T (set-of (first-table tables) (contract-table tables) s t i v)
+    → pair-length (first-table tables) (contract-table tables) (target-at (chosen (first-table tables) (contract-table tables) s t) i) v ≤ pair-length (first-table tables) (contract-table tables) s t
 unfolding one-length
 child-short tables l s t p i v b h =
     let M = first-table tables in
-    let N = second-table tables in
+    let N = contract-table tables in
     let parts : ℕ → ℕ = λ i. 4 + sum (states-of N) (λ v. when (set-of M N s t i v) (pair-length M N (target-at (chosen M N s t) i) v)) in
     omega (
       arith,
       pair-length-step M N (sound (first-form tables) (l .first)) s t (p .left) (p .right) (p .fell),
       sum-term (length (chosen M N s t .entries)) parts i b,
-      sum-term (states-of N) (λ v. when (set-of M N s t i v) (pair-length M N (target-at (chosen M N s t) i) v)) v (below-lost tables (l .first) (l .second) s t p i v b h .0 .right),
+      sum-term (states-of N) (λ v. when (set-of M N s t i v) (pair-length M N (target-at (chosen M N s t) i) v)) v (below-lost tables l s t p i v b h .0 .right),
       when-holds (set-of M N s t i v) (pair-length M N (target-at (chosen M N s t) i) v) h,
     )
   where
@@ -341,10 +342,10 @@ module _ {tables ranks choices lengths order : List ℕ} {n : ℕ} (g : RanksRig
   abbrev size-at : ℕ → ℕ → ℕ
   size-at u v = getD lengths (number tables u v) 0
 
-  listed-lost : (u v k : ℕ) → k < n → getD order k 0 ≡ number tables u v → v < states-of (second-table tables) → Lost tables u v
+  listed-lost : (u v k : ℕ) → k < n → getD order k 0 ≡ number tables u v → v < states-of (contract-table tables) → Lost tables u v
   listed-lost u v k b e c = from-number tables (Lost tables) u v (getD order k 0) c e (o .at k b .lost)
 
-  listed-holds : (u v k : ℕ) → k < n → getD order k 0 ≡ number tables u v → v < states-of (second-table tables) → Holds tables lengths u v
+  listed-holds : (u v k : ℕ) → k < n → getD order k 0 ≡ number tables u v → v < states-of (contract-table tables) → Holds tables lengths u v
   listed-holds u v k b e c = from-number tables (Holds tables lengths) u v (getD order k 0) c e (a .at k b)
 
   root-holds : Holds tables lengths s t
@@ -352,13 +353,13 @@ module _ {tables ranks choices lengths order : List ℕ} {n : ℕ} (g : RanksRig
 
   -- the pairs that are listed and short
   met : ℕ → ℕ → Bool
-  met u v = any n (λ k. eqb (getD order k 0) (number tables u v)) && (ltb v (states-of (second-table tables)) && ltb (size-at u v) longest)
+  met u v = any n (λ k. eqb (getD order k 0) (number tables u v)) && (ltb v (states-of (contract-table tables)) && ltb (size-at u v) longest)
 
   record Met (u v : ℕ) : Type 0 where
     place : ℕ
     listed : place < n
     is : getD order place 0 ≡ number tables u v
-    right : v < states-of (second-table tables)
+    right : v < states-of (contract-table tables)
     short : size-at u v < longest
 
   met-is : (u v : ℕ) → T (met u v) → Met u v
@@ -371,8 +372,8 @@ module _ {tables ranks choices lengths order : List ℕ} {n : ℕ} (g : RanksRig
         place = q .0;
         listed = q .1;
         is = eqb→eq (getD order (q .0) 0) (number tables u v) (q .2);
-        right = ltb→lt v (states-of (second-table tables)) (and-left (ltb v (states-of (second-table tables))) _ rest);
-        short = ltb→lt (size-at u v) longest (and-right (ltb v (states-of (second-table tables))) _ rest);
+        right = ltb→lt v (states-of (contract-table tables)) (and-left (ltb v (states-of (contract-table tables))) _ rest);
+        short = ltb→lt (size-at u v) longest (and-right (ltb v (states-of (contract-table tables))) _ rest);
       }
 
   is-met : (u v : ℕ) → Met u v → T (met u v)
@@ -380,7 +381,7 @@ module _ {tables ranks choices lengths order : List ℕ} {n : ℕ} (g : RanksRig
   is-met u v m =
       and-both (any n (λ k. eqb (getD order k 0) (number tables u v))) _
       (some-any n (λ k. eqb (getD order k 0) (number tables u v)) (m .place) (m .listed) (same-eqb (m .is)))
-      (and-both (ltb v (states-of (second-table tables))) _ (lt→ltb v (states-of (second-table tables)) (m .right)) (lt→ltb (size-at u v) longest (m .short)))
+      (and-both (ltb v (states-of (contract-table tables))) _ (lt→ltb v (states-of (contract-table tables)) (m .right)) (lt→ltb (size-at u v) longest (m .short)))
 
   measured : size-at s t < longest → Measured tables choices lengths s t
   measured short =
@@ -395,13 +396,13 @@ module _ {tables ranks choices lengths order : List ℕ} {n : ℕ} (g : RanksRig
         right = λ u v h. let m = met-is u v h in omega (arith, listed-holds u v (m .place) (m .listed) (m .is) (m .right), m .short);
       }
     where
-      next : (u v : ℕ) → Met u v → (i w : ℕ) → i < length (chosen (first-table tables) (second-table tables) u v .entries) → T (set-of (first-table tables) (second-table tables) u v i w)
-          → T (met (target-at (chosen (first-table tables) (second-table tables) u v) i) w)
+      next : (u v : ℕ) → Met u v → (i w : ℕ) → i < length (chosen (first-table tables) (contract-table tables) u v .entries) → T (set-of (first-table tables) (contract-table tables) u v i w)
+          → T (met (target-at (chosen (first-table tables) (contract-table tables) u v) i) w)
       next u v m i w b c =
           let M = first-table tables in
-          let N = second-table tables in
+          let N = contract-table tables in
           let p = listed-lost u v (m .place) (m .listed) (m .is) (m .right) in
-          let r = below-lost tables (g .loaded .first) (g .loaded .second) u v p i w b c .0 .right in
+          let r = below-lost tables (g .loaded) u v p i w b c .0 .right in
           let P : ℕ → ℕ → Type 0 = λ u v. (i w : ℕ) → i < length (chosen M N u v .entries) → T (set-of M N u v i w) → Later order n (m .place) (number tables (target-at (chosen M N u v) i) w) in
           let q = from-number tables P u v (getD order (m .place) 0) (m .right) (m .is) (o .at (m .place) (m .listed) .below) i w b c in
           let u′ = target-at (chosen M N u v) i in
@@ -424,6 +425,6 @@ module _ {tables ranks choices lengths order : List ℕ} {n : ℕ} (g : RanksRig
   tree-measured e = record { length = omega (arith, root-holds); measured = λ k. measured (omega arith) }
 
 -- a tree that is too long is measured no further
-pub tree-long : {tables choices lengths : List ℕ} {s t : ℕ} → longest < tree-length (first-table tables) (second-table tables) s t
+pub tree-long : {tables choices lengths : List ℕ} {s t : ℕ} → longest < tree-length (first-table tables) (contract-table tables) s t
     → TreeMeasured tables choices lengths s t (longest + 1)
 tree-long h = record { length = omega arith; measured = λ k. absurd (omega arith) }

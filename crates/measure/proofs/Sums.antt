@@ -11,7 +11,7 @@ use borrow.Author.Tests.{eq-eqb, ne-eqb}
 use Rattle.simulation.specs.Sum.{sum, when}
 use Rattle.simulation.specs.Table.{states-of}
 use Rattle.simulation.proofs.Finite.Sums.{sum-ext, sum-zero, sum-change}
-use Rattle.form.specs.Tables.{second-table}
+use Rattle.form.specs.Tables.{contract-table}
 use Rattle.word.specs.Mask.{Test, member, without-member, Lowest}
 use Rattle.word.proofs.Mask.{member-none}
 use Rattle.counting.proofs.Pairs.{member-holds, without-in}
@@ -33,7 +33,7 @@ sum-lowest n f X t lt l =
 
 -- the sum so far and the lengths of the members left are 1 and the lengths of all
 pub record SumLoop (tables lengths : List ℕ) (s members len left : ℕ) : Type 0 where
-  pub total : len + set-length (states-of (second-table tables)) lengths s (member left) ≡ 1 + set-length (states-of (second-table tables)) lengths s (member members)
+  pub total : len + set-length (states-of (contract-table tables)) lengths s (member left) ≡ 1 + set-length (states-of (contract-table tables)) lengths s (member members)
   pub kept : (t : ℕ) → T (member left t) → T (member members t)
 
 -- at first all are left
@@ -43,30 +43,30 @@ sum-start tables lengths s members = record { total = refl; kept = λ t h. h }
 module _ {tables lengths : List ℕ} {s members len left : ℕ} (g : SumGiven tables lengths s members) (l : SumLoop tables lengths s members len left)
     {t : ℕ} (low : Lowest (member left) t) where
   -- the lowest member left is a state, and its length can be added
-  pub sum-inside : t < states-of (second-table tables)
+  pub sum-inside : t < states-of (contract-table tables)
   sum-inside = g .inside t (l .kept t (member-holds low))
 
-  sum-turn : set-length (states-of (second-table tables)) lengths s (member left)
-      ≡ getD lengths (s * states-of (second-table tables) + t) 0 + set-length (states-of (second-table tables)) lengths s (without-member t (member left))
-  sum-turn = sum-lowest (states-of (second-table tables)) (λ k. getD lengths (s * states-of (second-table tables) + k) 0) (member left) t sum-inside low
+  sum-turn : set-length (states-of (contract-table tables)) lengths s (member left)
+      ≡ getD lengths (s * states-of (contract-table tables) + t) 0 + set-length (states-of (contract-table tables)) lengths s (without-member t (member left))
+  sum-turn = sum-lowest (states-of (contract-table tables)) (λ k. getD lengths (s * states-of (contract-table tables) + k) 0) (member left) t sum-inside low
 
-  pub sum-fits : (r : ℕ) → r ≡ getD lengths (s * states-of (second-table tables) + t) 0 → len + r ≤ 1 + set-length (states-of (second-table tables)) lengths s (member members)
+  pub sum-fits : (r : ℕ) → r ≡ getD lengths (s * states-of (contract-table tables) + t) 0 → len + r ≤ 1 + set-length (states-of (contract-table tables)) lengths s (member members)
   sum-fits r e = omega (arith, l .total, sum-turn)
 
   -- it is added and is no longer left
-  pub sum-next : (r : ℕ) {left′ : ℕ} → r ≡ getD lengths (s * states-of (second-table tables) + t) 0 → member left′ ≡ without-member t (member left)
+  pub sum-next : (r : ℕ) {left′ : ℕ} → r ≡ getD lengths (s * states-of (contract-table tables) + t) 0 → member left′ ≡ without-member t (member left)
       → SumLoop tables lengths s members (len + r) left′
   sum-next r {left′} e el =
       record {
-        total = omega (arith, l .total, sum-turn, ap (set-length (states-of (second-table tables)) lengths s) el);
+        total = omega (arith, l .total, sum-turn, ap (set-length (states-of (contract-table tables)) lengths s) el);
         kept = λ u h. l .kept u (without-in t left u el h);
       }
 
 -- when none is left, all are added
 pub sum-end : {tables lengths : List ℕ} {s members len left : ℕ} → SumLoop tables lengths s members len left → left ≡ 0
-    → len ≡ 1 + set-length (states-of (second-table tables)) lengths s (member members)
+    → len ≡ 1 + set-length (states-of (contract-table tables)) lengths s (member members)
 sum-end {tables} {lengths} {s} {left = left} l z =
-    let n = states-of (second-table tables) in
+    let n = states-of (contract-table tables) in
     let none : set-length n lengths s (member left) ≡ 0 =
     ap (λ (k : ℕ). set-length n lengths s (member k)) z ∙ sum-ext n _ (λ k. 0) (λ k _. ap (λ b. when b (getD lengths (s * n + k) 0)) (member-none k)) ∙ sum-zero n in
     omega (arith, l .total)

@@ -12,7 +12,7 @@ use Rattle.simulation.specs.Table.{target-at, states-of}
 use Rattle.simulation.specs.Round.{pairs}
 use Rattle.simulation.specs.Tree.{chosen, set-of}
 use Rattle.simulation.specs.Length.{pair-length, tree-length}
-use Rattle.form.specs.Tables.{first-table, second-table, BothLoaded}
+use Rattle.form.specs.Tables.{first-table, contract-table, BothLoaded}
 use Rattle.word.specs.Mask.{member}
 use Rattle.relation.specs.Rows.{row-of, height}
 use Rattle.relate.specs.Ranked.{RanksRight}
@@ -32,9 +32,9 @@ set-length width lengths s X = sum width (λ t. when (X t) (getD lengths (s * wi
 pub record SumGiven (tables lengths : List ℕ) (s members : ℕ) : Type 0 where
   pub loaded : BothLoaded tables
   pub low : s < most-states
-  pub inside : (t : ℕ) → T (member members t) → t < states-of (second-table tables)
-  pub room : s * states-of (second-table tables) + states-of (second-table tables) ≤ length lengths
-  pub small : 1 + set-length (states-of (second-table tables)) lengths s (member members) < 2 ^ 64
+  pub inside : (t : ℕ) → T (member members t) → t < states-of (contract-table tables)
+  pub room : s * states-of (contract-table tables) + states-of (contract-table tables) ≤ length lengths
+  pub small : 1 + set-length (states-of (contract-table tables)) lengths s (member members) < 2 ^ 64
 
 -- the bytes of a transition's children, from the lengths of pairs
 abbrev pub children-length : (width : ℕ) (lengths targets sets : List ℕ) → ℕ → ℕ
@@ -50,8 +50,8 @@ pub record ChildrenGiven (tables lengths targets sets : List ℕ) : Type 0 where
   pub few : length targets ≤ most-states
   pub words : length targets ≤ height sets
   pub low : (i : ℕ) → i < length targets → getD targets i 0 < most-states
-  pub inside : (i t : ℕ) → i < length targets → T (member (row-of sets i) t) → t < states-of (second-table tables)
-  pub room : (i : ℕ) → i < length targets → getD targets i 0 * states-of (second-table tables) + states-of (second-table tables) ≤ length lengths
+  pub inside : (i t : ℕ) → i < length targets → T (member (row-of sets i) t) → t < states-of (contract-table tables)
+  pub room : (i : ℕ) → i < length targets → getD targets i 0 * states-of (contract-table tables) + states-of (contract-table tables) ≤ length lengths
 
 module _ (tables : List ℕ) where
   -- the pair (s, t) is not kept, and the lists hold the transitions and the lengths of all pairs that its tree meets: a set of pairs that has with a pair all pairs below it
@@ -59,19 +59,19 @@ module _ (tables : List ℕ) where
     pub met : ℕ → ℕ → Bool
     pub here : T (met s t)
     pub lost : (u v : ℕ) → T (met u v) → Lost tables u v
-    pub below : (u v i w : ℕ) → T (met u v) → i < length (chosen (first-table tables) (second-table tables) u v .entries) → T (set-of (first-table tables) (second-table tables) u v i w)
-        → T (met (target-at (chosen (first-table tables) (second-table tables) u v) i) w)
-    pub choice : (u v : ℕ) → T (met u v) → Choice tables u v (getD choices (u * states-of (second-table tables) + v) 0)
-    pub right : (u v : ℕ) → T (met u v) → getD lengths (u * states-of (second-table tables) + v) 0 ≡ pair-length (first-table tables) (second-table tables) u v
+    pub below : (u v i w : ℕ) → T (met u v) → i < length (chosen (first-table tables) (contract-table tables) u v .entries) → T (set-of (first-table tables) (contract-table tables) u v i w)
+        → T (met (target-at (chosen (first-table tables) (contract-table tables) u v) i) w)
+    pub choice : (u v : ℕ) → T (met u v) → Choice tables u v (getD choices (u * states-of (contract-table tables) + v) 0)
+    pub right : (u v : ℕ) → T (met u v) → getD lengths (u * states-of (contract-table tables) + v) 0 ≡ pair-length (first-table tables) (contract-table tables) u v
 
   -- the list holds the length of the pair (s, t)
   abbrev pub Holds : (lengths : List ℕ) (s t : ℕ) → Type 0
-  Holds lengths s t = getD lengths (number tables s t) 0 ≡ min most (pair-length (first-table tables) (second-table tables) s t)
+  Holds lengths s t = getD lengths (number tables s t) 0 ≡ min most (pair-length (first-table tables) (contract-table tables) s t)
 
   -- what measuring rests on: a length for each pair, a set for each target of a transition
   pub record MeasureGiven (ranks lengths sets amounts : List ℕ) : Type 0 where
     pub ranked : RanksRight tables ranks
-    pub room : pairs (first-table tables) (second-table tables) ≤ length lengths
+    pub room : pairs (first-table tables) (contract-table tables) ≤ length lengths
     pub words : 2 * most-states ≤ height sets
     pub amounts-room : most-pairs ≤ length amounts
 
@@ -79,8 +79,8 @@ module _ (tables : List ℕ) where
   pub record PairGiven (ranks lengths sets amounts : List ℕ) (s t : ℕ) : Type 0 where
     pub given : MeasureGiven ranks lengths sets amounts
     pub lost : Lost tables s t
-    pub below : (i v : ℕ) → i < length (chosen (first-table tables) (second-table tables) s t .entries) → T (set-of (first-table tables) (second-table tables) s t i v)
-        → Holds lengths (target-at (chosen (first-table tables) (second-table tables) s t) i) v
+    pub below : (i v : ℕ) → i < length (chosen (first-table tables) (contract-table tables) s t .entries) → T (set-of (first-table tables) (contract-table tables) s t i v)
+        → Holds lengths (target-at (chosen (first-table tables) (contract-table tables) s t) i) v
 
   -- the list holds the lengths of the listed pairs
   pub record AllHold (order lengths : List ℕ) (n : ℕ) : Type 0 where
@@ -88,5 +88,5 @@ module _ (tables : List ℕ) where
 
   -- the tree's length, and the transitions and lengths of all pairs that it meets, if it is short enough
   pub record TreeMeasured (choices lengths : List ℕ) (s t len : ℕ) : Type 0 where
-    pub length : len ≡ min (longest + 1) (tree-length (first-table tables) (second-table tables) s t)
+    pub length : len ≡ min (longest + 1) (tree-length (first-table tables) (contract-table tables) s t)
     pub measured : len ≤ longest → Measured choices lengths s t

@@ -21,7 +21,7 @@ ghost use Rattle.simulation.specs.Round.{pairs};
 ghost use Rattle.simulation.specs.Length.{pair-length};
 ghost use Rattle.word.specs.Mask.{member};
 ghost use Rattle.set.specs.Words.{mask};
-ghost use Rattle.form.specs.Tables.{first-table, second-table, BothLoaded};
+ghost use Rattle.form.specs.Tables.{first-table, contract-table, BothLoaded};
 ghost use Rattle.relate.specs.Ranked.{RanksRight};
 ghost use Rattle.choice.specs.Choice.{Lost, Choice};
 ghost use Rattle.counting.specs.Pair.{number};
@@ -45,7 +45,7 @@ pub fn pair_length(tables: &[u16], lengths: &[u32], s: usize, t: usize) -> usize
 // How many bytes the node of a state and a set takes.
 pub fn node_length(tables: &[u16], lengths: &[u32], s: usize, members: Set) -> usize
     requires { ⌜ SumGiven (now tables) (now lengths) s (mask members) ⌝ }
-    ensures { λ r. ⌜ r ≡ 1 + set-length (states-of (second-table (now (tables .entry)))) (now (lengths .entry)) s (member (mask members)) ⌝ }
+    ensures { λ r. ⌜ r ≡ 1 + set-length (states-of (contract-table (now (tables .entry)))) (now (lengths .entry)) s (member (mask members)) ⌝ }
 {
     let mut len = 1;
     for w in 0..Set::WORDS {
@@ -62,7 +62,7 @@ pub fn node_length(tables: &[u16], lengths: &[u32], s: usize, members: Set) -> u
 // The bytes of a transition's children.
 fn children_length(tables: &[u16], lengths: &[u32], targets: &[u16], sets: &[Word]) -> usize
     requires { ⌜ ChildrenGiven (now tables) (now lengths) (now targets) (now sets) ⌝ }
-    ensures { λ r. ⌜ (r ≡ children-length (states-of (second-table (now (tables .entry)))) (now (lengths .entry)) (now (targets .entry)) (now (sets .entry))
+    ensures { λ r. ⌜ (r ≡ children-length (states-of (contract-table (now (tables .entry)))) (now (lengths .entry)) (now (targets .entry)) (now (sets .entry))
         (length (now (targets .entry)))) × (r ≤ most-children) ⌝ }
 {
     let mut len = 0;
@@ -86,7 +86,7 @@ fn measure_pair(
     amounts: &mut [u32],
 ) -> u32
     requires { ⌜ PairGiven (now tables) (now ranks) (now lengths) (now sets) (now amounts) s t × Choice (now tables) s t j ⌝ }
-    ensures { λ r. ⌜ r ≡ min most (pair-length (first-table (now (tables .entry))) (second-table (now (tables .entry))) s t) ⌝ }
+    ensures { λ r. ⌜ r ≡ min most (pair-length (first-table (now (tables .entry))) (contract-table (now (tables .entry))) s t) ⌝ }
 {
     let r = rank_at(tables, ranks, s, t);
     find_sets(tables, ranks, s, t, r, j, sets, amounts);
@@ -115,10 +115,10 @@ fn measure(
 )
     requires { ⌜ MeasureGiven (now tables) (now ranks) (now lengths) (now sets) (now amounts)
         × Ordered (now tables) (now order) (length (now order)) × PairNoted (now tables) (now order) (length (now order)) (now choices)
-        × (pairs (first-table (now tables)) (second-table (now tables)) ≤ length (now choices)) ⌝ }
+        × (pairs (first-table (now tables)) (contract-table (now tables)) ≤ length (now choices)) ⌝ }
     ensures { λ _. ⌜ AllHold (now (tables .entry)) (now (order .entry)) (now (lengths .exit)) (length (now (order .entry))) ⌝ }
 {
-    let width = tables::states(tables, Form::SECOND);
+    let width = tables::width(tables);
     let mut i = order.len();
     while 0 < i {
         i -= 1;
@@ -147,10 +147,10 @@ fn measure_all(
     lengths: &mut [u32],
     amounts: &mut [u32],
 )
-    requires { ⌜ RanksRight (now tables) (now ranks) × (pairs (first-table (now tables)) (second-table (now tables)) ≤ length (now lengths))
+    requires { ⌜ RanksRight (now tables) (now ranks) × (pairs (first-table (now tables)) (contract-table (now tables)) ≤ length (now lengths))
         × (most-pairs ≤ length (now amounts)) × Ordered (now tables) (now order) (length (now order))
         × PairNoted (now tables) (now order) (length (now order)) (now choices)
-        × (pairs (first-table (now tables)) (second-table (now tables)) ≤ length (now choices)) ⌝ }
+        × (pairs (first-table (now tables)) (contract-table (now tables)) ≤ length (now choices)) ⌝ }
     ensures { λ _. ⌜ AllHold (now (tables .entry)) (now (order .entry)) (now (lengths .exit)) (length (now (order .entry))) ⌝ }
 {
     let mut sets: [Word; 2 * Relation::WORDS] = [1; 2 * Relation::WORDS];
@@ -182,7 +182,7 @@ pub fn tree_length(
     amounts: &mut [u32],
 ) -> u32
     requires { ⌜ OrderGiven (now tables) (now ranks) (now order) (now choices) (now amounts) × Lost (now tables) s t
-        × (pairs (first-table (now tables)) (second-table (now tables)) ≤ length (now lengths)) ⌝ }
+        × (pairs (first-table (now tables)) (contract-table (now tables)) ≤ length (now lengths)) ⌝ }
     ensures { λ r. ⌜ TreeMeasured (now (tables .entry)) (now (choices .exit)) (now (lengths .exit)) s t r ⌝ }
 {
     let n = list(tables, ranks, s, t, order, choices, lengths, amounts);

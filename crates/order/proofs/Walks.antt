@@ -9,7 +9,7 @@ use native.Mathlib.Decide.{decLt, ℕ-discrete}
 use lib.Dec.{T, eqb→eq}
 use lib.ListN.{length}
 use Rattle.simulation.specs.Limits.{most-states}
-use Rattle.form.specs.Tables.{first-table, second-table}
+use Rattle.form.specs.Tables.{first-table, contract-table}
 use Rattle.simulation.specs.Round.{rank}
 use Rattle.simulation.proofs.Finite.Tests.{same-eqb}
 use Rattle.word.specs.Mask.{Test, member, only, without-member}
@@ -34,7 +34,7 @@ use Rattle.passing.proofs.Walks.{Held, held-same, held-next, still-given, none-
 -- those with a pair of the walk's rank that is to be passed are left
 pub record RankAt (tables ranks : List ℕ) (L₀ : Trail) (w₀ : Walk) (L : Trail) (w : Walk) (left : ℕ) : Type 0 where
   pub onward : Onward tables ranks L₀ w₀ L w
-  pub ahead : (s t : ℕ) → ToDo L s t → rank (first-table tables) (second-table tables) s t ≡ w .rank → T (member left s)
+  pub ahead : (s t : ℕ) → ToDo L s t → rank (first-table tables) (contract-table tables) s t ≡ w .rank → T (member left s)
 
 module _ {tables ranks : List ℕ} where
   -- at first all open rows are left
@@ -64,7 +64,7 @@ module _ {tables ranks : List ℕ} where
             ahead = λ u v q f.
                 let f′ = f ∙ p .passed .same-rank in
                 without-other left u e
-                (λ k. p .gone v (subst (λ (u : ℕ). ToDo L′ u v) k q) (ap (λ (u : ℕ). rank (first-table tables) (second-table tables) u v) (sym k) ∙ f′))
+                (λ k. p .gone v (subst (λ (u : ℕ). ToDo L′ u v) k q) (ap (λ (u : ℕ). rank (first-table tables) (contract-table tables) u v) (sym k) ∙ f′))
                 (o .ahead u v (p .passed .old u v q f′) f′);
           }
 
@@ -104,7 +104,7 @@ module _ {tables ranks : List ℕ} {L₀ : Trail} {w₀ : Walk} {L : Trail} {w :
               few = q .few;
               open-row = q .open-row;
               lost = q .lost;
-              most = λ s t k. let d : rank (first-table tables) (second-table tables) s t ≢ v .rank = λ e. p .gone s t k (e ∙ p .passed .same-rank) in omega (arith, q .most s t k, d);
+              most = λ s t k. let d : rank (first-table tables) (contract-table tables) s t ≢ v .rank = λ e. p .gone s t k (e ∙ p .passed .same-rank) in omega (arith, q .most s t k, d);
               at = q .at;
               high = λ k b. omega (arith, q .high k b);
               gone = q .gone;
@@ -178,7 +178,7 @@ module _ (room : List ℕ) (space : HasRoom room) (empty : (u : ℕ) → u < mos
 
 -- so a walk can begin at the root's rank, with nothing listed
 pub root-walking : {tables ranks order choices counts room amounts : List ℕ} {s t : ℕ} → OrderGiven tables ranks order choices amounts → Lost tables s t → RootAlone s t room → Tally tables counts 1
-    → (rows : Set) → member (mask rows) ≡ only s → {r a b : ℕ} → r ≡ rank (first-table tables) (second-table tables) s t
+    → (rows : Set) → member (mask rows) ≡ only s → {r a b : ℕ} → r ≡ rank (first-table tables) (contract-table tables) s t
     → Walking tables ranks (trail order choices counts room amounts) (record { s = a; t = b; rank = r; bytes = 1; count = 0; rows = rows })
 root-walking {tables = tables} {s = s} g lost o tally rows es e =
     record {
@@ -188,7 +188,7 @@ root-walking {tables = tables} {s = s} g lost o tally rows es e =
         few = zero-le;
         open-row = λ u v h. subst T (sym (ap (λ (X : Test). X u) es)) (same-eqb (o .alone u v h .0));
         lost = λ u v h. let k = o .alone u v h in subst (λ (u : ℕ). Lost tables u v) (sym (k .0)) (subst (λ (v : ℕ). Lost tables s v) (sym (k .1)) lost);
-        most = λ u v h. let k = o .alone u v h in omega (arith, e, ap₂ (rank (first-table tables) (second-table tables)) (k .0) (k .1));
+        most = λ u v h. let k = o .alone u v h in omega (arith, e, ap₂ (rank (first-table tables) (contract-table tables)) (k .0) (k .1));
         at = λ k b. absurd (omega arith);
         high = λ k b. absurd (omega arith);
         gone = λ k b. absurd (omega arith);

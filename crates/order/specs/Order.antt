@@ -7,7 +7,7 @@ use lib.ListN.{length, getD}
 use Rattle.simulation.specs.Limits.{most-pairs}
 use Rattle.simulation.specs.Round.{rank}
 use Rattle.simulation.specs.Length.{tree-length}
-use Rattle.form.specs.Tables.{first-table, second-table}
+use Rattle.form.specs.Tables.{first-table, contract-table}
 use Rattle.counting.specs.Pair.{number}
 use Rattle.counting.specs.Count.{longest, Tallied}
 use Rattle.passing.specs.declared.Walk.{Walk}
@@ -22,7 +22,7 @@ module _ (tables : List ℕ) where
 
   -- the pairs that the tree of (s, t) meets are listed and their transitions noted; none is if the tree is too long
   pub record PairsListed (s t : ℕ) (order choices : List ℕ) (n : ℕ) : Type 0 where
-    pub long : n ≡ 0 → longest < tree-length (first-table tables) (second-table tables) s t
+    pub long : n ≡ 0 → longest < tree-length (first-table tables) (contract-table tables) s t
     pub ordered : 0 < n → Ordered order n
     pub found : 0 < n → Found order n (number tables s t)
     pub noted : 0 < n → PairNoted tables order n choices
@@ -30,7 +30,7 @@ module _ (tables : List ℕ) where
   -- all pairs of the walk's rank are passed
   pub record RankPassed (L : Trail) (w : Walk) (L′ : Trail) (v : Walk) : Type 0 where
     pub passed : Passed tables L w L′ v
-    pub gone : (s t : ℕ) → ToDo L′ s t → rank (first-table tables) (second-table tables) s t ≡ w .rank → ⊥
+    pub gone : (s t : ℕ) → ToDo L′ s t → rank (first-table tables) (contract-table tables) s t ≡ w .rank → ⊥
 
   -- all pairs that were seen are passed and their transitions noted, unless the bytes counted are too many
   pub record RanksPassed (L : Trail) (w : Walk) (L′ : Trail) (v : Walk) : Type 0 where

@@ -17,7 +17,7 @@ use word::Word;
 ghost use Prim.Native.Nat.{_≤_};
 ghost use lib.ListN.{length};
 ghost use Rattle.simulation.specs.Round.{pairs};
-ghost use Rattle.form.specs.Tables.{first-table, second-table, BothLoaded};
+ghost use Rattle.form.specs.Tables.{first-table, contract-table, BothLoaded};
 ghost use Rattle.choice.specs.Choice.{Lost};
 ghost use Rattle.counting.specs.Count.{OneCounted};
 ghost use Rattle.passing.specs.Passing.{trail, OrderGiven, Walking};
@@ -82,10 +82,10 @@ fn pass_ranks(
 
 // Every count is 0 but that of the pair (s, t), which is 1.
 fn count_one(tables: &[u16], s: usize, t: usize, counts: &mut [u32])
-    requires { ⌜ BothLoaded (now tables) × Lost (now tables) s t × (pairs (first-table (now tables)) (second-table (now tables)) ≤ length (now counts)) ⌝ }
+    requires { ⌜ BothLoaded (now tables) × Lost (now tables) s t × (pairs (first-table (now tables)) (contract-table (now tables)) ≤ length (now counts)) ⌝ }
     ensures { λ _. ⌜ OneCounted (now (tables .entry)) s t (now (counts .exit)) ⌝ }
 {
-    let all = tables::states(tables, Form::FIRST) * tables::states(tables, Form::SECOND);
+    let all = tables::states(tables, Form::FIRST) * tables::width(tables);
     count::clear_counts(counts, all);
     let p = number(tables, s, t);
     counts[p] = 1;
@@ -104,7 +104,7 @@ pub fn list(
     amounts: &mut [u32],
 ) -> usize
     requires { ⌜ OrderGiven (now tables) (now ranks) (now order) (now choices) (now amounts) × Lost (now tables) s t
-        × (pairs (first-table (now tables)) (second-table (now tables)) ≤ length (now counts)) ⌝ }
+        × (pairs (first-table (now tables)) (contract-table (now tables)) ≤ length (now counts)) ⌝ }
     ensures { λ n. ⌜ PairsListed (now (tables .entry)) s t (now (order .exit)) (now (choices .exit)) n ⌝ }
 {
     let mut room: [Word; Room::WORDS] = [1; Room::WORDS];

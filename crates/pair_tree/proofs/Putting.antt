@@ -11,20 +11,20 @@ use Rattle.simulation.specs.Table.{Table, states-of}
 use Rattle.simulation.specs.Round.{pairs}
 use Rattle.simulation.specs.Length.{tree-length}
 use Rattle.simulation.proofs.Trees.Length.{tree-bytes-length as bytes-length}
-use Rattle.form.specs.Form.{Loaded, table-of}
-use Rattle.form.proofs.FormLaws.{pairs-bound}
+use Rattle.form.specs.Tables.{first-table, contract-table, BothLoaded}
+use Rattle.form.proofs.Contract.{contract-pairs}
 use Rattle.buffer.specs.Buffer.{over}
 use Rattle.counting.specs.Count.{longest}
 use Rattle.simulation.specs.Tree.{tree-bytes}
 use Rattle.pair_tree.specs.Put.{TreePut}
 
 -- the pairs, counted by the code
-module _ (f g : List ℕ) (lf : Loaded f) (lg : Loaded g) {p q : ℕ} (ep : p ≡ states-of (table-of f)) (eq : q ≡ states-of (table-of g)) where
-  pub count-is : p * q ≡ pairs (table-of f) (table-of g)
+module _ {tables : List ℕ} (l : BothLoaded tables) {p q : ℕ} (ep : p ≡ states-of (first-table tables)) (eq : q ≡ states-of (contract-table tables)) where
+  pub count-is : p * q ≡ pairs (first-table tables) (contract-table tables)
   count-is = ap₂ _*_ ep eq
 
   pub count-small : p * q ≤ most-pairs
-  count-small = omega (arith, count-is, pairs-bound f g lf lg)
+  count-small = omega (arith, count-is, contract-pairs tables l)
 
 -- the tree of a pair that is not kept, of the length that was measured
 module _ (M N : Table) (s t : ℕ) (b : t < states-of N) {len : ℕ} (e : len ≡ min (longest + 1) (tree-length M N s t)) where

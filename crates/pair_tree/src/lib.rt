@@ -10,7 +10,7 @@ ghost use Prim.Native.Nat.{_≤_, _<_};
 ghost use lib.ListN.{length};
 ghost use Rattle.simulation.specs.Limits.{few-pairs, most-pairs};
 ghost use Rattle.simulation.specs.Round.{pairs};
-ghost use Rattle.form.specs.Tables.{first-table, second-table};
+ghost use Rattle.form.specs.Tables.{first-table, contract-table};
 ghost use Rattle.relate.specs.Ranked.{RanksRight};
 ghost use Rattle.choice.specs.Choice.{Lost};
 ghost use Rattle.measure.specs.Lengths.{TreeMeasured};
@@ -28,13 +28,11 @@ fn tree_length(
     amounts: &mut [u32],
 ) -> u32
     requires { ⌜ RanksRight (now tables) (now ranks) × Lost (now tables) s t × (most-pairs ≤ length (now amounts))
-        × (pairs (first-table (now tables)) (second-table (now tables)) ≤ length (now choices))
-        × (pairs (first-table (now tables)) (second-table (now tables)) ≤ length (now lengths)) ⌝ }
+        × (pairs (first-table (now tables)) (contract-table (now tables)) ≤ length (now choices))
+        × (pairs (first-table (now tables)) (contract-table (now tables)) ≤ length (now lengths)) ⌝ }
     ensures { λ r. ⌜ TreeMeasured (now (tables .entry)) (now (choices .exit)) (now (lengths .exit)) s t r ⌝ }
 {
-    if tables::states(tables, Form::FIRST) * tables::states(tables, Form::SECOND)
-        <= Table::FEW_PAIRS
-    {
+    if tables::states(tables, Form::FIRST) * tables::width(tables) <= Table::FEW_PAIRS {
         let mut order = [1u16; Table::FEW_PAIRS];
         return measure::tree_length(tables, ranks, s, t, &mut order, choices, lengths, amounts);
     }
@@ -55,9 +53,9 @@ fn put_tree_in(
     buf: &mut [u8],
 ) -> u32
     requires { ⌜ RanksRight (now tables) (now ranks) × Lost (now tables) s t × (most-pairs ≤ length (now amounts))
-        × (pairs (first-table (now tables)) (second-table (now tables)) ≤ length (now choices))
-        × (pairs (first-table (now tables)) (second-table (now tables)) ≤ length (now lengths)) ⌝ }
-    ensures { λ len. ⌜ TreePut (first-table (now (tables .entry))) (second-table (now (tables .entry))) s t len (now (buf .entry)) (now (buf .exit)) ⌝ }
+        × (pairs (first-table (now tables)) (contract-table (now tables)) ≤ length (now choices))
+        × (pairs (first-table (now tables)) (contract-table (now tables)) ≤ length (now lengths)) ⌝ }
+    ensures { λ len. ⌜ TreePut (first-table (now (tables .entry))) (contract-table (now (tables .entry))) s t len (now (buf .entry)) (now (buf .exit)) ⌝ }
 {
     let len = tree_length(tables, ranks, s, t, choices, lengths, amounts);
     if LONGEST < len || buf.len() < len as usize {
@@ -77,8 +75,8 @@ fn put_tree_of_few(
     buf: &mut [u8],
 ) -> u32
     requires { ⌜ RanksRight (now tables) (now ranks) × Lost (now tables) s t × (most-pairs ≤ length (now amounts))
-        × (pairs (first-table (now tables)) (second-table (now tables)) ≤ few-pairs) ⌝ }
-    ensures { λ len. ⌜ TreePut (first-table (now (tables .entry))) (second-table (now (tables .entry))) s t len (now (buf .entry)) (now (buf .exit)) ⌝ }
+        × (pairs (first-table (now tables)) (contract-table (now tables)) ≤ few-pairs) ⌝ }
+    ensures { λ len. ⌜ TreePut (first-table (now (tables .entry))) (contract-table (now (tables .entry))) s t len (now (buf .entry)) (now (buf .exit)) ⌝ }
 {
     let mut choices = [1u8; Table::FEW_PAIRS];
     let mut lengths = [1u32; Table::FEW_PAIRS];
@@ -104,11 +102,9 @@ pub fn put_tree(
     buf: &mut [u8],
 ) -> u32
     requires { ⌜ RanksRight (now tables) (now ranks) × Lost (now tables) s t × (most-pairs ≤ length (now amounts)) ⌝ }
-    ensures { λ len. ⌜ TreePut (first-table (now (tables .entry))) (second-table (now (tables .entry))) s t len (now (buf .entry)) (now (buf .exit)) ⌝ }
+    ensures { λ len. ⌜ TreePut (first-table (now (tables .entry))) (contract-table (now (tables .entry))) s t len (now (buf .entry)) (now (buf .exit)) ⌝ }
 {
-    if tables::states(tables, Form::FIRST) * tables::states(tables, Form::SECOND)
-        <= Table::FEW_PAIRS
-    {
+    if tables::states(tables, Form::FIRST) * tables::width(tables) <= Table::FEW_PAIRS {
         return put_tree_of_few(tables, ranks, s, t, amounts, buf);
     }
     let mut choices = [1u8; Table::PAIRS];

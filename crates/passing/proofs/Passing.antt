@@ -12,13 +12,13 @@ use lib.Dec.{T, T-not, not-T, eqb, eqb→eq}
 use lib.ListN.{length, getD, set, length-set}
 use lib.Seq.{getD-set-same, getD-set-other}
 use Rattle.simulation.specs.Limits.{most-states, most-pairs}
-use Rattle.form.specs.Tables.{first-form, second-form, first-table, second-table, first-step}
+use Rattle.form.specs.Tables.{first-table, contract-table, first-step}
 use Rattle.simulation.specs.Sum.{any}
 use Rattle.simulation.specs.Table.{Table, targets, target-at}
 use Rattle.simulation.specs.Round.{pairs, rank}
 use Rattle.simulation.specs.Tree.{chosen, set-of}
 use Rattle.simulation.proofs.Finite.Tests.{or-cases, or-left, or-right, and-left, and-right, and-both, same-eqb, any-some, some-any}
-use Rattle.form.proofs.FormLaws.{pairs-bound}
+use Rattle.form.proofs.Contract.{contract-pairs}
 use Rattle.word.specs.Mask.{Test, member}
 use Rattle.set.specs.Words.{mask}
 use Rattle.relation.specs.Rows.{row-of, height}
@@ -45,7 +45,7 @@ module _ {tables ranks : List ℕ} {L : Trail} {w : Walk} (p : AtPair tables ran
   M = first-table tables
 
   abbrev N : Table
-  N = second-table tables
+  N = contract-table tables
 
   abbrev s : ℕ
   s = w .s
@@ -89,7 +89,7 @@ module _ {tables ranks : List ℕ} {L : Trail} {w : Walk} (p : AtPair tables ran
   here-room = omega (arith, few, given .room)
 
   pub here-count : n < most-pairs
-  here-count = omega (arith, few, pairs-bound (first-form tables) (second-form tables) (given .ranked .loaded .first) (given .ranked .loaded .second))
+  here-count = omega (arith, few, contract-pairs tables (given .ranked .loaded))
 
   pub here-noted : number tables s t < length (L .choices)
   here-noted = omega (arith, lost-place here-lost, given .notes)

@@ -8,7 +8,7 @@ use lib.Dec.{T, T-not, eqb}
 use lib.ListN.{length, getD}
 use Rattle.simulation.specs.Limits.{most-states}
 use Rattle.simulation.specs.Round.{rank}
-use Rattle.form.specs.Tables.{first-table, second-table}
+use Rattle.form.specs.Tables.{first-table, contract-table}
 use Rattle.simulation.proofs.Finite.Tests.{and-right, same-eqb}
 use Rattle.word.specs.Mask.{Test, member, without-member, Lowest}
 use Rattle.set.specs.Words.{word-of, mask, after, rest}
@@ -113,7 +113,7 @@ pub record RowAt (tables ranks : List ℕ) (r s : ℕ) (L₀ : Trail) (w₀ : Wa
   pub same-row : w .s ≡ s
   pub same-rank : w .rank ≡ r
   pub still : (t : ℕ) → T (member left t) → ToDo L s t
-  pub ahead : (t : ℕ) → ToDo L s t → rank (first-table tables) (second-table tables) s t ≡ r → T (member left t)
+  pub ahead : (t : ℕ) → ToDo L s t → rank (first-table tables) (contract-table tables) s t ≡ r → T (member left t)
 
 -- at first all are left
 pub row-start : {tables ranks : List ℕ} {L : Trail} {w : Walk} (pairs : Set) → Walking tables ranks L w → w .s < most-states → mask pairs ≡ row-of (L .room) (w .s)
@@ -152,28 +152,28 @@ module _ {tables ranks : List ℕ} {r s : ℕ} {L₀ : Trail} {w₀ : Walk} {L :
       low-lost = o .onward .passed .passing .lost s t here
 
       -- its rank is the number read at its place
-      pub low-rank : {k : ℕ} → k ≡ getD ranks (number tables s t) 0 → k ≡ rank (first-table tables) (second-table tables) s t
+      pub low-rank : {k : ℕ} → k ≡ getD ranks (number tables s t) 0 → k ≡ rank (first-table tables) (contract-table tables) s t
       low-rank e = e ∙ o .onward .given .given .ranked .ranked s t (low-lost .left) (low-lost .right)
 
       -- if that is the rank r, the walk is at it
-      pub low-pair : rank (first-table tables) (second-table tables) s t ≡ r → AtPair tables ranks L (walk-at w (w .s) t)
+      pub low-pair : rank (first-table tables) (contract-table tables) s t ≡ r → AtPair tables ranks L (walk-at w (w .s) t)
       low-pair e =
           record {
             walking = onward-at (o .onward) (w .s) t;
             here = subst (λ (u : ℕ). ToDo L u t) (sym (o .same-row)) here;
-            this-rank = o .same-rank ∙ sym e ∙ ap (λ (u : ℕ). rank (first-table tables) (second-table tables) u t) (sym (o .same-row));
+            this-rank = o .same-rank ∙ sym e ∙ ap (λ (u : ℕ). rank (first-table tables) (contract-table tables) u t) (sym (o .same-row));
           }
 
     -- it is no longer left: it has another rank, or it is passed
     module _ (t left′ : ℕ) (e : member left′ ≡ without-member t (member left)) where
-      pub row-over : (rank (first-table tables) (second-table tables) s t ≡ r → ⊥) → RowAt tables ranks r s L₀ w₀ L w left′
+      pub row-over : (rank (first-table tables) (contract-table tables) s t ≡ r → ⊥) → RowAt tables ranks r s L₀ w₀ L w left′
       row-over d =
           record {
             onward = o .onward;
             same-row = o .same-row;
             same-rank = o .same-rank;
             still = λ u h. o .still u (without-in t left u e h);
-            ahead = λ u h q. without-other left u e (λ k. d (ap (rank (first-table tables) (second-table tables) s) (sym k) ∙ q)) (o .ahead u h q);
+            ahead = λ u h q. without-other left u e (λ k. d (ap (rank (first-table tables) (contract-table tables) s) (sym k) ∙ q)) (o .ahead u h q);
           }
 
       pub row-next : {L′ : Trail} {v : Walk} → PairPassed tables L (walk-at w (w .s) t) L′ v → Held L L′ → RowAt tables ranks r s L₀ w₀ L′ v left′

@@ -12,7 +12,7 @@ use Rattle.simulation.specs.Sum.{any}
 use Rattle.simulation.specs.Table.{target-at}
 use Rattle.simulation.specs.Round.{pairs, rank}
 use Rattle.simulation.specs.Tree.{chosen, set-of}
-use Rattle.form.specs.Tables.{first-table, second-table, BothLoaded}
+use Rattle.form.specs.Tables.{first-table, contract-table, BothLoaded}
 use Rattle.word.specs.Mask.{member}
 use Rattle.set.specs.Words.{words, mask}
 use Rattle.relation.specs.Rows.{row-of, rows-in}
@@ -55,8 +55,8 @@ pub record NoteGiven (tables : List ℕ) (s t j n : ℕ) (order choices : List �
 -- what ordering rests on: room for each pair and its transition, and for a flow
 pub record OrderGiven (tables ranks order choices amounts : List ℕ) : Type 0 where
   pub ranked : RanksRight tables ranks
-  pub room : pairs (first-table tables) (second-table tables) ≤ length order
-  pub notes : pairs (first-table tables) (second-table tables) ≤ length choices
+  pub room : pairs (first-table tables) (contract-table tables) ≤ length order
+  pub notes : pairs (first-table tables) (contract-table tables) ≤ length choices
   pub amounts-room : most-pairs ≤ length amounts
 
 -- the lists that a walk works with: the pairs that are passed, the transition noted for each, how often each pair occurs, the rows to work with, and room for a flow
@@ -94,8 +94,8 @@ module _ (tables : List ℕ) where
   -- the pair with number p is not kept, and each pair below it passes the test
   pub record Above (passes : ℕ → ℕ → Type 0) (p : ℕ) : Type 0 where
     pub lost : Lost tables (row tables p) (column tables p)
-    pub below : (i v : ℕ) → i < length (chosen (first-table tables) (second-table tables) (row tables p) (column tables p) .entries) → T (set-of (first-table tables) (second-table tables) (row tables p) (column tables p) i v)
-        → passes (target-at (chosen (first-table tables) (second-table tables) (row tables p) (column tables p)) i) v
+    pub below : (i v : ℕ) → i < length (chosen (first-table tables) (contract-table tables) (row tables p) (column tables p) .entries) → T (set-of (first-table tables) (contract-table tables) (row tables p) (column tables p) i v)
+        → passes (target-at (chosen (first-table tables) (contract-table tables) (row tables p) (column tables p)) i) v
 
   -- the transitions chosen for the first n pairs of the list are noted
   pub record PairNoted (order : List ℕ) (n : ℕ) (choices : List ℕ) : Type 0 where
@@ -111,9 +111,9 @@ module _ (tables : List ℕ) where
     pub few : n ≤ most-pairs
     pub open-row : (s t : ℕ) → ToDo L s t → T (member rows s)
     pub lost : (s t : ℕ) → ToDo L s t → Lost tables s t
-    pub most : (s t : ℕ) → ToDo L s t → rank (first-table tables) (second-table tables) s t ≤ r
+    pub most : (s t : ℕ) → ToDo L s t → rank (first-table tables) (contract-table tables) s t ≤ r
     pub at : (k : ℕ) → k < n → Above (λ u v. ToDo L u v ⊎ Later (L .order) n k (number tables u v)) (getD (L .order) k 0)
-    pub high : (k : ℕ) → k < n → r ≤ rank (first-table tables) (second-table tables) (row tables (getD (L .order) k 0)) (column tables (getD (L .order) k 0))
+    pub high : (k : ℕ) → k < n → r ≤ rank (first-table tables) (contract-table tables) (row tables (getD (L .order) k 0)) (column tables (getD (L .order) k 0))
     pub gone : (k : ℕ) → k < n → ToDo L (row tables (getD (L .order) k 0)) (column tables (getD (L .order) k 0)) → ⊥
     pub once : (k l : ℕ) → k < l → l < n → getD (L .order) k 0 ≡ getD (L .order) l 0 → ⊥
     pub noted : PairNoted (L .order) n (L .choices)
@@ -128,13 +128,13 @@ module _ (tables : List ℕ) where
   pub record AtPair (ranks : List ℕ) (L : Trail) (w : Walk) : Type 0 where
     pub walking : Walking ranks L w
     pub here : ToDo L (w .s) (w .t)
-    pub this-rank : w .rank ≡ rank (first-table tables) (second-table tables) (w .s) (w .t)
+    pub this-rank : w .rank ≡ rank (first-table tables) (contract-table tables) (w .s) (w .t)
 
   -- the walk w went on to v, and its lists L became L′: some pairs of its rank are passed and counted, no pair of that rank is added, and every pair that was seen is seen still
   pub record Passed (L : Trail) (w : Walk) (L′ : Trail) (v : Walk) : Type 0 where
     pub passing : Passing (v .rank) L′ (v .count) (mask (v .rows))
     pub tallied : Tallied tables (L .counts) (w .bytes) (L′ .counts) (v .bytes)
-    pub old : (s t : ℕ) → ToDo L′ s t → rank (first-table tables) (second-table tables) s t ≡ w .rank → ToDo L s t
+    pub old : (s t : ℕ) → ToDo L′ s t → rank (first-table tables) (contract-table tables) s t ≡ w .rank → ToDo L s t
     pub stays : (s t : ℕ) → Seen L w s t → Seen L′ v s t
     pub same-rank : v .rank ≡ w .rank
 
@@ -148,4 +148,4 @@ module _ (tables : List ℕ) where
   -- all pairs of the walk's row and rank are passed
   pub record RowPassed (L : Trail) (w : Walk) (L′ : Trail) (v : Walk) : Type 0 where
     pub passed : Passed L w L′ v
-    pub gone : (t : ℕ) → ToDo L′ (w .s) t → rank (first-table tables) (second-table tables) (w .s) t ≡ w .rank → ⊥
+    pub gone : (t : ℕ) → ToDo L′ (w .s) t → rank (first-table tables) (contract-table tables) (w .s) t ≡ w .rank → ⊥

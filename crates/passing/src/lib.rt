@@ -142,7 +142,7 @@ pub fn pass_row(
 {
     let rank = w.rank;
     let s = w.s as usize;
-    let base = s * tables::states(tables, Form::SECOND);
+    let base = s * tables::width(tables);
     let pairs = rows::get(room, s);
     let mut v = w;
     for k in 0..Set::WORDS {

@@ -10,12 +10,13 @@ use lib.Dec.{T, eqb, eqb→eq}
 use lib.ListN.{length, getD, List·getD-append}
 use Rattle.simulation.specs.Fit.{Amounts}
 use Rattle.simulation.specs.Limits.{wide}
-use Rattle.simulation.specs.Table.{Table, states-of}
+use Rattle.simulation.specs.Table.{Table, states-of, steps}
 use Rattle.simulation.specs.Support.{supported}
 use Rattle.simulation.specs.Round.{rank, rank-list, maximum, zeros}
 use Rattle.simulation.specs.Demands.{Kept, Told, Demands as TheoryDemands}
 use Rattle.simulation.proofs.Simulation.RankList.{rank-list-length, rank-list-at}
 use Rattle.simulation.proofs.Demands as theory
+use Rattle.simulation.proofs.Complete.Tables.{complete-sound}
 use Rattle.simulation.proofs.Finite.Tests.{is-true, same-eqb}
 use Rattle.layout.specs.Bytes.{Decoded, refused, accepted, decode}
 use Rattle.form.proofs.Support.{supported-sound}
@@ -25,7 +26,7 @@ use Rattle.buffer.specs.Buffer.{over}
 use Rattle.compare.specs.Outcome.{Buffers, Result, success, outcome}
 use Rattle.compare.specs.Steps.{RightIfKept}
 use Rattle.simulation.specs.Tree.{tree-bytes}
-use Rattle.pod.specs.Check.{checked, RightFor, Checked}
+use Rattle.pod.specs.Check.{contract, checked, RightFor, Checked}
 use Rattle.compare.specs.Condition.{Condition, short-ranks, short-flow, short-tree, long-tree, result-of, Ready, outside, flow-fits, tree-fits}
 use Rattle.pod.specs.Demands.{Call, first-refused, second-refused, both-accepted, call-result, Demand1, Demand2, Demand3, rank-at}
 use Rattle.compare.proofs.Outcome.{met, some-condition, number-met}
@@ -38,12 +39,12 @@ module _ (first second : List ℕ) (s t : ℕ) (b : Buffers) where
   unfolding checked
   call-met x (first-refused e) = ap (λ (d : Decoded). checked d (decode second) s t b x) e
   call-met x (second-refused {M} e f) = ap (λ (d : Decoded). checked d (decode second) s t b x) e ∙ ap (λ (d : Decoded). checked (accepted M) d s t b x) f
-  call-met x (both-accepted {M} {N} e f c) = ap (λ (d : Decoded). checked d (decode second) s t b x) e ∙ ap (λ (d : Decoded). checked (accepted M) d s t b x) f ∙ met (supported M) (supported N) (flow-room M N s) s t b x c
+  call-met x (both-accepted {M} {N} e f c) = ap (λ (d : Decoded). checked d (decode second) s t b x) e ∙ ap (λ (d : Decoded). checked (accepted M) d s t b x) f ∙ met (supported M) (contract M N) (flow-room M N s) (length (steps N t)) s t b x c
 
   call-number : (x : ℕ → Amounts) {n k : ℕ} (c : Call first second s t b n k) → call-result first second s t b x c .answer .number ≡ n
   call-number x (first-refused e) = refl
   call-number x (second-refused e f) = refl
-  call-number x (both-accepted {M} {N} e f c) = number-met (supported M) (supported N) (flow-room M N s) s t b x c
+  call-number x (both-accepted {M} {N} e f c) = number-met (supported M) (contract M N) (flow-room M N s) (length (steps N t)) s t b x c
 
   call-table : (x : ℕ → Amounts) {n k : ℕ} (c : Call first second s t b n k) → call-result first second s t b x c .answer .table ≡ k
   unfolding success
@@ -63,7 +64,7 @@ module _ (first second : List ℕ) (s t : ℕ) (b : Buffers) where
       go : (d e : Decoded) → decode first ≡ d → decode second ≡ e → (n : ℕ) × (k : ℕ) × Call first second s t b n k
       go (refused k) e p q = (k, 1, first-refused p)
       go (accepted M) (refused k) p q = (k, 2, second-refused p q)
-      go (accepted M) (accepted N) p q = let c = some-condition (supported M) (supported N) (flow-room M N s) s t b x in (c .0, 0, both-accepted p q (c .1))
+      go (accepted M) (accepted N) p q = let c = some-condition (supported M) (contract M N) (flow-room M N s) (length (steps N t)) s t b x in (c .0, 0, both-accepted p q (c .1))
 
   pub demand-1 : (r : Result) → Checked first second s t b r → Demand1 first second s t b r
   demand-1 r h = record { amounts = h .amounts; exactly = exactly; gives = λ c. h .result ∙ call-met (h .amounts) c }
@@ -83,9 +84,9 @@ module _ (first second : List ℕ) (s t : ℕ) (b : Buffers) where
 
 -- ---- demands 2 and 3
 
-module _ (M N : Table) (room s t : ℕ) (b : Buffers) (x : ℕ → Amounts) where
+module _ (M N : Table) (room listed s t : ℕ) (b : Buffers) (x : ℕ → Amounts) where
   -- with room for the ranks they are filled in, whatever the number
-  pub ranks-filled : Ready M N s t b → {n : ℕ} (c : Condition M N room s t b n) → result-of M N room s t b x c .buffers .ranks ≡ over (rank-list M N) (b .ranks)
+  pub ranks-filled : Ready M N s t b → {n : ℕ} (c : Condition M N room s t b n) → result-of M N room s t b listed x c .buffers .ranks ≡ over (rank-list M N) (b .ranks)
   ranks-filled h (outside f) = absurd (f (h .0))
   ranks-filled h (short-ranks i l) = absurd (omega (arith, h .1))
   ranks-filled h (short-flow r k l) = refl
@@ -97,24 +98,24 @@ module _ (M N : Table) (room s t : ℕ) (b : Buffers) (x : ℕ → Amounts) wher
   -- what an accepted call answers
   pub record Accepted (r : Result) : Type 0 where
     pub answer : (n : ℕ) × (r .answer ≡ success M N s t n)
-    pub flow : Kept M N s t → (r .answer .written ≡ length (flow-bytes M N s t x)) × (r .buffers .flow ≡ over (flow-bytes M N s t x) (b .flow))
+    pub flow : Kept M N s t → (r .answer .written ≡ length (flow-bytes M N listed s t x)) × (r .buffers .flow ≡ over (flow-bytes M N listed s t x) (b .flow))
     pub tree : ¬ Kept M N s t → (r .answer .written ≡ length (tree-bytes M N s t)) × (r .buffers .tree ≡ over (tree-bytes M N s t) (b .tree))
 
-  accepted-by : {n : ℕ} (c : Condition M N room s t b n) → n ≡ 0 → Accepted (result-of M N room s t b x c)
+  accepted-by : {n : ℕ} (c : Condition M N room s t b n) → n ≡ 0 → Accepted (result-of M N room s t b listed x c)
   unfolding success
   accepted-by (outside f) e = absurd (omega arith)
   accepted-by (short-ranks i l) e = absurd (omega arith)
   accepted-by (short-flow r k l) e = absurd (omega arith)
   accepted-by (long-tree r k l) e = absurd (omega arith)
   accepted-by (short-tree r k l g) e = absurd (omega arith)
-  accepted-by (flow-fits r k l) e = record { answer = (length (flow-bytes M N s t x), refl); flow = λ _. (refl, refl); tree = λ f. absurd (f k) }
+  accepted-by (flow-fits r k l) e = record { answer = (length (flow-bytes M N listed s t x), refl); flow = λ _. (refl, refl); tree = λ f. absurd (f k) }
   accepted-by (tree-fits r k l g) e = record { answer = (length (tree-bytes M N s t), refl); flow = λ k′. absurd (k k′); tree = λ _. (refl, refl) }
 
-  accepted-call : (r : Result) → r ≡ outcome M N room s t b x → r .answer .number ≡ 0 → Accepted r
+  accepted-call : (r : Result) → r ≡ outcome M N room listed s t b x → r .answer .number ≡ 0 → Accepted r
   accepted-call r e z =
-      let c = some-condition M N room s t b x in
-      let g : r ≡ result-of M N room s t b x (c .1) = e ∙ met M N room s t b x (c .1) in
-      subst Accepted (sym g) (accepted-by (c .1) (sym (number-met M N room s t b x (c .1)) ∙ sym (ap (λ (r : Result). r .answer .number) g) ∙ z))
+      let c = some-condition M N room listed s t b x in
+      let g : r ≡ result-of M N room s t b listed x (c .1) = e ∙ met M N room listed s t b x (c .1) in
+      subst Accepted (sym g) (accepted-by (c .1) (sym (number-met M N room listed s t b x (c .1)) ∙ sym (ap (λ (r : Result). r .answer .number) g) ∙ z))
 
   success-rounds : (n : ℕ) → success M N s t n .rounds ≡ maximum (rank-list M N)
   unfolding success
@@ -138,17 +139,20 @@ module _ (M N : Table) (room s t : ℕ) (b : Buffers) (x : ℕ → Amounts) wher
 
 module _ (first second : List ℕ) (s t : ℕ) (b : Buffers) (r : Result) (h : Checked first second s t b r)
     (M N : Table) (e : decode first ≡ accepted M) (f : decode second ≡ accepted N) where
-  -- what is judged of them, and the room asked
+  -- what they are judged as, the room asked, and how many transitions are listed
   abbrev M′ : Table
   M′ = supported M
 
   abbrev N′ : Table
-  N′ = supported N
+  N′ = contract M N
 
   abbrev room : ℕ
   room = flow-room M N s
 
-  pub call-outcome : r ≡ outcome (supported M) (supported N) (flow-room M N s) s t b (h .amounts)
+  abbrev listed : ℕ
+  listed = length (steps N t)
+
+  pub call-outcome : r ≡ outcome (supported M) (contract M N) (flow-room M N s) (length (steps N t)) s t b (h .amounts)
   unfolding checked
   call-outcome = h .result ∙ ap (λ (d : Decoded). checked d (decode second) s t b (h .amounts)) e ∙ ap (λ (d : Decoded). checked (accepted M) d s t b (h .amounts)) f
 
@@ -159,33 +163,35 @@ module _ (first second : List ℕ) (s t : ℕ) (b : Buffers) (r : Result) (h : C
   module _ (ready : Ready M′ N′ s t b) where
     ranks-left : (u v : ℕ) → u < states-of M′ → v < states-of N′ → rank-at M′ N′ s t b r u v ≡ rank M′ N′ u v
     ranks-left u v a c =
-        let k = some-condition M′ N′ room s t b (h .amounts) in
+        let k = some-condition M′ N′ room listed s t b (h .amounts) in
         let g : r .buffers .ranks ≡ over (rank-list M′ N′) (b .ranks) =
-        ap (λ (r : Result). r .buffers .ranks) (call-outcome ∙ met M′ N′ room s t b (h .amounts) (k .1)) ∙ ranks-filled M′ N′ room s t b (h .amounts) ready (k .1) in
+        ap (λ (r : Result). r .buffers .ranks) (call-outcome ∙ met M′ N′ room listed s t b (h .amounts) (k .1)) ∙ ranks-filled M′ N′ room listed s t b (h .amounts) ready (k .1) in
         ap (λ (l : List ℕ). getD l (u * states-of N′ + v) 0) g
         ∙ List·getD-append (rank-list M′ N′) _ 0 (u * states-of N′ + v) (omega (arith, rank-list-length M′ N′, place-below u v (states-of M′) (states-of N′) a c))
         ∙ rank-list-at M′ N′ u v a c
 
     demands : TheoryDemands M′ N′
-    demands = theory.demands M′ N′ (supported-sound M (accepted-shaped wide first M e)) (supported-sound N (accepted-shaped wide second N f))
+    demands =
+        theory.demands M′ N′ (supported-sound M (accepted-shaped wide first M e))
+        (complete-sound (supported M .codes) (supported N) (supported-sound N (accepted-shaped wide second N f)))
 
-    accepted-here : r .answer .number ≡ 0 → Accepted M′ N′ room s t b (h .amounts) r
-    accepted-here = accepted-call M′ N′ room s t b (h .amounts) r call-outcome
+    accepted-here : r .answer .number ≡ 0 → Accepted M′ N′ room listed s t b (h .amounts) r
+    accepted-here = accepted-call M′ N′ room listed s t b (h .amounts) r call-outcome
 
-    pub demand-2 : Demand2 (supported M) (supported N) s t b r
+    pub demand-2 : Demand2 (supported M) (contract M N) s t b r (length (steps N t))
     demand-2 =
         record {
           weighted = demands .weighted;
           whole = demands .whole;
           ranks = ranks-left;
-          counted = λ z. let a = accepted-here z .answer in (ap (λ a. a .kept) (a .1) ∙ success-kept M′ N′ room s t b (h .amounts) (a .0), ap (λ a. a .rounds) (a .1) ∙ success-rounds M′ N′ room s t b (h .amounts) (a .0));
-          verdict = λ z. let a = accepted-here z .answer in let w = success-verdict M′ N′ room s t b (h .amounts) (a .0) in (λ v. w .0 (sym (ap (λ a. a .verdict) (a .1)) ∙ v), λ k. ap (λ a. a .verdict) (a .1) ∙ w .1 k);
+          counted = λ z. let a = accepted-here z .answer in (ap (λ a. a .kept) (a .1) ∙ success-kept M′ N′ room listed s t b (h .amounts) (a .0), ap (λ a. a .rounds) (a .1) ∙ success-rounds M′ N′ room listed s t b (h .amounts) (a .0));
+          verdict = λ z. let a = accepted-here z .answer in let w = success-verdict M′ N′ room listed s t b (h .amounts) (a .0) in (λ v. w .0 (sym (ap (λ a. a .verdict) (a .1)) ∙ v), λ k. ap (λ a. a .verdict) (a .1) ∙ w .1 k);
           flows = λ z k. let w = accepted-here z .flow k in (h .amounts, call-right (ready .0 .0) (ready .0 .1) k, w .0, w .1);
         }
 
-    pub demand-3 : Demand3 (supported M) (supported N) s t b r
+    pub demand-3 : Demand3 (supported M) (contract M N) s t b r
     demand-3 =
         record {
           told = λ u v a c. subst (λ (n : ℕ). Told M′ N′ u v n) (sym (ranks-left u v a c)) (demands .told u v a c);
-          shown = λ z k. let a = accepted-here z in let w = a .tree k in (ap (λ a. a .rank) (a .answer .1) ∙ success-rank M′ N′ room s t b (h .amounts) (a .answer .0), w .0, w .1);
+          shown = λ z k. let a = accepted-here z in let w = a .tree k in (ap (λ a. a .rank) (a .answer .1) ∙ success-rank M′ N′ room listed s t b (h .amounts) (a .answer .0), w .0, w .1);
         }

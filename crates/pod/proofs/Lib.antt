@@ -6,4 +6,5 @@ pub mod Enough
 pub mod Reading
 pub mod Widening
 pub mod Dropped
+pub mod Governed
 pub mod Examples

@@ -9,12 +9,13 @@ use lib.ListN.{length, replicate, take, drop, length-append, length-replicate}
 use lib.Seq.{take-at}
 use Rattle.simulation.specs.Table.{Table, states-of, steps, transition}
 use Rattle.simulation.specs.Support.{supported}
+use Rattle.simulation.specs.Complete.{contract-for}
 use Rattle.simulation.proofs.Finite.Sums.{sum-ext}
 use Rattle.simulation.proofs.Support.Tables.{supported-states, supported-length}
 use Rattle.buffer.specs.Buffer.{with-part}
 use Rattle.buffer.proofs.Parts.{part-size, part-is, part-before, part-length}
 use Rattle.form.specs.Form.{form-size, start-of, entries-listed, table-of, Loaded}
-use Rattle.form.specs.Tables.{first-form, second-form, first-table, second-table, BothLoaded}
+use Rattle.form.specs.Tables.{first-form, second-form, first-table, contract-table, listed-steps, BothLoaded}
 use Rattle.simulation.specs.Limits.{wide}
 use Rattle.layout.specs.Bytes.{Decoded, refused, accepted, decode, table, refusal as refused-by}
 use Rattle.loading.specs.Fill.{Loads, Reads}
@@ -23,7 +24,7 @@ use Rattle.flows.specs.Flow.{step-room, room-for, flow-room}
 use Rattle.witness.specs.Shown.{room-in, room-asked}
 use Rattle.compare.specs.Outcome.{Buffers, Result, left}
 use Rattle.answer.specs.Numbers.{refusal}
-use Rattle.pod.specs.Check.{checked, RightFor, Checked}
+use Rattle.pod.specs.Check.{contract, checked, RightFor, Checked}
 use Rattle.compare.specs.Steps.{Compared}
 use Rattle.compare.proofs.Comparing.{none-sent}
 use Rattle.answer.specs.declared.answer.Answer.{Answer}
@@ -51,7 +52,7 @@ module _ (first second : List ℕ) (s t : ℕ) (b : Buffers) where
         }
 
     -- two accepted tables
-    pub both-compared : {N : Table} {r : Result} → decode second ≡ accepted N → Compared (supported M) (supported N) (flow-room M N s) s t b r → Checked first second s t b r
+    pub both-compared : {N : Table} {r : Result} → decode second ≡ accepted N → Compared (supported M) (contract M N) (flow-room M N s) (length (steps N t)) s t b r → Checked first second s t b r
     unfolding checked RightFor
     both-compared {N} f h =
         record {
@@ -106,9 +107,10 @@ module _ {first f p : List ℕ} {m : ℕ} (a : Reads first f m p) (size : length
     pub both-loaded : m ≡ 0 → n ≡ 0 → BothLoaded tables
     both-loaded y z = record { first = subst Loaded (sym first-is) (loaded-by a y); second = subst Loaded (sym second-is) (loaded-by b z) }
 
-    pub forms-compared : {s t : ℕ} {l : Buffers} {r : Result} → Compared (first-table tables) (second-table tables) (room-asked tables s) s t l r
-        → Compared (table-of p) (table-of q) (room-in p q s) s t l r
-    forms-compared {s} {t} {l} {r} h = subst₂ (λ (f g : List ℕ). Compared (table-of f) (table-of g) (room-in f g s) s t l r) first-is second-is h
+    pub forms-compared : {s t : ℕ} {l : Buffers} {r : Result} → Compared (first-table tables) (contract-table tables) (room-asked tables s) (listed-steps tables t) s t l r
+        → Compared (table-of p) (contract-for (table-of p) (table-of q)) (room-in p q s) (length (steps (table-of q) t)) s t l r
+    forms-compared {s} {t} {l} {r} h =
+        subst₂ (λ (f g : List ℕ). Compared (table-of f) (contract-for (table-of f) (table-of g)) (room-in f g s) (length (steps (table-of g) t)) s t l r) first-is second-is h
 
 -- what a call does
 module _ (first second : List ℕ) (s t : ℕ) (b : Buffers) {f f′ : List ℕ} {m : ℕ} (p : Reads first f m f′) where
@@ -124,13 +126,13 @@ module _ (first second : List ℕ) (s t : ℕ) (b : Buffers) {f f′ : List ℕ}
         subst (λ (q : Answer). Checked first second s t b (left q b)) (sym e)
         (second-is-refused first second s t b (decode-accepted wide first first-passed) (decodes-refused second n (q .number) d))
 
-    pub read-compared : n ≡ 0 → {r : Result} → Compared (table-of f′) (table-of g′) (room-in f′ g′ s) s t b r → Checked first second s t b r
+    pub read-compared : n ≡ 0 → {r : Result} → Compared (table-of f′) (contract-for (table-of f′) (table-of g′)) (room-in f′ g′ s) (length (steps (table-of g′) t)) s t b r → Checked first second s t b r
     read-compared z {r} h =
         let passed : refused-by wide second ≡ 0 = sym (q .number) ∙ z in
-        let M = supported (table wide first) in
-        let N = supported (table wide second) in
+        let M = table wide first in
+        let N = table wide second in
         let one = p .accepted first-passed in
         let two = q .accepted passed in
         both-compared first second s t b (decode-accepted wide first first-passed) (decode-accepted wide second passed)
-        (subst (λ (n : ℕ). Compared M N n s t b r) (room-same one two s)
-        (subst₂ (λ (M N : Table). Compared M N (room-in f′ g′ s) s t b r) (one .same) (two .same) h))
+        (subst₂ (λ (n l : ℕ). Compared (supported M) (contract M N) n l s t b r) (room-same one two s) (supported-length N t)
+        (subst₂ (λ (M N : Table). Compared M (contract-for M N) (room-in f′ g′ s) (length (steps N t)) s t b r) (one .same) (two .same) h))

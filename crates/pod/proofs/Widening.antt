@@ -9,7 +9,7 @@ use lib.Dec.{ltb}
 use lib.ListN.{length, take, drop}
 use lib.Seq.{take-at}
 use Rattle.simulation.specs.Limits.{narrow}
-use Rattle.simulation.specs.Table.{Table}
+use Rattle.simulation.specs.Table.{Table, steps}
 use Rattle.simulation.specs.Support.{supported}
 use Rattle.layout.specs.Bytes.{Octets, Decoded, accepted, decode-as, decode}
 use Rattle.layout.specs.Encode.{encode}
@@ -19,7 +19,7 @@ use Rattle.widen.specs.Widened.{Widening, widened, widening}
 use Rattle.widen.proofs.Same.{widened-decodes}
 use Rattle.compare.specs.Outcome.{Buffers, Result}
 use Rattle.compare.specs.Condition.{Ready}
-use Rattle.pod.specs.Check.{Checked}
+use Rattle.pod.specs.Check.{contract, Checked}
 use Rattle.pod.specs.Demands.{Demand2, Demand3}
 use Rattle.pod.proofs.Demands.{demand-2, demand-3}
 
@@ -47,12 +47,12 @@ module _ (old out : List ℕ) (octets : Octets old) (M : Table) (e : decode-as n
 
   -- ranks, verdict, flows and trees of a check with them are those of the old table
   module _ (other : List ℕ) (N : Table) (f : decode other ≡ accepted N) (s t : ℕ) (b : Buffers) (r : Result) where
-    pub widened-first : Checked (widened-bytes old out) other s t b r → Ready (supported M) (supported N) s t b
-        → Demand2 (supported M) (supported N) s t b r × Demand3 (supported M) (supported N) s t b r
+    pub widened-first : Checked (widened-bytes old out) other s t b r → Ready (supported M) (contract M N) s t b
+        → Demand2 (supported M) (contract M N) s t b r (length (steps N t)) × Demand3 (supported M) (contract M N) s t b r
     widened-first h ready =
         (demand-2 (widened-bytes old out) other s t b r h M N holds-the-same f ready, demand-3 (widened-bytes old out) other s t b r h M N holds-the-same f ready)
 
-    pub widened-second : Checked other (widened-bytes old out) s t b r → Ready (supported N) (supported M) s t b
-        → Demand2 (supported N) (supported M) s t b r × Demand3 (supported N) (supported M) s t b r
+    pub widened-second : Checked other (widened-bytes old out) s t b r → Ready (supported N) (contract N M) s t b
+        → Demand2 (supported N) (contract N M) s t b r (length (steps M t)) × Demand3 (supported N) (contract N M) s t b r
     widened-second h ready =
         (demand-2 other (widened-bytes old out) s t b r h N M f holds-the-same ready, demand-3 other (widened-bytes old out) s t b r h N M f holds-the-same ready)

@@ -3,13 +3,14 @@
 use mathlib.Core.Path.{_≡_}
 use mathlib.Core.Bool.{cond}
 use mathlib.Core.List.{List}
-use Prim.Native.Nat.{ℕ, _+_, _≤_, _<_}
+use Prim.Native.Nat.{ℕ, _+_, _≤_}
 use lib.Dec.{leb}
 use lib.ListN.{length}
 use Rattle.simulation.specs.Fit.{Amounts}
 use Rattle.simulation.specs.Limits.{wide, most-states}
-use Rattle.simulation.specs.Table.{Table, states-of}
+use Rattle.simulation.specs.Table.{Table, states-of, steps}
 use Rattle.simulation.specs.Support.{supported}
+use Rattle.simulation.specs.Complete.{complete, contract-for}
 use Rattle.layout.specs.Bytes.{states-at, states, Decoded, refused, accepted, decode}
 use Rattle.flows.specs.Flow.{room-for, flow-room}
 use Rattle.compare.specs.Outcome.{Buffers, Result, outcome}
@@ -17,20 +18,24 @@ use Rattle.compare.specs.Steps.{RightIfKept}
 use Rattle.answer.specs.Numbers.{refusal}
 use Rattle.answer.specs.declared.answer.Answer.{Answer}
 
--- a call on any bytes: the first table goes before the second. Two accepted tables are judged without their entries of weight 0 (`supported`);
--- the room asked of a flow buffer alone counts all entries
+-- two accepted tables are judged without their entries of weight 0 (`supported`), and this is what M is judged against
+abbrev pub contract : (M N : Table) → Table
+contract M N = contract-for (supported M) (supported N)
+
+-- a call on any bytes: the first table goes before the second. The room asked of a flow buffer alone counts all entries; a flow alone tells the
+-- transitions that N lists from those that complete it
 unfoldable pub checked : Decoded → Decoded → (s t : ℕ) → Buffers → (ℕ → Amounts) → Result
-unfolding outcome supported room-for
+unfolding outcome supported complete room-for
 checked (refused k) d s t b x = record { answer = refusal k 1 0; buffers = b }
 checked (accepted M) (refused k) s t b x = record { answer = refusal k 2 0; buffers = b }
-checked (accepted M) (accepted N) s t b x = outcome (supported M) (supported N) (flow-room M N s) s t b x
+checked (accepted M) (accepted N) s t b x = outcome (supported M) (contract M N) (flow-room M N s) (length (steps N t)) s t b x
 
 -- the amounts of a flow are right, where there is a flow to write
 unfoldable pub RightFor : Decoded → Decoded → (s t : ℕ) → (ℕ → Amounts) → Type 0
-unfolding supported
+unfolding supported complete
 RightFor (refused k) d s t x = Unit {0}
 RightFor (accepted M) (refused k) s t x = Unit {0}
-RightFor (accepted M) (accepted N) s t x = RightIfKept (supported M) (supported N) s t x
+RightFor (accepted M) (accepted N) s t x = RightIfKept (supported M) (contract M N) s t x
 
 -- THE CONTRACT of `check`: from the bytes of the two tables, the chosen pair and the buffers as lent, the answer and the buffers as left.
 -- Free are the amounts of a flow only, and they are right.

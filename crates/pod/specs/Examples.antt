@@ -1,4 +1,5 @@
--- The calls that 01 marks to be proved, as rows of one table: what goes in and what must come out; and some with entries of weight 0 (02, E2).
+-- The calls that 01 marks to be proved, as rows of one table: what goes in and what must come out; some with entries of weight 0 (02, E2);
+-- and some with codes that only one of the tables lists (02, E3).
 -- proofs/Examples covers them all.
 -- Assumes nothing.
 use mathlib.Core.Path.{_≡_}
@@ -119,6 +120,42 @@ watched-short = call (watched 1) (watched 3) 0 0 9 57 0 (refusal 21 0 58) (lent 
 
 abbrev pub watched-rows : List Row
 watched-rows = watched-first ∷ watched-second ∷ watched-flow ∷ watched-short ∷ []
+
+-- one state and the code 0A: taken back to the state, and listed alone
+abbrev pub display : List ℕ
+display = 1 ∷ 0 ∷ 0x0A ∷ 0 ∷ 1 ∷ 1 ∷ 1 ∷ 0 ∷ 0x0A ∷ 0 ∷ 1 ∷ 1 ∷ 0 ∷ 0 ∷ 1 ∷ 0 ∷ []
+
+abbrev pub listing : List ℕ
+listing = 1 ∷ 0 ∷ 0x0A ∷ 0 ∷ 1 ∷ 0 ∷ 0 ∷ 0 ∷ 0 ∷ 0 ∷ []
+
+-- by 14 to itself and to a state that has 0A
+abbrev pub later : List ℕ
+later = 2 ∷ 0 ∷ 0x0A ∷ 0 ∷ 0x14 ∷ 0 ∷ 2 ∷ 1 ∷ 1 ∷ 2 ∷ 0 ∷ 0x14 ∷ 0 ∷ 2 ∷ 0x0A ∷ 0 ∷ 1 ∷ 3 ∷ 0 ∷ 0 ∷ 1 ∷ 0 ∷ 1 ∷ 2 ∷ 0 ∷ 1 ∷ 1 ∷ 0 ∷ []
+
+-- one transition, place 255, one record: (0, 0) 1
+abbrev pub flow-alone : List ℕ
+flow-alone = 1 ∷ 255 ∷ 1 ∷ 0 ∷ 0 ∷ 0 ∷ 1 ∷ 0 ∷ 0 ∷ 0 ∷ []
+
+-- a code that the second table does not list, and one that it lists and does not take; one that only the second lists; a tree over the added transition
+abbrev pub alone-fits : Row
+alone-fits = call display lone 0 0 1 10 0 (answered 0 1 1 0 10) (lent (0 ∷ []) flow-alone [])
+
+abbrev pub alone-short : Row
+alone-short = call display lone 0 0 1 9 0 (refusal 21 0 10) (lent (0 ∷ []) (replicate 9 7) [])
+
+abbrev pub not-taken : Row
+not-taken = call display listing 0 0 1 0 8 (answered 1 0 0 1 8) (lent (1 ∷ []) [] (1 ∷ 10 ∷ 0 ∷ 1 ∷ 0 ∷ 1 ∷ 0 ∷ 0 ∷ []))
+
+abbrev pub second-only : Row
+second-only = call lone listing 0 0 1 1 0 (answered 0 1 1 0 1) (lent (0 ∷ []) (0 ∷ []) [])
+
+abbrev pub over-added : Row
+over-added =
+    call later listing 0 0 2 0 19 (answered 2 0 0 2 19)
+    (lent (2 ∷ 1 ∷ []) [] (1 ∷ 20 ∷ 0 ∷ 2 ∷ 0 ∷ 1 ∷ 0 ∷ 0 ∷ 1 ∷ 2 ∷ 0 ∷ 1 ∷ 10 ∷ 0 ∷ 1 ∷ 1 ∷ 1 ∷ 0 ∷ 0 ∷ []))
+
+abbrev pub partial-rows : List Row
+partial-rows = alone-fits ∷ alone-short ∷ not-taken ∷ second-only ∷ over-added ∷ []
 
 -- every result that the contract allows is the row's
 abbrev pub Covered : Row → Type 0

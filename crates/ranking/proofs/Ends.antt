@@ -15,7 +15,7 @@ use Rattle.simulation.specs.Round.{pairs}
 use Rattle.word.specs.Mask.{both, up-to}
 use Rattle.relation.specs.Related.{holds, pairs-of}
 use Rattle.relation.proofs.Relations.{pairs-most}
-use Rattle.form.specs.Tables.{first-table, second-table}
+use Rattle.form.specs.Tables.{first-table, contract-table}
 use Rattle.rounds.specs.Rounds.{After}
 use Rattle.rounds.specs.Turns.{Refined}
 use Rattle.rounds.proofs.RoundLaws.{begins}
@@ -55,11 +55,11 @@ pub kept-few : (rows : List ℕ) (n : ℕ) {k : ℕ} → n ≤ most-states → k
 kept-few rows n a e = omega (arith, pairs-most (holds rows) n)
 
 -- the answer
-pub filled : (tables rows : List ℕ) {p k rounds : ℕ} {old new : List ℕ} → states-of (second-table tables) ≤ most-states
-    → pairs (first-table tables) (second-table tables) ≤ length old → length new ≡ length old → p ≡ states-of (first-table tables) → Refined (first-table tables) (second-table tables) old new rows rounds → k ≡ pairs-of p (holds rows) → RanksFilled tables old new rows rounds k
+pub filled : (tables rows : List ℕ) {p k rounds : ℕ} {old new : List ℕ} → states-of (contract-table tables) ≤ most-states
+    → pairs (first-table tables) (contract-table tables) ≤ length old → length new ≡ length old → p ≡ states-of (first-table tables) → Refined (first-table tables) (contract-table tables) old new rows rounds → k ≡ pairs-of p (holds rows) → RanksFilled tables old new rows rounds k
 filled tables rows {old = old} {new = new} few room same u f e =
     let M = first-table tables in
-    let N = second-table tables in
+    let N = contract-table tables in
     record {
       ranks-are = ranks-list M N new old room same (f .ranks-are) (f .beyond);
       rows-are = kept-round M N rows (f .rows-are) (f .columns);

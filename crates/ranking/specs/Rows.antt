@@ -11,7 +11,7 @@ use Rattle.buffer.specs.Buffer.{over}
 use Rattle.relation.specs.Rows.{height}
 use Rattle.relation.specs.Related.{holds}
 use Rattle.form.specs.Form.{transitions-of}
-use Rattle.form.specs.Tables.{first-form, first-table, second-table, BothLoaded}
+use Rattle.form.specs.Tables.{first-form, first-table, contract-table, BothLoaded}
 use Rattle.decision.specs.Fitting.{relation-of}
 use Rattle.links.specs.Places.{HasSets, HasMarks}
 use Rattle.rounds.specs.Turns.{Work}
@@ -29,7 +29,7 @@ pub record Open (rows : List ℕ) : Type 0 where
 -- what a ranking starts from: two tables, a rank for each pair, all pairs in the rows, room for a flow
 pub record Ranking (tables ranks rows amounts : List ℕ) : Type 0 where
   pub loaded : BothLoaded tables
-  pub ranks-room : pairs (first-table tables) (second-table tables) ≤ length ranks
+  pub ranks-room : pairs (first-table tables) (contract-table tables) ≤ length ranks
   pub rows-open : Open rows
   pub amounts-room : most-pairs ≤ length amounts
 
@@ -45,7 +45,7 @@ pub record Unranked (tables : List ℕ) (W : Work) : Type 0 where
 
 -- what a call fills in and reports: the ranks in their order over the start of the list, the kept pairs in the rows, the count of rounds, the count of kept pairs
 pub record RanksFilled (tables old new rows : List ℕ) (rounds kept : ℕ) : Type 0 where
-  pub ranks-are : new ≡ over (rank-list (first-table tables) (second-table tables)) old
-  pub rows-are : relation-of tables rows ≡ round (first-table tables) (second-table tables) (pairs (first-table tables) (second-table tables))
-  pub rounds-are : rounds ≡ maximum (rank-list (first-table tables) (second-table tables))
-  pub kept-are : kept ≡ zeros (rank-list (first-table tables) (second-table tables))
+  pub ranks-are : new ≡ over (rank-list (first-table tables) (contract-table tables)) old
+  pub rows-are : relation-of tables rows ≡ round (first-table tables) (contract-table tables) (pairs (first-table tables) (contract-table tables))
+  pub rounds-are : rounds ≡ maximum (rank-list (first-table tables) (contract-table tables))
+  pub kept-are : kept ≡ zeros (rank-list (first-table tables) (contract-table tables))

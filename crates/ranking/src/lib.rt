@@ -14,7 +14,7 @@ ghost use Rattle.word.specs.Mask.{both, up-to};
 ghost use Rattle.relation.specs.Rows.{height};
 ghost use Rattle.relation.specs.Related.{holds};
 ghost use Rattle.form.specs.Form.{transitions-of};
-ghost use Rattle.form.specs.Tables.{first-form, first-table, second-table};
+ghost use Rattle.form.specs.Tables.{first-form, first-table, contract-table};
 ghost use Rattle.links.specs.Places.{HasSets, HasMarks};
 ghost use Rattle.rounds.specs.Turns.{work, Refined};
 ghost use Rattle.ranking.specs.Rows.{Zeroed, Unranked, Ranking, RanksFilled};
@@ -91,11 +91,11 @@ fn fill_ranks(
     amounts: &mut [u32],
 ) -> u16
     requires { ⌜ Unranked (now tables) (work (now ranks) (now sets) (now rows) (now marks) (now tried) (now amounts)) ⌝ }
-    ensures { λ r. ⌜ Refined (first-table (now (tables .entry))) (second-table (now (tables .entry)))
+    ensures { λ r. ⌜ Refined (first-table (now (tables .entry))) (contract-table (now (tables .entry)))
         (now (ranks .entry)) (now (ranks .exit)) (now (rows .exit)) r ⌝ }
 {
     let p = tables::states(tables, Form::FIRST);
-    let q = tables::states(tables, Form::SECOND);
+    let q = tables::width(tables);
     clear_ranks(ranks, p * q);
     narrow(rows, p, q);
     links::fill_sets(tables, sets);

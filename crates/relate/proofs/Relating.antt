@@ -14,8 +14,9 @@ use Rattle.relation.specs.Related.{holds}
 use Rattle.relate.specs.Rows.{Indexed, Rows}
 use Rattle.relate.proofs.Laws.{indexed, rows-round}
 use Rattle.form.specs.Form.{transitions-of}
-use Rattle.form.specs.Tables.{first-form, second-form, first-table, second-table, first-step, second-step}
+use Rattle.form.specs.Tables.{first-form, second-form, first-table, contract-table, first-step, second-step}
 use Rattle.form.proofs.FormLaws.{limited-at, targets-length}
+use Rattle.form.proofs.Contract.{contract-states}
 use Rattle.matrix.specs.Problem.{Given}
 use Rattle.relate.specs.Ranked.{RanksRight}
 use Rattle.relate.proofs.Places.{few-places, targets-count, target-state, weights-count, weights-positive}
@@ -25,13 +26,17 @@ module _ {tables ranks : List ℕ} (j k : ℕ) (g : RanksRight tables ranks) (fr
   M = first-table tables
 
   abbrev N : Table
-  N = second-table tables
+  N = contract-table tables
 
   abbrev m : Transition
   m = first-step tables j
 
   abbrev n : Transition
   n = second-step tables k
+
+  -- a target of the second table is a state of the contract
+  contract-state : (nt : List ℕ) → nt ≡ targets n → (i : ℕ) → i < length nt → getD nt i 0 < states-of N
+  contract-state nt en i b = omega (arith, contract-states tables, target-state (second-form tables) k (g .loaded .second) from-second nt en i b)
 
   -- what the rows ask
   module _ {mt nt : List ℕ} (em : mt ≡ targets m) (en : nt ≡ targets n) where
@@ -42,7 +47,7 @@ module _ {tables ranks : List ℕ} (j k : ℕ) (g : RanksRight tables ranks) (fr
       omega (arith, ap length em),
       λ i lt.
           subst (λ (d : ℕ). Indexed ranks d (getD mt i 0) nt) (sym ew)
-          (indexed M N ranks (g .ranked) (g .enough) (getD mt i 0) nt (target-state (first-form tables) j (g .loaded .first) from-first mt em i lt) (target-state (second-form tables) k (g .loaded .second) from-second nt en)),
+          (indexed M N ranks (g .ranked) (g .enough) (getD mt i 0) nt (target-state (first-form tables) j (g .loaded .first) from-first mt em i lt) (contract-state nt en)),
     )
 
     pub rows-found : {width r : ℕ} {rel rel′ : List ℕ} → width ≡ states-of N → Rows ranks width r mt nt rel rel′ → Rows ranks (states-of N) r (targets m) (targets n) rel rel′
@@ -70,7 +75,7 @@ module _ {tables ranks : List ℕ} (j k : ℕ) (g : RanksRight tables ranks) (fr
   first-states = target-state (first-form tables) j (g .loaded .first) from-first (targets m) refl
 
   second-states : (i : ℕ) → i < length (targets n) → getD (targets n) i 0 < states-of N
-  second-states = target-state (second-form tables) k (g .loaded .second) from-second (targets n) refl
+  second-states = contract-state (targets n) refl
 
   module _ {rel rel′ : List ℕ} where
     pub related-round : (r : ℕ) → 0 < r → Rows ranks (states-of N) r (targets m) (targets n) rel rel′

@@ -3,7 +3,7 @@
 use mathlib.Core.Path.{_≡_, sym, ap, ap₂, _∙_, subst}
 use mathlib.Core.Bool.{Bool, true, false, cond, not, _&&_, true≢false}
 use mathlib.Core.List.{List}
-use mathlib.Core.Logic.{_≢_}
+use mathlib.Core.Logic.{_≢_, inl, inr}
 use Prim.Native.Nat.{ℕ, suc, _+_, _*_, _≤_, _<_}
 use native.Mathlib.Numerals.{add-one}
 use native.Mathlib.Omega.{arith}
@@ -11,20 +11,23 @@ use lib.Dec.{T}
 use lib.ListN.{length, getD}
 use Rattle.simulation.specs.Table.{Transition, Table, weights, target-at, states-of, steps, transition}
 use Rattle.simulation.specs.Round.{Relation, related, round, pairs}
-use Rattle.simulation.proofs.Finite.Tests.{and-left, is-true, is-false, same-test}
+use Rattle.simulation.specs.Complete.{lists, added, self-loop, complete}
+use Rattle.simulation.proofs.Finite.Tests.{and-left, is-true, is-false, same-test, below-one}
 use Rattle.simulation.proofs.Simulation.Relation.{relation-at, relation-left, relation-right}
 use Rattle.simulation.proofs.Simulation.Rounds.{in-right, round-falls}
+use Rattle.simulation.proofs.Complete.Codes.{added-new}
+use Rattle.simulation.proofs.Complete.Tables.{Placed as PlacedIn, complete-listed, complete-added, complete-place}
 use Rattle.word.specs.Mask.{Test, member}
 use Rattle.word.proofs.Mask.{member-none}
 use Rattle.form.specs.Form.{Loaded, start-of, transition-at, table-of}
-use Rattle.form.specs.Tables.{first-form, second-form, first-table, second-table}
-use Rattle.form.proofs.FormLaws.{counts, transition-of, state-of, weights-length, targets-length}
+use Rattle.form.specs.Tables.{first-form, second-form, first-table, second-table, contract-table, BothLoaded}
+use Rattle.form.proofs.FormLaws.{counts, transition-number, transition-of, state-of, weights-length, targets-length}
 use Rattle.relation.specs.Related.{holds}
 use Rattle.decision.specs.Fitting.{held}
 use Rattle.fit.specs.Held.{matched}
 use Rattle.relation.specs.Rows.{row-of}
 use Rattle.links.specs.Places.{before-in, behind-in, doubt-in, lost-in}
-use Rattle.links.specs.Links.{Linked, Doubted}
+use Rattle.links.specs.Links.{Linked, ContractLinked, Doubted}
 use Rattle.fit.specs.Known.{Tried}
 use Rattle.dropping.specs.Falling.{StatesOnly, DoubtsKnown, Fallen}
 use Rattle.rounds.specs.Rounds.{Placed, After, Settled}
@@ -116,43 +119,74 @@ link-at f before loaded linked s k i a b =
     let m = transition-at f (start-of f s + k) in
     linked .links s a (start-of f s + k) i (omega arith) (omega (arith, counts f loaded s a)) (omega (arith, weights-length m, targets-length m)))
 
+-- in the contract too, for a transition with the code of one of the first table
+module _ (tables behind : List ℕ) (loaded : BothLoaded tables) (linked : ContractLinked tables behind) (s c : ℕ) (own : c < length (steps (first-table tables) s)) where
+  -- a state comes before the target of an added transition, which is the state itself
+  loop-at : (t p : ℕ) → t < states-of (second-table tables) → ¬ T (lists (second-table tables .codes) p) → transition (first-table tables) s c .code ≡ p
+      → (j : ℕ) → j < 1 → holds behind (target-at (self-loop t p) j) t ≡ true
+  loop-at t p a missing e =
+      let f = first-form tables in
+      let state = state-of f s c own in
+      below-one (λ j. holds behind (target-at (self-loop t p) j) t ≡ true)
+      (linked .loops (start-of f s + c) t (transition-number f (loaded .first) s c state own)
+      (λ h. missing (subst (λ (n : ℕ). T (lists (second-table tables .codes) n)) (ap (λ (m : Transition). m .code) (transition-of f (loaded .first) s c state own) ∙ e) h)) a)
+
+  behind-at : (t d j : ℕ) → d < length (steps (contract-table tables) t) → transition (first-table tables) s c .code ≡ transition (contract-table tables) t d .code
+      → j < length (weights (transition (contract-table tables) t d)) → holds behind (target-at (transition (contract-table tables) t d) j) t ≡ true
+  behind-at t d j b = go (complete-place cs N t d b)
+    where
+      cs : List ℕ
+      cs = first-table tables .codes
+
+      N : Table
+      N = second-table tables
+
+      Behind : Transition → Type 0
+      Behind n = transition (first-table tables) s c .code ≡ n .code → j < length (weights n) → holds behind (target-at n j) t ≡ true
+
+      go : PlacedIn cs N t d → Behind (transition (complete cs N) t d)
+      go (a, inl h) = subst Behind (sym (complete-listed cs N t d h)) (λ _ i. link-at (second-form tables) behind (loaded .second) (linked .listed) t d j a h i)
+      go (a, inr (p, h, e)) =
+          subst Behind (sym (ap (transition (complete cs N) t) e ∙ complete-added cs N t p a h)) (λ e. loop-at t (getD (added (N .codes) cs) p 0) a (added-new cs (N .codes) p h) e j)
+
 -- a pair that is not in doubt has lost no pair behind it, so it stays matched
 pub sure : {tables : List ℕ} {W : Work} {k fell doubtful : ℕ} {rows′ ranks′ marks′ : List ℕ} → Turning tables W k fell
-    → After (first-table tables) (second-table tables) (k + 1) rows′ ranks′ → Doubted (W .sets) doubtful (W .marks) marks′ → DoubtsKnown (first-table tables) (second-table tables) rows′ doubtful (doubt-in marks′)
+    → After (first-table tables) (contract-table tables) (k + 1) rows′ ranks′ → Doubted (W .sets) doubtful (W .marks) marks′ → DoubtsKnown (first-table tables) (contract-table tables) rows′ doubtful (doubt-in marks′)
 sure {tables} {W} {k} {fell} {doubtful} {rows′} {ranks′} {marks′} h later doubted =
     record {
       columns = round-columns later;
       states = doubted .within (states-of (first-table tables)) (p .sets-known .first .states);
       sure = λ s a t out m.
-          let here = held-round (first-table tables) (second-table tables) (suc k) rows′ (next .rows-are) in
-          subst (λ (R : Relation). T (matched (first-table tables) (second-table tables) R s t)) (sym here)
-          (matched-agree (first-table tables) (second-table tables) before now s t (λ c d u v i j w z. alike s t a out c d u v i j w z)
-          (in-test (first-table tables) (second-table tables) k s t (subst (λ (R : Relation). T (related R s t)) here m)));
+          let here = held-round (first-table tables) (contract-table tables) (suc k) rows′ (next .rows-are) in
+          subst (λ (R : Relation). T (matched (first-table tables) (contract-table tables) R s t)) (sym here)
+          (matched-agree (first-table tables) (contract-table tables) before now s t (λ c d u v e i j w z. alike s t a out c d u v e i j w z)
+          (in-test (first-table tables) (contract-table tables) k s t (subst (λ (R : Relation). T (related R s t)) here m)));
     }
   where
     p : Prepared tables W
     p = h .prepared
 
     before : Relation
-    before = round (first-table tables) (second-table tables) k
+    before = round (first-table tables) (contract-table tables) k
 
     now : Relation
-    now = round (first-table tables) (second-table tables) (suc k)
+    now = round (first-table tables) (contract-table tables) (suc k)
 
-    next : After (first-table tables) (second-table tables) (suc k) rows′ ranks′
-    next = subst (λ (n : ℕ). After (first-table tables) (second-table tables) n rows′ ranks′) (add-one k) later
+    next : After (first-table tables) (contract-table tables) (suc k) rows′ ranks′
+    next = subst (λ (n : ℕ). After (first-table tables) (contract-table tables) n rows′ ranks′) (add-one k) later
 
     alike : (s t : ℕ) → s < states-of (first-table tables) → (member doubtful s && holds (doubt-in marks′) s t) ≡ false → (c d : ℕ) → c < length (steps (first-table tables) s)
-        → d < length (steps (second-table tables) t) → Alike before now (transition (first-table tables) s c) (transition (second-table tables) t d)
-    alike s t a out c d u v i j w z =
+        → d < length (steps (contract-table tables) t) → transition (first-table tables) s c .code ≡ transition (contract-table tables) t d .code
+        → Alike before now (transition (first-table tables) s c) (transition (contract-table tables) t d)
+    alike s t a out c d u v e i j w z =
         let f = first-form tables in
-        let g = second-form tables in
+        let K = contract-table tables in
         let x = target-at (transition (table-of f) s c) i in
-        let y = target-at (transition (table-of g) t d) j in
+        let y = target-at (transition K t d) j in
         same-test (related before x y) (related now x y)
-        (λ q. kept-unless (table-of f) (table-of g) k (W .rows) (W .ranks) (h .standing .after) (lost-in (W .marks)) (h .standing .next .exact) x y q
+        (λ q. kept-unless (table-of f) K k (W .rows) (W .ranks) (h .standing .after) (lost-in (W .marks)) (h .standing .next .exact) x y q
         (λ m.
         let r = doubted .raised x s y t (link-at f (before-in (W .sets)) (p .loaded .first) (p .sets-known .first) s c i a u w) (is-true (holds (lost-in (W .marks)) x y) m)
-        (link-at g (behind-in (W .sets)) (p .loaded .second) (p .sets-known .second) t d j (state-of g t d v) v z) in
+        (behind-at tables (behind-in (W .sets)) (p .loaded) (p .sets-known .second) s c u t d j v e z) in
         true≢false (sym (ap₂ _&&_ (r .0) (r .1)) ∙ out)))
-        (round-falls (table-of f) (table-of g) k x y)
+        (round-falls (table-of f) K k x y)

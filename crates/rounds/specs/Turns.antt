@@ -11,7 +11,7 @@ use Rattle.simulation.specs.Table.{Table, states-of}
 use Rattle.simulation.specs.Round.{rank, rank-list, maximum, pairs}
 use Rattle.relation.specs.Rows.{height}
 use Rattle.relation.specs.Related.{holds}
-use Rattle.form.specs.Tables.{first-table, second-table, BothLoaded}
+use Rattle.form.specs.Tables.{first-table, contract-table, BothLoaded}
 use Rattle.decision.specs.Fitting.{held}
 use Rattle.fit.specs.Known.{Tried}
 use Rattle.links.specs.Places.{HasMarks, lost-in}
@@ -39,7 +39,7 @@ work ranks sets rows marks tried amounts = record { ranks = ranks; sets = sets; 
 -- two tables, a rank for each pair, the sets that are known, and room
 pub record Prepared (tables : List ℕ) (W : Work) : Type 0 where
   pub loaded : BothLoaded tables
-  pub ranks-room : pairs (first-table tables) (second-table tables) ≤ length (W .ranks)
+  pub ranks-room : pairs (first-table tables) (contract-table tables) ≤ length (W .ranks)
   pub sets-known : SetsKnown tables (W .sets)
   pub rows-room : most-states ≤ height (W .rows)
   pub marks-room : HasMarks (W .marks)
@@ -49,19 +49,19 @@ pub record Prepared (tables : List ℕ) (W : Work) : Type 0 where
 -- what the rounds start from: all pairs are left, none is lost, no rank is shown
 pub record Starting (tables : List ℕ) (W : Work) : Type 0 where
   pub prepared : Prepared tables W
-  pub after : After (first-table tables) (second-table tables) 0 (W .rows) (W .ranks)
+  pub after : After (first-table tables) (contract-table tables) 0 (W .rows) (W .ranks)
   pub none-lost : Empty (lost-in (W .marks))
 
 -- what round k + 1 starts from
 pub record Turning (tables : List ℕ) (W : Work) (k fell : ℕ) : Type 0 where
   pub prepared : Prepared tables W
-  pub standing : Standing (first-table tables) (second-table tables) k (W .rows) (W .ranks) (lost-in (W .marks)) fell
+  pub standing : Standing (first-table tables) (contract-table tables) k (W .rows) (W .ranks) (lost-in (W .marks)) fell
 
 -- what it leaves: the next standing, what was tried by then, and no other rank changed
 pub record Turned (tables : List ℕ) (W W′ : Work) (k fell : ℕ) : Type 0 where
-  pub standing : Standing (first-table tables) (second-table tables) k (W′ .rows) (W′ .ranks) (lost-in (W′ .marks)) fell
+  pub standing : Standing (first-table tables) (contract-table tables) k (W′ .rows) (W′ .ranks) (lost-in (W′ .marks)) fell
   pub known : Tried tables (W′ .rows) (W′ .tried)
-  pub beyond : (i : ℕ) → pairs (first-table tables) (second-table tables) ≤ i → getD (W′ .ranks) i 0 ≡ getD (W .ranks) i 0
+  pub beyond : (i : ℕ) → pairs (first-table tables) (contract-table tables) ≤ i → getD (W′ .ranks) i 0 ≡ getD (W .ranks) i 0
 
 -- the end: k is the count of rounds, the ranks are in their places, the rows hold the kept pairs
 pub record Refined (M N : Table) (ranks ranks′ rows′ : List ℕ) (k : ℕ) : Type 0 where

@@ -1,5 +1,4 @@
 // The rounds: pairs that fall get their rank and raise doubts, until none falls.
-use form::Form;
 use form::tables;
 use links::Marks;
 use links::Sets;
@@ -17,7 +16,7 @@ ghost use Rattle.word.specs.Mask.{member};
 ghost use Rattle.set.specs.Words.{mask};
 ghost use Rattle.relation.specs.Rows.{height};
 ghost use Rattle.relation.specs.Related.{holds};
-ghost use Rattle.form.specs.Tables.{first-table, second-table};
+ghost use Rattle.form.specs.Tables.{first-table, contract-table};
 ghost use Rattle.links.specs.Links.{Covered};
 ghost use Rattle.links.specs.Places.{HasMarks, lost-in};
 ghost use Rattle.rounds.specs.Rounds.{marked, Settled, Placed};
@@ -83,14 +82,7 @@ fn turn(
 {
     let count = last.count + 1;
     let fell = last.fell;
-    settle(
-        ranks,
-        rows,
-        marks,
-        fell,
-        tables::states(tables, Form::SECOND),
-        count,
-    );
+    settle(ranks, rows, marks, fell, tables::width(tables), count);
     let doubtful = links::doubts(marks, fell, sets);
     let targets = &sets[Sets::TARGETS_AT..Sets::WORDS];
     let next = dropping::drop_rows(tables, targets, rows, marks, doubtful, tried, amounts);
@@ -108,7 +100,7 @@ pub fn refine(
     amounts: &mut [u32],
 ) -> u16
     requires { ⌜ Starting (now tables) (work (now ranks) (now sets) (now rows) (now marks) (now tried) (now amounts)) ⌝ }
-    ensures { λ r. ⌜ Refined (first-table (now (tables .entry))) (second-table (now (tables .entry)))
+    ensures { λ r. ⌜ Refined (first-table (now (tables .entry))) (contract-table (now (tables .entry)))
         (now (ranks .entry)) (now (ranks .exit)) (now (rows .exit)) r ⌝ }
 {
     let fell = dropping::first_round(tables, marks);

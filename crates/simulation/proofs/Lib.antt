@@ -8,5 +8,6 @@ pub mod Trees
 pub mod Demands
 pub mod Chains
 pub mod Support
+pub mod Complete
 pub mod Soundness
 pub mod Examples

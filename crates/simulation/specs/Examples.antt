@@ -6,6 +6,7 @@ use Prim.Native.Nat.{ℕ}
 use Rattle.simulation.specs.Sum.{below}
 use Rattle.simulation.specs.Table.{Entry, Transition, Table}
 use Rattle.simulation.specs.Support.{supported}
+use Rattle.simulation.specs.Complete.{added, complete, contract-for}
 use Rattle.simulation.specs.Round.{rank, rank-list, maximum, zeros}
 use Rattle.simulation.specs.Tree.{depth, tree, node-bytes}
 use Rattle.simulation.specs.Length.{pair-length, tree-length}
@@ -133,3 +134,42 @@ plain-ranks = refl
 plain-tree : node-bytes (tree watched-P C 0 0) ≡ 1 ∷ 10 ∷ 0 ∷ 3 ∷ 0 ∷ 0 ∷ 0 ∷ 0 ∷ 1 ∷ 3 ∷ 0 ∷ 1 ∷ 20 ∷ 0 ∷ 3 ∷ 0 ∷ 0 ∷ 0 ∷ 0 ∷ 1 ∷ 1 ∷ 0 ∷ 0 ∷ 2 ∷ 0 ∷ 0 ∷ 0 ∷ 2 ∷ 1 ∷ 0 ∷ 0 ∷ []
 unfolding node-bytes tree
 plain-tree = refl
+
+-- contracts that govern only some codes
+
+in-order : added (7 ∷ []) (9 ∷ 7 ∷ 8 ∷ 9 ∷ 8 ∷ []) ≡ 9 ∷ 8 ∷ []
+unfolding added
+in-order = refl
+
+-- a code that is listed and that no transition has is not added
+abbrev pub arming : Table
+arming = record { codes = 10 ∷ 15 ∷ []; states = (stay 10 1 ∷ []) ∷ [] ∷ [] }
+
+completed : complete (10 ∷ 15 ∷ 20 ∷ 30 ∷ []) arming
+    ≡ record { codes = 10 ∷ 15 ∷ 20 ∷ 30 ∷ []; states = (stay 10 1 ∷ stay 20 0 ∷ stay 30 0 ∷ []) ∷ (stay 20 1 ∷ stay 30 1 ∷ []) ∷ [] }
+unfolding complete
+completed = refl
+
+-- a pod with a code of its own is kept by a contract without codes
+abbrev pub display : Table
+display = record { codes = 10 ∷ []; states = (stay 10 0 ∷ []) ∷ [] }
+
+kept : (rank display no-way 0 0 ∷ rank display (contract-for display no-way) 0 0 ∷ []) ≡ 1 ∷ 0 ∷ []
+unfolding rank complete
+kept = refl
+
+-- but a code that the contract lists must be answered by a transition
+abbrev pub listing : Table
+listing = record { codes = 10 ∷ []; states = [] ∷ [] }
+
+refused : rank display (contract-for display listing) 0 0 ≡ 1
+unfolding rank complete
+refused = refl
+
+-- the pod goes by a code of its own to a state that the contract's state can't answer: the step stands in the tree, over the one that stays
+abbrev pub later : Table
+later = record { codes = 10 ∷ 20 ∷ []; states = (on 20 (entry 0 1 ∷ entry 1 2 ∷ []) ∷ []) ∷ (stay 10 1 ∷ []) ∷ [] }
+
+later-tree : node-bytes (tree later (contract-for later listing) 0 0) ≡ 1 ∷ 20 ∷ 0 ∷ 2 ∷ 0 ∷ 1 ∷ 0 ∷ 0 ∷ 1 ∷ 2 ∷ 0 ∷ 1 ∷ 10 ∷ 0 ∷ 1 ∷ 1 ∷ 1 ∷ 0 ∷ 0 ∷ []
+unfolding node-bytes tree complete
+later-tree = refl

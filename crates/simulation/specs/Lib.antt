@@ -6,6 +6,7 @@ pub mod Limits
 pub mod Table
 pub mod Support
 pub mod Round
+pub mod Complete
 pub mod Tree
 pub mod Length
 pub mod Demands

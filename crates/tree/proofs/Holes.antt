@@ -11,7 +11,7 @@ use lib.Seq.{ext-getD, take-suc-set, drop-drop, drop-set-lt}
 use Rattle.simulation.specs.Limits.{most-states}
 use Rattle.simulation.specs.Tree.{tree, node-bytes}
 use Rattle.simulation.specs.Length.{pair-length}
-use Rattle.form.specs.Tables.{first-form, first-table, second-table, BothLoaded}
+use Rattle.form.specs.Tables.{first-form, first-table, contract-table, BothLoaded}
 use Rattle.form.proofs.FormLaws.{sound}
 use Rattle.set.specs.Words.{words}
 use Rattle.buffer.specs.Buffer.{Filled}
@@ -93,9 +93,9 @@ module _ {tables ranks choices lengths : List ℕ} {s t : ℕ} {amounts buf : Li
   root-lost : Lost tables s t
   root-lost = pair-lost (g .given) (g .measured)
 
-  root-size : length (step-of tables s t) ≡ pair-length (first-table tables) (second-table tables) s t
+  root-size : length (step-of tables s t) ≡ pair-length (first-table tables) (contract-table tables) s t
   root-size =
-      step-size (first-table tables) (second-table tables) (sound (first-form tables) (g .given .ranked .loaded .first)) s (root-lost .left) t (root-lost .right) (root-lost .fell)
+      step-size (first-table tables) (contract-table tables) (sound (first-form tables) (g .given .ranked .loaded .first)) s (root-lost .left) t (root-lost .right) (root-lost .fell)
 
   pub root-asked : BothLoaded tables × (s < most-states) × (t < most-states) × (number tables s t < length lengths)
   root-asked = pair-asked (g .given) (g .measured)
@@ -134,10 +134,10 @@ module _ {tables ranks choices lengths : List ℕ} {s t : ℕ} {amounts buf : Li
         pub root-kept : length (placed 1 (1 + r) (set buf 0 b) ys) ≡ length buf
         root-kept = placed-length 1 (1 + r) (set buf 0 b) (omega arith) set-room ys (same ∙ root-piece) ∙ length-set buf 0 b
 
-        pub root-filled : b ≡ 1 → Filled (node-bytes (tree (first-table tables) (second-table tables) s t)) (1 + r) buf (placed 1 (1 + r) (set buf 0 b) ys)
+        pub root-filled : b ≡ 1 → Filled (node-bytes (tree (first-table tables) (contract-table tables) s t)) (1 + r) buf (placed 1 (1 + r) (set buf 0 b) ys)
         root-filled eb =
-            let parts = tree-parts (first-table tables) (second-table tables) (sound (first-form tables) (g .given .ranked .loaded .first)) s (root-lost .left) t (root-lost .right) (root-lost .fell) in
-            let e : length (node-bytes (tree (first-table tables) (second-table tables) s t)) ≡ 1 + r = omega (arith, ap length parts, root-r) in
+            let parts = tree-parts (first-table tables) (contract-table tables) (sound (first-form tables) (g .given .ranked .loaded .first)) s (root-lost .left) t (root-lost .right) (root-lost .fell) in
+            let e : length (node-bytes (tree (first-table tables) (contract-table tables) s t)) ≡ 1 + r = omega (arith, ap length parts, root-r) in
             let q = w .short (omega (arith, root-piece, root-short)) .1 in
             let k : 1 + ((1 + r) - 1) ≡ 1 + r = omega arith in
             record {
@@ -146,6 +146,6 @@ module _ {tables ranks choices lengths : List ℕ} {s t : ℕ} {amounts buf : Li
                   ap₂ (λ (l m : List ℕ). l ++ (m ++ drop ((1 + r) - 1) (drop 1 (set buf 0 b)))) (take-suc-set buf 0 b (omega (arith, root-room))) q
                   ∙ ap (λ (l : List ℕ). b ∷ (step-of tables s t ++ l))
                   (drop-drop ((1 + r) - 1) 1 (set buf 0 b) ∙ drop-set-lt (1 + ((1 + r) - 1)) buf 0 b (omega arith) ∙ ap (λ (i : ℕ). drop i buf) (k ∙ sym e))
-                  ∙ ap (λ (i : ℕ). i ∷ (step-of tables s t ++ drop (length (node-bytes (tree (first-table tables) (second-table tables) s t))) buf)) eb
-                  ∙ ap (λ (l : List ℕ). l ++ drop (length (node-bytes (tree (first-table tables) (second-table tables) s t))) buf) (sym parts);
+                  ∙ ap (λ (i : ℕ). i ∷ (step-of tables s t ++ drop (length (node-bytes (tree (first-table tables) (contract-table tables) s t))) buf)) eb
+                  ∙ ap (λ (l : List ℕ). l ++ drop (length (node-bytes (tree (first-table tables) (contract-table tables) s t))) buf) (sym parts);
             }

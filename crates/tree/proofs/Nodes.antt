@@ -18,8 +18,9 @@ use Rattle.simulation.specs.Length.{head-length, one-length, pair-length}
 use Rattle.simulation.proofs.Finite.Sums.{sum-one, sum-add, sum-mul, members-most}
 use Rattle.simulation.proofs.Simulation.Ranks.{rank-law}
 use Rattle.simulation.proofs.Trees.Length.{pair-length-step}
-use Rattle.form.specs.Tables.{first-form, second-form, first-table, second-table, BothLoaded}
-use Rattle.form.proofs.FormLaws.{limits, sound}
+use Rattle.form.specs.Tables.{first-form, first-table, contract-table, BothLoaded}
+use Rattle.form.proofs.FormLaws.{sound}
+use Rattle.form.proofs.Contract.{contract-few}
 use Rattle.word.specs.Mask.{Test, member, without-member, size, Lowest}
 use Rattle.set.specs.Words.{words, mask, rest as left-of, after}
 use Rattle.set.specs.declared.Set.{Set}
@@ -48,7 +49,7 @@ module _ {tables ranks choices lengths amounts : List ℕ} (g : WriteGiven table
   pub pair-size : getD lengths (number tables s t) 0 ≡ length (step-of tables s t)
   pair-size =
       m .right s t (m .here)
-      ∙ sym (step-size (first-table tables) (second-table tables) (sound (first-form tables) (g .ranked .loaded .first)) s (pair-lost .left) t (pair-lost .right) (pair-lost .fell))
+      ∙ sym (step-size (first-table tables) (contract-table tables) (sound (first-form tables) (g .ranked .loaded .first)) s (pair-lost .left) t (pair-lost .right) (pair-lost .fell))
 
   pub pair-noted : number tables s t < length choices
   pair-noted = lt-of-lt-of-le (lost-place pair-lost) (g .notes)
@@ -60,11 +61,11 @@ module _ {tables ranks choices lengths amounts : List ℕ} (g : WriteGiven table
       (g .ranked .loaded, low .0, low .1, lt-of-lt-of-le (lost-place pair-lost) (g .enough))
 
   -- a pair takes its head, and four bytes at least for each child
-  pub pair-long : head-length + 4 * length (chosen (first-table tables) (second-table tables) s t .entries) ≤ length (step-of tables s t)
+  pub pair-long : head-length + 4 * length (chosen (first-table tables) (contract-table tables) s t .entries) ≤ length (step-of tables s t)
   unfolding one-length
   pair-long =
       let M = first-table tables in
-      let N = second-table tables in
+      let N = contract-table tables in
       let n = length (chosen M N s t .entries) in
       omega (
         arith,
@@ -149,7 +150,7 @@ word-done X w left e = walk-on X (λ (n : ℕ). left-of w left X ≡ n) w left e
 module _ (tables : List ℕ) where
   -- the bytes of the transitions of the members left
   abbrev pub steps-left : ℕ → Test → List ℕ
-  steps-left s X = steps-bytes (first-table tables) (second-table tables) s X (pairs (first-table tables) (second-table tables))
+  steps-left s X = steps-bytes (first-table tables) (contract-table tables) s X (pairs (first-table tables) (contract-table tables))
 
   -- where the loop stands
   pub record NodeLoop (ranks choices lengths : List ℕ) (node : Node) (amounts₀ stack₀ buf₀ amounts stack buf : List ℕ) (rest : Rest) (at left : ℕ) : Type 0 where
@@ -168,10 +169,10 @@ module _ {tables ranks choices lengths : List ℕ} {node : Node} {amounts stack 
   abbrev members : ℕ
   members = mask (node .members)
 
-  node-parts : node-of tables node ≡ size (states-of (second-table tables)) (member members) ∷ steps-left tables s (member members)
+  node-parts : node-of tables node ≡ size (states-of (contract-table tables)) (member members) ∷ steps-left tables s (member members)
   node-parts =
       let M = first-table tables in
-      let N = second-table tables in
+      let N = contract-table tables in
       node-is M N s (member members) (pairs M N)
       (λ t h. let p = pair-lost (g .given) (g .measured t h) in lt-of-lt-of-le (p .fell) (rank-law M N s t (p .left) (p .right) .bound))
 
@@ -182,9 +183,9 @@ module _ {tables ranks choices lengths : List ℕ} {node : Node} {amounts stack 
   pub node-begins : (n : ℕ) → n ≡ size most-states (member members) → length buf < 2 ^ 64 → {rest : Rest} → rest ≡ nothing s 0
       → NodeLoop tables ranks choices lengths node amounts stack (set buf 0 n) amounts stack (set buf 0 n) rest 1 members
   node-begins n e h none =
-      let N = second-table tables in
+      let N = contract-table tables in
       let count : n ≡ size (states-of N) (member members) =
-      e ∙ members-all (states-of N) (member members) (limits (second-form tables) (g .given .ranked .loaded .second) .states-few) (λ t h. pair-lost (g .given) (g .measured t h) .right) in
+      e ∙ members-all (states-of N) (member members) (contract-few tables (g .given .ranked .loaded)) (λ t h. pair-lost (g .given) (g .measured t h) .right) in
       record {
         call = node-kept (record { same-amounts = refl; same-stack = refl; same-buf = length-set buf 0 n }) g;
         small = omega (arith, length-set buf 0 n);
@@ -245,7 +246,7 @@ module _ {tables ranks choices lengths : List ℕ} {node : Node} {amounts₀ sta
   pub node-ends : left ≡ 0 → Around tables choices lengths (node-of tables node) (node .half) rest buf
   node-ends z =
       let M = first-table tables in
-      let N = second-table tables in
+      let N = contract-table tables in
       let none : steps-left tables (node .s) (member left) ≡ [] =
       ap (λ (k : ℕ). steps-left tables (node .s) (member k)) z ∙ no-steps M N (own-node M N (pairs M N - 1)) (node .s) (member 0) (states-of N) member-none in
       stand-ends (omega arith) (omega (arith, l .ends, ap length none)) (l .stands)
@@ -264,7 +265,7 @@ module _ {tables ranks choices lengths : List ℕ} {node : Node} {amounts₀ sta
     apart : steps-left tables (node .s) (member left) ≡ step-of tables (node .s) t ++ others t
     apart =
         let M = first-table tables in
-        let N = second-table tables in
+        let N = contract-table tables in
         steps-lowest M N (own-node M N (pairs M N - 1)) (node .s) (member left) t (states-of N) (pair-lost (l .call .given) node-measured .right) low
 
     turn : At (node-of tables node) at (step-of tables (node .s) t ++ others t)

@@ -18,7 +18,7 @@ use Rattle.simulation.proofs.Simulation.Ranks.{rank-law}
 use Rattle.simulation.proofs.Trees.Choice.{RanksUpTo, chosen-law, chosen-target}
 use Rattle.simulation.proofs.Trees.OwnTree.{node-fuel}
 use Rattle.form.specs.Form.{transitions-of}
-use Rattle.form.specs.Tables.{first-form, first-table, second-table, first-step}
+use Rattle.form.specs.Tables.{first-form, first-table, contract-table, first-step}
 use Rattle.form.proofs.FormLaws.{limits, sound, weights-length, limited-of}
 use Rattle.word.specs.Mask.{Test, member}
 use Rattle.set.specs.Words.{words, mask}
@@ -73,13 +73,13 @@ kept-below n i l ys le lt =
 module _ (tables : List ℕ) where
   -- the transition of a pair
   abbrev pub chosen-of : Step → Transition
-  chosen-of step = chosen (first-table tables) (second-table tables) (step .s) (step .t)
+  chosen-of step = chosen (first-table tables) (contract-table tables) (step .s) (step .t)
 
   -- the bytes of the children from place i on
   abbrev pub children-left : Step → ℕ → List ℕ
   children-left step i =
-      children-from (own-node (first-table tables) (second-table tables) (pairs (first-table tables) (second-table tables) - 1))
-      (set-of (first-table tables) (second-table tables) (step .s) (step .t)) i (chosen-of step .entries)
+      children-from (own-node (first-table tables) (contract-table tables) (pairs (first-table tables) (contract-table tables) - 1))
+      (set-of (first-table tables) (contract-table tables) (step .s) (step .t)) i (chosen-of step .entries)
 
   -- where the loop stands
   pub record AroundLoop (ranks choices lengths : List ℕ) (step : Step) (j n : ℕ) (amounts₀ stack₀ buf₀ amounts stack buf : List ℕ) (rest : Rest) (at i : ℕ) : Type 0 where
@@ -94,7 +94,7 @@ module _ (tables : List ℕ) where
 module _ {tables ranks choices lengths : List ℕ} {step : Step} {amounts stack buf : List ℕ} (g : StepGiven tables ranks choices lengths step amounts stack buf) where
   step-parts : step-of tables (step .s) (step .t) ≡ head-bytes (chosen-of tables step) ++ children-left tables step 0
   step-parts =
-      step-is (first-table tables) (second-table tables) (own-node (first-table tables) (second-table tables) (pairs (first-table tables) (second-table tables) - 1)) (step .s) (step .t)
+      step-is (first-table tables) (contract-table tables) (own-node (first-table tables) (contract-table tables) (pairs (first-table tables) (contract-table tables) - 1)) (step .s) (step .t)
 
   pub number-known : {j : ℕ} → Choice tables (step .s) (step .t) j → j < transitions-of (first-form tables)
   number-known {j} = choice-number tables (g .given .ranked .loaded .first) (step .s) (step .t) j (pair-lost (g .given) (g .measured) .left)
@@ -102,7 +102,7 @@ module _ {tables ranks choices lengths : List ℕ} {step : Step} {amounts stack 
   step-few : length (chosen-of tables step .entries) ≤ most-states
   step-few =
       let M = first-table tables in
-      let N = second-table tables in
+      let N = contract-table tables in
       let p = pair-lost (g .given) (g .measured) in
       let c = chosen-law M N (step .s) (step .t) (p .left) (p .right) (p .fell) in
       subst (λ (m : Transition). length (m .entries) ≤ most-states) (c .same)
@@ -163,7 +163,7 @@ module _ {tables ranks choices lengths : List ℕ} {step : Step} {j n : ℕ} {am
   M = first-table tables
 
   abbrev N : Table
-  N = second-table tables
+  N = contract-table tables
 
   abbrev m : Transition
   m = chosen-of tables step
@@ -292,7 +292,7 @@ module _ {tables ranks choices lengths : List ℕ} {step : Step} {j n : ℕ} {am
         record {
           state = child-state;
           ranks = λ v b h.
-              let q = below-lost tables (loaded .first) (loaded .second) (step .s) (step .t) lost i v (place (child .more)) (subst (λ (X : Test). T (X v)) set-is h) in
+              let q = below-lost tables loaded (step .s) (step .t) lost i v (place (child .more)) (subst (λ (X : Test). T (X v)) set-is h) in
               let r : rank M N w v < rank M N (step .s) (step .t) = subst (λ (k : ℕ). rank M N k v < rank M N (step .s) (step .t)) (sym target-is) (q .1) in
               (child-lost v h .1, omega (arith, r, rank-law M N (step .s) (step .t) (lost .left) (lost .right) .bound));
         } in

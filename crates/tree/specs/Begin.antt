@@ -8,7 +8,7 @@ use Rattle.simulation.specs.Limits.{most-pairs, most-states}
 use Rattle.simulation.specs.Table.{Transition, states-of}
 use Rattle.simulation.specs.Tree.{chosen}
 use Rattle.simulation.specs.Length.{head-length}
-use Rattle.form.specs.Tables.{first-table, second-table}
+use Rattle.form.specs.Tables.{first-table, contract-table}
 use Rattle.relation.specs.Rows.{height}
 use Rattle.buffer.specs.Buffer.{over}
 use Rattle.relate.specs.Ranked.{RanksRight}
@@ -30,8 +30,8 @@ entry-bytes s w = s ∷ w % 256 ∷ w / 256 ∷ []
 pub record BeginGiven (tables ranks choices : List ℕ) (s t : ℕ) (amounts stack buf : List ℕ) : Type 0 where
   pub ranked : RanksRight tables ranks
   pub lost : Lost tables s t
-  pub noted : s * states-of (second-table tables) + t < length choices
-  pub choice : Choice tables s t (getD choices (s * states-of (second-table tables) + t) 0)
+  pub noted : s * states-of (contract-table tables) + t < length choices
+  pub choice : Choice tables s t (getD choices (s * states-of (contract-table tables) + t) 0)
   pub amounts-room : most-pairs ≤ length amounts
   pub words : 2 * most-states ≤ height stack
   pub room : head-length ≤ length buf
@@ -40,4 +40,4 @@ pub record BeginGiven (tables ranks choices : List ℕ) (s t : ℕ) (amounts sta
 pub record TransitionBegun (tables : List ℕ) (s t j : ℕ) (stack old new : List ℕ) : Type 0 where
   pub choice : Choice tables s t j
   pub sets : SetsChosen tables s t stack
-  pub head : new ≡ over (head-bytes (chosen (first-table tables) (second-table tables) s t)) old
+  pub head : new ≡ over (head-bytes (chosen (first-table tables) (contract-table tables) s t)) old

@@ -11,7 +11,7 @@ use Rattle.simulation.specs.Table.{states-of}
 use Rattle.simulation.specs.Round.{pairs}
 use Rattle.simulation.specs.Tree.{leaf, own-step, own-node, transition-bytes, node-bytes}
 use Rattle.simulation.specs.Length.{tree-length}
-use Rattle.form.specs.Tables.{first-table, second-table}
+use Rattle.form.specs.Tables.{first-table, contract-table}
 use Rattle.word.specs.Mask.{member}
 use Rattle.set.specs.Words.{words, mask}
 use Rattle.counting.specs.Count.{longest}
@@ -58,12 +58,12 @@ module _ (tables : List ℕ) where
   -- the bytes of the node of a state and a set of states that it is not kept with; no rank is above the number of pairs
   abbrev pub node-of : Node → List ℕ
   node-of node =
-      node-bytes (own-node (first-table tables) (second-table tables) (pairs (first-table tables) (second-table tables)) (node .s) (member (mask (node .members))))
+      node-bytes (own-node (first-table tables) (contract-table tables) (pairs (first-table tables) (contract-table tables)) (node .s) (member (mask (node .members))))
 
   -- the bytes of the transition of a pair that is not kept
   abbrev pub step-of : ℕ → ℕ → List ℕ
   step-of s t =
-      transition-bytes (own-step (first-table tables) (second-table tables) (own-node (first-table tables) (second-table tables) (pairs (first-table tables) (second-table tables) - 1)) s t leaf)
+      transition-bytes (own-step (first-table tables) (contract-table tables) (own-node (first-table tables) (contract-table tables) (pairs (first-table tables) (contract-table tables) - 1)) s t leaf)
 
   -- the part of `total` that a pair's transition takes
   pub record PartOf (choices lengths total : List ℕ) (rest : Rest) : Type 0 where
@@ -80,8 +80,8 @@ module _ (tables : List ℕ) where
   -- what all writing rests on
   pub record WriteGiven (ranks choices lengths amounts : List ℕ) : Type 0 where
     pub ranked : RanksRight tables ranks
-    pub notes : pairs (first-table tables) (second-table tables) ≤ length choices
-    pub enough : pairs (first-table tables) (second-table tables) ≤ length lengths
+    pub notes : pairs (first-table tables) (contract-table tables) ≤ length choices
+    pub enough : pairs (first-table tables) (contract-table tables) ≤ length lengths
     pub amounts-room : most-pairs ≤ length amounts
 
   -- the writing of a transition or its deferral
@@ -115,5 +115,5 @@ module _ (tables : List ℕ) where
   pub record TreeGiven (ranks choices lengths : List ℕ) (s t : ℕ) (amounts buf : List ℕ) : Type 0 where
     pub given : WriteGiven ranks choices lengths amounts
     pub measured : Measured tables choices lengths s t
-    pub short : tree-length (first-table tables) (second-table tables) s t ≤ longest
-    pub room : tree-length (first-table tables) (second-table tables) s t ≤ length buf
+    pub short : tree-length (first-table tables) (contract-table tables) s t ≤ longest
+    pub room : tree-length (first-table tables) (contract-table tables) s t ≤ length buf

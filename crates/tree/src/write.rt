@@ -21,7 +21,7 @@ ghost use Rattle.simulation.specs.Table.{weights, target-at};
 ghost use Rattle.simulation.specs.Tree.{tree, node-bytes};
 ghost use Rattle.simulation.specs.Length.{head-length};
 ghost use Rattle.form.specs.Form.{transitions-of};
-ghost use Rattle.form.specs.Tables.{first-form, first-table, second-table, first-step, BothLoaded};
+ghost use Rattle.form.specs.Tables.{first-form, first-table, contract-table, first-step, BothLoaded};
 ghost use Rattle.buffer.specs.Buffer.{over, Filled};
 ghost use Rattle.tree.specs.Begin.{head-bytes, entry-bytes, BeginGiven, TransitionBegun};
 ghost use Rattle.tree.specs.Parts.{nothing, offset, Remains, step-of, node-of, StepGiven, StepWritten, NodeGiven, Around, TreeGiven};
@@ -265,7 +265,7 @@ pub fn tree(
     buf: &mut [u8],
 ) -> usize
     requires { ⌜ TreeGiven (now tables) (now ranks) (now choices) (now lengths) s t (now amounts) (now buf) ⌝ }
-    ensures { λ r. ⌜ Filled (node-bytes (tree (first-table (now (tables .entry))) (second-table (now (tables .entry))) s t)) r
+    ensures { λ r. ⌜ Filled (node-bytes (tree (first-table (now (tables .entry))) (contract-table (now (tables .entry))) s t)) r
         (now (buf .entry)) (now (buf .exit)) ⌝ }
 {
     let mut stack: [Word; STACK] = [1; STACK];

@@ -18,8 +18,8 @@ use Rattle.pair_tree.specs.Put.{TreePut}
 use Rattle.witness.specs.Shown.{FlowShown, TreeShown}
 
 -- what is shown of a kept pair
-module _ (M N : Table) (room s t : ℕ) (a : Answer) (flow : List ℕ) where
-  pub flow-refused : {r : Answer} {n : ℕ} → s < states-of M → t < states-of N → Kept M N s t → n ≡ room → length flow < n → r ≡ refusal 21 0 n → FlowShown M N room s t a r flow flow
+module _ (M N : Table) (room listed s t : ℕ) (a : Answer) (flow : List ℕ) where
+  pub flow-refused : {r : Answer} {n : ℕ} → s < states-of M → t < states-of N → Kept M N s t → n ≡ room → length flow < n → r ≡ refusal 21 0 n → FlowShown M N room listed s t a r flow flow
   flow-refused x y k e h er =
       let w = right-amounts M N s t x y k in
       record {
@@ -29,7 +29,7 @@ module _ (M N : Table) (room s t : ℕ) (a : Answer) (flow : List ℕ) where
         written = λ g. absurd (omega arith);
       }
 
-  pub flow-shown : {r : Answer} {n w : ℕ} {flow′ : List ℕ} → n ≡ room → n ≤ length flow → Flowed M N s t w flow flow′ → r ≡ with-written w a → FlowShown M N room s t a r flow flow′
+  pub flow-shown : {r : Answer} {n w : ℕ} {flow′ : List ℕ} → n ≡ room → n ≤ length flow → Flowed M N listed s t w flow flow′ → r ≡ with-written w a → FlowShown M N room listed s t a r flow flow′
   flow-shown e h f er =
       record {
         amounts = f .amounts;

@@ -23,12 +23,13 @@ room-in f g s = room-for (states-of (table-of g)) (length (steps (table-of f) s)
 abbrev pub room-asked : (tables : List ℕ) (s : ℕ) → ℕ
 room-asked tables s = room-in (first-form tables) (second-form tables) s
 
--- a kept pair: the flow is written if the buffer has the room asked, and the answer a then says how long it is
-pub record FlowShown (M N : Table) (room s t : ℕ) (a r : Answer) (flow flow′ : List ℕ) : Type 0 where
+-- a kept pair, of whose transitions of t the first are listed: the flow is written if the buffer has the room asked, and the answer a then says
+-- how long it is
+pub record FlowShown (M N : Table) (room listed s t : ℕ) (a r : Answer) (flow flow′ : List ℕ) : Type 0 where
   pub amounts : ℕ → Amounts
   pub right : Right M N s t amounts
   pub refused : length flow < room → (r ≡ refusal 21 0 room) × (flow′ ≡ flow)
-  pub written : room ≤ length flow → (r ≡ with-written (length (flow-bytes M N s t amounts)) a) × (flow′ ≡ over (flow-bytes M N s t amounts) flow)
+  pub written : room ≤ length flow → (r ≡ with-written (length (flow-bytes M N listed s t amounts)) a) × (flow′ ≡ over (flow-bytes M N listed s t amounts) flow)
 
 -- a pair that is not kept: the tree is written if it is short enough and there is room for it
 pub record TreeShown (M N : Table) (s t : ℕ) (a r : Answer) (tree tree′ : List ℕ) : Type 0 where

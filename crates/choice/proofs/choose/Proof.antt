@@ -3,16 +3,17 @@
 use mathlib.Core.List.{List}
 use mathlib.Core.Path.{_≡_, refl, sym, ap, _∙_, subst}
 use mathlib.Core.Bool.{Bool, true, not, Bool·not-not}
-use Prim.Native.Nat.{ℕ, _-_, _+_, _≤_, _<_}
+use mathlib.Core.Logic.{_≢_}
+use Prim.Native.Nat.{ℕ, _-_, _+_, _<_}
 use native.Mathlib.Omega.{arith}
 use lib.ListN.{length}
-use Rattle.simulation.specs.Limits.{most-pairs, most-transitions}
+use Rattle.simulation.specs.Limits.{most-transitions}
+use Rattle.simulation.specs.Table.{states-of}
 use Rattle.form.specs.Form.{Loaded, start-of, transitions-of}
-use Rattle.form.specs.Tables.{first-form, second-form, first-step}
+use Rattle.form.specs.Tables.{first-form, second-form, second-table, first-step}
 use Rattle.form.proofs.FormLaws.{limits}
-use Rattle.fit.specs.Ranked.{InRound}
 use Rattle.choice.specs.Choice.{Choice, SetsChosen, round-fits-some, Tested}
-use Rattle.choice.proofs.Choosing.{LostPair, lost-compared, matches, Trying, number-of, trying-start, trying-next, trying-end, tested-one}
+use Rattle.choice.proofs.Choosing.{LostPair, second-state, matches, Trying, number-of, trying-start, trying-next, trying-end, tested-one}
 use Rattle.choice.proofs.choose.Statement.{statement}
 use Rattle.choice.proofs.choose.Tie as tie
 
@@ -31,6 +32,9 @@ module _ {tables ranks : List ℕ} {s t r : ℕ} (p : LostPair tables ranks s t 
   second : Loaded (second-form tables)
   second = p .ranked .loaded .second
 
+  state : t < states-of (second-table tables)
+  state = second-state tables (p .lost .right)
+
   -- what the test of j says, in the round before the pair's rank
   matched : (j : ℕ) {v : Bool} → round-fits-some tables t r j ≡ v → matches tables s t (first-step tables j) ≡ v
   matched j h = sym (ap (λ (q : ℕ). round-fits-some tables t q j) (p .its-rank)) ∙ h
@@ -40,20 +44,17 @@ module _ {tables ranks : List ℕ} {s t r : ℕ} (p : LostPair tables ranks s t 
 
   module _ {sets₀ amounts₀ sets amounts : List ℕ} {end j l : ℕ} (w : Walk tables s t r sets₀ amounts₀ end sets amounts j l) where
     -- number j fits one, so that it is not the last
-    next : l < end → Trying tables s t (j + 1)
-    next lt = trying-next tables s t first (p .lost) (w .trying) (matched j (w .tested .one (omega (arith, w .ends))))
-
-    compared : most-pairs ≤ length amounts → l < end → InRound tables ranks r (j + 1) l amounts
-    compared room lt = lost-compared p (j + 1) l amounts (number (next lt)) (w .tested .low) (omega (arith, w .ends)) room
+    next : l ≢ end → Trying tables s t (j + 1)
+    next ne = trying-next tables s t first (p .lost) (w .trying) (matched j (w .tested .one (λ q. ne (q ∙ sym (w .ends)))))
 
     -- the guess was right
-    guess : {sets′ : List ℕ} → l < end → round-fits-some tables t r (j + 1) ≡ true → Tested tables s t r (j + 1) l sets′
-    guess lt f = tested-one tables s t first (p .lost) (p .its-rank) (w .tested .low) (omega (arith, w .ends)) f
+    guess : {sets′ : List ℕ} → l ≢ end → round-fits-some tables t r (j + 1) ≡ true → Tested tables s t r (j + 1) l sets′
+    guess ne f = tested-one tables s t first (p .lost) (p .its-rank) (w .tested .low) (λ q. ne (q ∙ sym (w .ends))) f
 
     -- number j fits none
-    ended : end ≤ l → Choice tables s t j × SetsChosen tables s t sets
-    ended le =
-        let c = trying-end tables s t first (p .lost) (w .trying) (matched j (w .tested .none (omega (arith, w .ends)))) in
+    ended : l ≡ end → Choice tables s t j × SetsChosen tables s t sets
+    ended e =
+        let c = trying-end tables s t first (p .lost) (w .trying) (matched j (w .tested .none (e ∙ w .ends))) in
         (c, w .tested .found c)
 
     small : j < most-transitions
@@ -83,10 +84,10 @@ add-start-of : tie.Need-add-start-of Inv-loop μ-loop
 add-start-of c =
     let entry = c .before .before .before .before in
     let p = asked entry in
-    record { fits = omega (arith, p .lost .right, limits (second-form (entry .args .tables .now)) (second p) .states-few) }
+    record { fits = omega (arith, state p, limits (second-form (entry .args .tables .now)) (second p) .states-few) }
 
 start-of-requires : tie.Need-start-of-requires Inv-loop μ-loop
-start-of-requires c κs = let p = asked (c .before .before .before .before) in (second p, omega (arith, p .lost .right))
+start-of-requires c κs = let p = asked (c .before .before .before .before) in (second p, omega (arith, state p))
 
 start-of-requires-2 : tie.Need-start-of-requires-2 Inv-loop μ-loop
 start-of-requires-2 c κs = let p = asked (c .before .before .before .before .before) in (first p, omega (arith, p .lost .left))
@@ -126,13 +127,15 @@ guessed-requires c κs =
     let at-loop-test = c .before .before in
     let at-loop = at-loop-test .before in
     let entry = entry-of at-loop in
-    let w = at-loop .loop .inv in
-    let lt = at-loop-test .loop-test .taken in (
-      compared (asked entry) w (omega (arith, entry .pre .4, amounts-length at-loop)) lt,
-      omega (arith, entry .pre .3, sets-length at-loop),
-      entry .pre .1 .right,
+    let p = entry .pre in
+    let w = at-loop .loop .inv in (
+      p .0,
+      omega (arith, p .1 .fell, p .2),
+      number (asked entry) (next (asked entry) w (at-loop-test .loop-test .taken)),
+      omega (arith, p .4, amounts-length at-loop),
+      omega (arith, p .3, sets-length at-loop),
+      p .1 .right,
       w .tested .low,
-      omega (arith, w .ends),
     )
 
 find-sets-requires-2 : tie.Need-find-sets-requires-2 Inv-loop μ-loop
@@ -190,10 +193,10 @@ loop-again-2 c =
     let at-loop = at-loop-test .before in
     let p = asked (entry-of at-loop) in
     let w = at-loop .loop .inv in
-    let lt = at-loop-test .loop-test .taken in
+    let ne = at-loop-test .loop-test .taken in
     record {
-      trying = next p w lt;
-      tested = guess p w lt (at-guessed .guessed .ensures (sym (Bool·not-not (at-guessed .guessed .result)) ∙ ap not (c .if1 .left)));
+      trying = next p w ne;
+      tested = guess p w ne (at-guessed .guessed .ensures (sym (Bool·not-not (at-guessed .guessed .result)) ∙ ap not (c .if1 .left)));
       ends = w .ends;
       same-sets = at-sets2 .sets2 .given ∙ w .same-sets;
       same-amounts = at-amounts2 .amounts2 .given ∙ w .same-amounts;

@@ -8,7 +8,7 @@ use borrow.Author.Needs.{needs}
 use lib.ListN.{length}
 use Rattle.simulation.specs.Limits.{most-states}
 use Rattle.simulation.specs.Round.{round}
-use Rattle.form.specs.Tables.{first-form, first-table, second-table, first-step, second-step}
+use Rattle.form.specs.Tables.{first-form, first-table, contract-table, first-step, second-step}
 use Rattle.set.specs.Words.{mask}
 use Rattle.relation.specs.Rows.{height}
 use Rattle.relation.proofs.Parts.{part-height}
@@ -110,7 +110,7 @@ returns-2 c =
     let entry = at-cut .before .before .before .before .before .before .before in
     let a = entry .args in
     let tables = a .tables .now in
-    let R = round (first-table tables) (second-table tables) (pred (a .r)) in
+    let R = round (first-table tables) (contract-table tables) (pred (a .r)) in
     let m = first-step tables (a .j) in
     let n = second-step tables (a .k) in
     let rel = rel-of at-sets in

@@ -11,17 +11,17 @@ use Rattle.compare.proofs.compare_tables.Tie as tie
 states-requires : tie.Need-states-requires
 states-requires c κs = search needs
 
-states-requires-2 : tie.Need-states-requires-2
-states-requires-2 c κs = search needs
+width-requires : tie.Need-width-requires
+width-requires c κs = search needs
 
-abbrev entry : tie.After-states2 → tie.Start
+abbrev entry : tie.After-width → tie.Start
 entry d = d .before .before .before .before .before .before
 
 mul-pairs : tie.Need-mul-pairs
-mul-pairs c = let p = entry c .pre in omega (arith, count-small _ _ (p .first) (p .second) (c .before .states .ensures) (c .states2 .ensures))
+mul-pairs c = let p = entry c .pre in omega (arith, count-small p (c .before .states .ensures) (c .width .ensures))
 
 cast-needed : tie.Need-cast-needed
-cast-needed c = let p = entry c .pre in omega (arith, count-small _ _ (p .first) (p .second) (c .before .states .ensures) (c .states2 .ensures))
+cast-needed c = let p = entry c .pre in omega (arith, count-small p (c .before .states .ensures) (c .width .ensures))
 
 is-outside-requires : tie.Need-is-outside-requires
 is-outside-requires c κs = search needs
@@ -32,7 +32,7 @@ refused-requires c κs = search needs
 returns : tie.Need-returns
 returns c =
     let at-outside = c .before .before in
-    is-outside _ _ _ _ _ _ (not-inside (at-outside .before .before .states .ensures) (at-outside .before .states2 .ensures) (at-outside .is-outside .ensures) (c .before .if1 .taken)) (c .refused .ensures)
+    is-outside _ _ _ _ _ _ _ (not-inside (at-outside .before .before .states .ensures) (at-outside .before .width .ensures) (at-outside .is-outside .ensures) (c .before .if1 .taken)) (c .refused .ensures)
 
 refused-requires-2 : tie.Need-refused-requires-2
 refused-requires-2 c κs = search needs
@@ -41,19 +41,19 @@ returns-2 : tie.Need-returns-2
 returns-2 c =
     let at-outside = c .before .before .before in
     let ep = at-outside .before .before .states .ensures in
-    let eq = at-outside .before .states2 .ensures in
+    let eq = at-outside .before .width .ensures in
     let p = entry (at-outside .before) .pre in
-    has-short-ranks _ _ _ _ _ _ (inside ep eq (at-outside .is-outside .ensures) (c .before .before .if1 .left)) (count-is _ _ (p .first) (p .second) ep eq) (ltb-true _ _ (c .before .if2 .taken)) (c .refused2 .ensures)
+    has-short-ranks _ _ _ _ _ _ _ (inside ep eq (at-outside .is-outside .ensures) (c .before .before .if1 .left)) (count-is p ep eq) (ltb-true _ _ (c .before .if2 .taken)) (c .refused2 .ensures)
 
 show-requires : tie.Need-show-requires
 show-requires c κs =
     let at-if2 = c .before .before .before in
     let at-outside = at-if2 .before .before in
     let ep = at-outside .before .before .states .ensures in
-    let eq = at-outside .before .states2 .ensures in
+    let eq = at-outside .before .width .ensures in
     let p = entry (at-outside .before) .pre in
     let i = inside ep eq (at-outside .is-outside .ensures) (at-if2 .before .if1 .left) in
-    record { loaded = p; first = i .0; second = i .1; ranks-room = has-room (count-is _ _ (p .first) (p .second) ep eq) (at-if2 .if2 .left) }
+    record { loaded = p; first = i .0; second = i .1; ranks-room = has-room (count-is p ep eq) (at-if2 .if2 .left) }
 
 same-length : tie.Need-same-length
 same-length c = search needs
@@ -72,7 +72,7 @@ compare-tables-spec =
     tie.close
     (tie.spec
     states-requires
-    states-requires-2
+    width-requires
     mul-pairs
     cast-needed
     is-outside-requires

@@ -24,19 +24,19 @@ rank-requires c κs =
       amounts-room = p .1;
     }
 
-states-requires : tie.Need-states-requires
-states-requires c κs = search needs
+width-requires : tie.Need-width-requires
+width-requires c κs = search needs
 
 -- from where the width of the ranks is known: the entry, and the ranking
-abbrev entry : tie.After-states → tie.Start
+abbrev entry : tie.After-width → tie.Start
 entry d = d .before .before .before .before .before .before .before .before .before .before .before .before .before .before .before .before
 
-abbrev at-rank : tie.After-states → tie.After-rank
+abbrev at-rank : tie.After-width → tie.After-rank
 at-rank d = d .before .before .before .before .before .before
 
 -- the place of the pair
-small : (d : tie.After-states) → let a = entry d .args in a .s * d .states .result + a .t < most-pairs
-small d = place-small (entry d .pre .0) (d .states .ensures)
+small : (d : tie.After-width) → let a = entry d .args in a .s * d .width .result + a .t < most-pairs
+small d = place-small (entry d .pre .0) (d .width .ensures)
 
 mul-place : tie.Need-mul-place
 mul-place c = omega (arith, small c)
@@ -47,7 +47,7 @@ add-place c = omega (arith, small c)
 found-requires : tie.Need-found-requires
 found-requires c κs =
     let d = c .before in
-    let h = place-after (entry d .pre .0) (at-rank d .rank .ensures .ranks-are) (d .states .ensures) in
+    let h = place-after (entry d .pre .0) (at-rank d .rank .ensures .ranks-are) (d .width .ensures) in
     (h, omega (arith, h))
 
 mul-if1 : tie.Need-mul-if1
@@ -56,7 +56,7 @@ mul-if1 c = omega (arith, small (c .before .before))
 slice-read-if1 : tie.Need-slice-read-if1
 slice-read-if1 c =
     let d = c .before .before .before in
-    place-after (entry d .pre .0) (at-rank d .rank .ensures .ranks-are) (d .states .ensures)
+    place-after (entry d .pre .0) (at-rank d .rank .ensures .ranks-are) (d .width .ensures)
 
 slice-aggregate-show-flow : tie.Need-slice-aggregate-show-flow
 slice-aggregate-show-flow c = search needs
@@ -66,7 +66,7 @@ show-flow-requires c κs =
     let at-if1 = c .before .before .before in
     let d = at-if1 .before .before .before .before in
     let p = entry d .pre in
-    kept-after (p .0) (at-rank d .rank .ensures) (d .states .ensures)
+    kept-after (p .0) (at-rank d .rank .ensures) (d .width .ensures)
     (omega (arith, slice-aggregate-show-flow (c .before .before))) (omega (arith, p .1, d .before .before .amounts .given)) (at-if1 .if1 .taken)
 
 same-length : tie.Need-same-length
@@ -83,7 +83,7 @@ returns c =
     let at-shown = c .before .before .before .before in
     let at-if1 = at-shown .before .before .before .before in
     let d = at-if1 .before .before .before .before in
-    flow-ranked (entry d .pre .0) (at-rank d .rank .ensures) (d .states .ensures)
+    flow-ranked (entry d .pre .0) (at-rank d .rank .ensures) (d .width .ensures)
     (at-if1 .before .before .found .ensures) (at-if1 .if1 .taken) (at-shown .show-flow .ensures)
 
 same-length-4 : tie.Need-same-length-4
@@ -95,7 +95,7 @@ same-length-5 c = search needs
 returns-2 : tie.Need-returns-2
 returns-2 c =
     let d = c .before .before .before .before in
-    other-ranked (entry d .pre .0) (at-rank d .rank .ensures) (d .states .ensures) (c .before .before .found .ensures) (c .if1 .left)
+    other-ranked (entry d .pre .0) (at-rank d .rank .ensures) (d .width .ensures) (c .before .before .found .ensures) (c .if1 .left)
 
 pub rank-pairs-spec : {M : Type 1} → statement M
 rank-pairs-spec =
@@ -104,7 +104,7 @@ rank-pairs-spec =
     full-requires
     slice-aggregate-rank
     rank-requires
-    states-requires
+    width-requires
     mul-place
     add-place
     found-requires

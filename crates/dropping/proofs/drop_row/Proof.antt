@@ -9,7 +9,7 @@ use Rattle.set.specs.Words.{mask}
 use Rattle.relation.specs.Rows.{row-of}
 use Rattle.set.proofs.Sets.{both-of}
 use Rattle.form.specs.Form.{start-of}
-use Rattle.form.specs.Tables.{first-form, second-table}
+use Rattle.form.specs.Tables.{first-form, contract-table}
 use Rattle.form.proofs.FormLaws.{limits, counts, start-bound}
 use Rattle.fit.specs.Known.{Tried}
 use Rattle.fit.proofs.Trying.{lent-again}
@@ -67,7 +67,7 @@ drop-step-requires c κs =
       lent-again (d .pre .0) (l .loop .inv .3),
       l .loop .inv .4,
       omega (arith, c .before .before .loop-test .taken, l .before .before .start-of .ensures, start-bound (first-form (a .tables .now)) (d .pre .0 .loaded .first) (a .s + 1) (omega (arith, d .pre .2))),
-      kept-columns (second-table (a .tables .now)) (row-of (a .rows .now) (a .s)) (mask (a .doubt)) (d .pre .4) e (l .loop .inv .5),
+      kept-columns (contract-table (a .tables .now)) (row-of (a .rows .now) (a .s)) (mask (a .doubt)) (d .pre .4) e (l .loop .inv .5),
     )
 
 difference-requires : tie.Need-difference-requires Inv-loop μ-loop

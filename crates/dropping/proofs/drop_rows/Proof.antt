@@ -8,7 +8,7 @@ use Rattle.word.specs.Mask.{member}
 use Rattle.set.specs.Words.{words, mask, after, rest}
 use Rattle.set.proofs.Sets.{walk-begin, walk-into, walk-on, walk-done}
 use Rattle.relation.proofs.Parts.{part-row}
-use Rattle.form.specs.Tables.{first-table, second-table}
+use Rattle.form.specs.Tables.{first-table, contract-table}
 use Rattle.decision.specs.Fitting.{relation-of}
 use Rattle.fit.specs.Known.{Tried}
 use Rattle.dropping.specs.Falling.{Doubtless}
@@ -84,7 +84,7 @@ drop-row-requires c κs =
       },
       u .inv .4,
       w .0,
-      subst (λ (n : ℕ). Doubtless (first-table (a .tables .now)) (second-table (a .tables .now)) (relation-of (a .tables .now) (a .rows .now)) (s .result) (member n))
+      subst (λ (n : ℕ). Doubtless (first-table (a .tables .now)) (contract-table (a .tables .now)) (relation-of (a .tables .now) (a .rows .now)) (s .result) (member n))
           (part-row 0 most-states (u .marks) (s .result) (s .ensures .0) ∙ sym (c .before .before .get .ensures)) (w .1),
       d .pre .1 .ready .columns (s .result) (w .0),
     )

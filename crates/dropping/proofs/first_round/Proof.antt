@@ -10,8 +10,9 @@ use Rattle.simulation.specs.Limits.{most-states}
 use Rattle.simulation.specs.Table.{states-of}
 use Rattle.simulation.specs.Round.{round}
 use Rattle.set.specs.Words.{mask}
-use Rattle.form.specs.Tables.{first-form, second-form, first-table, second-table}
+use Rattle.form.specs.Tables.{first-form, first-table, contract-table}
 use Rattle.form.proofs.FormLaws.{limits, sound}
+use Rattle.form.proofs.Contract.{contract-sound}
 use Rattle.links.specs.Places.{lost-in}
 use Rattle.dropping.proofs.Dropping.{Finding, finding-start, finding-marks, finding-end}
 use Rattle.dropping.proofs.First.{first-falls, from-next}
@@ -21,7 +22,7 @@ use Rattle.dropping.proofs.first_round.Tie as tie
 abbrev Inv-loop : tie.InvT-loop
 Inv-loop tables marks₀ p fell₀ s₀ marks fell s =
     (s ≤ p) × (length marks ≡ length marks₀)
-    × Finding (first-table tables) (second-table tables) (round (first-table tables) (second-table tables) 0) (leb s) (lost-in marks) (mask fell)
+    × Finding (first-table tables) (contract-table tables) (round (first-table tables) (contract-table tables) 0) (leb s) (lost-in marks) (mask fell)
 
 abbrev μ-loop : tie.MeasureT-loop
 μ-loop tables marks₀ p fell₀ s₀ marks fell s = p - s
@@ -71,7 +72,7 @@ loop-again c =
       omega (arith, i .loop-test .taken),
       c .before .before .marks .given ∙ l .loop .inv .1,
       finding-marks (l .loop .marks) (r .result) (c .with-row .result) a (few i) (omega (arith, l .loop .inv .1, d .pre .1)) (c .before .before .before .put .ensures) (from-next s)
-          (r .ensures ∙ first-falls (first-table tables) (second-table tables) (sound (first-form tables) (d .pre .0 .first)) (sound (second-form tables) (d .pre .0 .second)) s a)
+          (r .ensures ∙ first-falls (first-table tables) (contract-table tables) (sound (first-form tables) (d .pre .0 .first)) (contract-sound tables (d .pre .0)) s a)
           (c .with-row .ensures) (l .loop .inv .2),
     )
 

@@ -5,7 +5,7 @@ use borrow.Author.Needs.{needs}
 use Rattle.simulation.specs.Limits.{most-states}
 use Rattle.form.specs.Tables.{first-form, second-form}
 use Rattle.fit.specs.Known.{TargetSets}
-use Rattle.links.specs.Links.{Empty, Linked}
+use Rattle.links.specs.Links.{Empty, Linked, ContractLinked}
 use Rattle.links.proofs.Filling.{empty-part, behind-still, all-filled}
 use Rattle.links.proofs.fill_sets.Statement.{statement}
 use Rattle.links.proofs.fill_sets.Tie as tie
@@ -31,8 +31,8 @@ part-behind-start c = search needs
 part-behind-end : tie.Need-part-behind-end
 part-behind-end c = search needs
 
-link-requires-2 : tie.Need-link-requires-2
-link-requires-2 c κs =
+link-contract-requires : tie.Need-link-contract-requires
+link-contract-requires c κs =
     let l = c .before .before in
     let k = l .before in
     let d = k .before .before .before .before in
@@ -68,11 +68,11 @@ returns c =
     let d = k₁ .before .before .before .before in
     let first = first-form (d .args .tables .now) in
     let second = second-form (d .args .tables .now) in
-    let kinds = all-filled (d .args .sets .now) (k₁ .link .last .1 .1 .0) (d .pre .1) (l₁ .sets .given .0) (k₂ .link2 .last .1 .1 .0) (l₂ .sets2 .given .0) (k₃ .target-sets .last .1 .0) (l₃ .sets3 .given .0) in
+    let kinds = all-filled (d .args .sets .now) (k₁ .link .last .1 .1 .0) (d .pre .1) (l₁ .sets .given .0) (k₂ .link-contract .last .1 .0) (l₂ .sets2 .given .0) (k₃ .target-sets .last .1 .0) (l₃ .sets3 .given .0) in
     record {
       room = kinds .room;
       first = subst (Linked first) (sym (kinds .before-are)) (k₁ .link .ensures);
-      second = subst (Linked second) (sym (kinds .behind-are)) (k₂ .link2 .ensures);
+      second = subst (ContractLinked (d .args .tables .now)) (sym (kinds .behind-are)) (k₂ .link-contract .ensures);
       targets = subst (TargetSets second) (sym (kinds .targets-are)) (k₃ .target-sets .ensures);
     }
 
@@ -87,7 +87,7 @@ fill-sets-spec =
     sub-behind
     part-behind-start
     part-behind-end
-    link-requires-2
+    link-contract-requires
     sub-target-sets
     part-target-sets-start
     part-target-sets-end

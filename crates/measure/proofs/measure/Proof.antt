@@ -5,6 +5,7 @@ use lib.ListN.{length, getD}
 use Rattle.simulation.specs.Limits.{most-pairs}
 use Rattle.form.specs.Tables.{second-form}
 use Rattle.form.proofs.FormLaws.{limits}
+use Rattle.form.proofs.Contract.{contract-states}
 use Rattle.measure.proofs.Measuring.{MeasureLoop, measure-start, place-known, pair-in, pair-noted, measure-pair, measure-next, measure-end}
 use Rattle.measure.proofs.measure.Statement.{statement}
 use Rattle.measure.proofs.measure.Tie as tie
@@ -26,9 +27,11 @@ turn c = c .before .before .before .before .before .before
 abbrev last : tie.After-slice-known5 Inv-loop μ-loop → tie.After-measure-pair Inv-loop μ-loop
 last c = c .before .before .before .before
 
--- the second table has a state
-wide : (o : tie.At-loop Inv-loop μ-loop) → 0 < o .before .states .result
-wide o = omega (arith, o .before .states .ensures, limits (second-form (entry o .args .tables .now)) (entry o .pre .0 .ranked .loaded .second) .states-some)
+-- the contract has a state
+wide : (o : tie.At-loop Inv-loop μ-loop) → 0 < o .before .width .result
+wide o =
+    let tables = entry o .args .tables .now in
+    omega (arith, o .before .width .ensures, contract-states tables, limits (second-form tables) (entry o .pre .0 .ranked .loaded .second) .states-some)
 
 -- the place before i, and that of its pair
 place : (n : tie.In-loop Inv-loop μ-loop) → let i = n .before .loop .i in (i - 1 < length (entry (n .before) .args .order .now)) × (i - 1 < most-pairs)
@@ -37,8 +40,8 @@ place n = place-known (entry (n .before) .pre .1) (n .before .loop .inv) (n .loo
 held : (n : tie.In-loop Inv-loop μ-loop) → let p = getD (entry (n .before) .args .order .now) (n .before .loop .i - 1) 0 in (p < length (n .before .loop .lengths)) × (p < most-pairs)
 held n = pair-in (entry (n .before) .pre .1) (n .before .loop .inv) (n .loop-test .taken)
 
-states-requires : tie.Need-states-requires Inv-loop μ-loop
-states-requires c κs = c .before .before .before .before .before .before .before .pre .0 .ranked .loaded .second
+width-requires : tie.Need-width-requires Inv-loop μ-loop
+width-requires c κs = c .before .before .before .before .before .before .before .pre .0 .ranked .loaded .second
 
 loop-holds : tie.Need-loop-holds Inv-loop μ-loop
 loop-holds c = measure-start (c .before .before .before .before .before .before .before .before .pre .0)
@@ -74,7 +77,7 @@ measure-pair-requires : tie.Need-measure-pair-requires Inv-loop μ-loop
 measure-pair-requires c κs =
     let n = c .before .before .before .before .before in
     let o = n .before in
-    measure-pair (entry o .pre .1) (o .loop .inv) (n .loop-test .taken) (entry o .pre .2) _ (o .before .states .ensures)
+    measure-pair (entry o .pre .1) (o .loop .inv) (n .loop-test .taken) (entry o .pre .2) _ (o .before .width .ensures)
 
 mul-lengths : tie.Need-mul-lengths Inv-loop μ-loop
 mul-lengths c = record { fits = omega (arith, held (turn (last c)) .1) }
@@ -89,7 +92,7 @@ loop-again : tie.Need-loop-again Inv-loop μ-loop
 loop-again c =
     let n = turn (last c) in
     let o = n .before in
-    measure-next (entry o .pre .1) (o .loop .inv) (n .loop-test .taken) _ _ (o .before .states .ensures) (last c .measure-pair .ensures) (c .before .before .before .sets .given) (c .before .amounts .given)
+    measure-next (entry o .pre .1) (o .loop .inv) (n .loop-test .taken) _ _ (o .before .width .ensures) (last c .measure-pair .ensures) (c .before .before .before .sets .given) (c .before .amounts .given)
 
 same-length : tie.Need-same-length Inv-loop μ-loop
 same-length c = c .before .loop .inv .same-lengths
@@ -109,7 +112,7 @@ measure-spec =
     (tie.spec
     Inv-loop
     μ-loop
-    states-requires
+    width-requires
     loop-holds
     sub-i
     mul-p

@@ -1,7 +1,9 @@
 -- `order::list` meets its contract. Assumes nothing.
 use mathlib.Core.Path.{_∙_}
 use mathlib.Core.Logic.{inl}
+use Prim.Native.Nat.{_<_}
 use native.Mathlib.Omega.{arith}
+use Rattle.simulation.specs.Limits.{most-states}
 use Rattle.counting.proofs.Pairs.{rank-asked, lost-low}
 use Rattle.order.proofs.Walks.{RootAlone, root-alone, root-walking}
 use borrow.Author.Needs.{needs}
@@ -12,12 +14,17 @@ use Rattle.order.proofs.list.Tie as tie
 abbrev start : tie.After-put → tie.Start
 start d = d .before .before .before .before .before .before .before .before .before .before .before .before
 
+low : (e : tie.Start) → (e .args .s < most-states) × (e .args .t < most-states)
+low e = lost-low (e .pre .1) (e .pre .0 .ranked .loaded)
+
 -- the root alone is to be passed
 root : (d : tie.After-put) → RootAlone (start d .args .s) (start d .args .t) (d .put .last .0)
 root d =
-    let p = start d .pre in
     let cleared = d .before .before .before .before .clear in
-    root-alone (cleared .last .0) (omega arith) (cleared .ensures) (lost-low (p .1) (p .0 .ranked .loaded) .0) (d .before .single .result) (d .before .single .ensures) (d .put .ensures)
+    root-alone (cleared .last .0) (omega arith) (cleared .ensures) (low (start d) .0) (d .before .single .result) (d .before .single .ensures) (d .put .ensures)
+
+cast-t21 : tie.Need-cast-t21
+cast-t21 c = record { fits = omega (arith, low (start (c .before .before .before .before .before)) .1) }
 
 rank-at-requires : tie.Need-rank-at-requires
 rank-at-requires c κs =
@@ -62,11 +69,11 @@ list-spec =
     (λ c. search needs)
     (λ c κs. search needs)
     (λ c. search needs)
-    (λ c κs. search needs)
+    (λ c κs. low (c .before .before .before .before .before .before .before .before .before .before) .1)
     (λ c κs. search needs)
     (λ c κs. search needs)
     (λ c. search needs)
-    (λ c. search needs)
+    cast-t21
     rank-at-requires
     (λ c κs. search needs)
     (λ c. search needs)

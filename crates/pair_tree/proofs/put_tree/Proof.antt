@@ -2,32 +2,29 @@
 -- Assumes nothing.
 use native.Mathlib.Omega.{arith}
 use borrow.Author.Needs.{needs}
-use Rattle.form.proofs.FormLaws.{pairs-bound}
+use Rattle.form.proofs.Contract.{contract-pairs}
 use Rattle.pair_tree.proofs.Putting.{count-is, count-small}
 use Rattle.pair_tree.proofs.put_tree.Statement.{statement}
 use Rattle.pair_tree.proofs.put_tree.Tie as tie
 
-abbrev entry : tie.After-states2 → tie.Start
+abbrev entry : tie.After-width → tie.Start
 entry d = d .before .before .before .before .before .before
 
 states-requires : tie.Need-states-requires
 states-requires c κs = search needs
 
-states-requires-2 : tie.Need-states-requires-2
-states-requires-2 c κs = search needs
+width-requires : tie.Need-width-requires
+width-requires c κs = search needs
 
 mul-if1 : tie.Need-mul-if1
-mul-if1 c =
-    let l = entry c .pre .0 .loaded in
-    omega (arith, count-small _ _ (l .first) (l .second) (c .before .states .ensures) (c .states2 .ensures))
+mul-if1 c = omega (arith, count-small (entry c .pre .0 .loaded) (c .before .states .ensures) (c .width .ensures))
 
 put-tree-of-few-requires : tie.Need-put-tree-of-few-requires
 put-tree-of-few-requires c κs =
     let at-if1 = c .before .before in
     let d = at-if1 .before in
     let p = entry d .pre in
-    let l = p .0 .loaded in
-    (p .0, p .1, p .2, omega (arith, at-if1 .if1 .taken, count-is _ _ (l .first) (l .second) (d .before .states .ensures) (d .states2 .ensures)))
+    (p .0, p .1, p .2, omega (arith, at-if1 .if1 .taken, count-is (p .0 .loaded) (d .before .states .ensures) (d .width .ensures)))
 
 same-length : tie.Need-same-length
 same-length c = search needs
@@ -48,7 +45,7 @@ put-tree-in-requires : tie.Need-put-tree-in-requires
 put-tree-in-requires c κs =
     let at-lengths = c .before .before in
     let p = entry (at-lengths .before .before .before) .pre in
-    let few = pairs-bound _ _ (p .0 .loaded .first) (p .0 .loaded .second) in
+    let few = contract-pairs _ (p .0 .loaded) in
     (p .0, p .1, p .2, omega (arith, few, slice-aggregate-put-tree-in (at-lengths .before)), omega (arith, few, slice-aggregate-put-tree-in-2 at-lengths))
 
 same-length-3 : tie.Need-same-length-3
@@ -65,7 +62,7 @@ put-tree-spec =
     tie.close
     (tie.spec
     states-requires
-    states-requires-2
+    width-requires
     mul-if1
     put-tree-of-few-requires
     same-length

@@ -2,24 +2,22 @@
 -- Assumes nothing.
 use native.Mathlib.Omega.{arith}
 use borrow.Author.Needs.{needs}
-use Rattle.form.proofs.FormLaws.{pairs-bound}
+use Rattle.form.proofs.Contract.{contract-pairs}
 use Rattle.pair_tree.proofs.Putting.{count-is, count-small}
 use Rattle.pair_tree.proofs.tree_length.Statement.{statement}
 use Rattle.pair_tree.proofs.tree_length.Tie as tie
 
-abbrev entry : tie.After-states2 → tie.Start
+abbrev entry : tie.After-width → tie.Start
 entry d = d .before .before .before .before .before .before .before
 
 states-requires : tie.Need-states-requires
 states-requires c κs = search needs
 
-states-requires-2 : tie.Need-states-requires-2
-states-requires-2 c κs = search needs
+width-requires : tie.Need-width-requires
+width-requires c κs = search needs
 
 mul-if1 : tie.Need-mul-if1
-mul-if1 c =
-    let l = entry c .pre .0 .loaded in
-    omega (arith, count-small _ _ (l .first) (l .second) (c .before .states .ensures) (c .states2 .ensures))
+mul-if1 c = omega (arith, count-small (entry c .pre .0 .loaded) (c .before .states .ensures) (c .width .ensures))
 
 slice-aggregate-tree-length : tie.Need-slice-aggregate-tree-length
 slice-aggregate-tree-length c = search needs
@@ -29,7 +27,7 @@ tree-length-requires c κs =
     let at-order = c .before .before .before in
     let d = at-order .before .before in
     let p = entry d .pre in
-    let n = count-is _ _ (p .0 .loaded .first) (p .0 .loaded .second) (d .before .states .ensures) (d .states2 .ensures) in (
+    let n = count-is (p .0 .loaded) (d .before .states .ensures) (d .width .ensures) in (
       record { ranked = p .0; room = omega (arith, n, at-order .before .if1 .taken, slice-aggregate-tree-length at-order); notes = p .3; amounts-room = p .2 },
       p .1,
       p .4,
@@ -54,8 +52,7 @@ tree-length-requires-2 : tie.Need-tree-length-requires-2
 tree-length-requires-2 c κs =
     let at-order = c .before .before .before in
     let p = entry (at-order .before .before) .pre in
-    let l = p .0 .loaded in
-    (record { ranked = p .0; room = omega (arith, pairs-bound _ _ (l .first) (l .second), slice-aggregate-tree-length-2 at-order); notes = p .3; amounts-room = p .2 }, p .1, p .4)
+    (record { ranked = p .0; room = omega (arith, contract-pairs _ (p .0 .loaded), slice-aggregate-tree-length-2 at-order); notes = p .3; amounts-room = p .2 }, p .1, p .4)
 
 same-length-4 : tie.Need-same-length-4
 same-length-4 c = search needs
@@ -74,7 +71,7 @@ tree-length-spec =
     tie.close
     (tie.spec
     states-requires
-    states-requires-2
+    width-requires
     mul-if1
     slice-aggregate-tree-length
     tree-length-requires

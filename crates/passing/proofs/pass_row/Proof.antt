@@ -7,8 +7,8 @@ use native.Mathlib.Nat.{mul-le-mul, le-of-lt}
 use lib.ListN.{length, getD}
 use Rattle.simulation.specs.Limits.{most-states, most-pairs}
 use Rattle.simulation.specs.Round.{rank}
-use Rattle.form.specs.Tables.{second-form, first-table, second-table}
-use Rattle.form.proofs.FormLaws.{limits}
+use Rattle.form.specs.Tables.{first-table, contract-table}
+use Rattle.form.proofs.Contract.{contract-few}
 use Rattle.set.specs.Words.{words, after, rest}
 use Rattle.set.proofs.Sets.{walk-done}
 use Rattle.counting.proofs.Pairs.{rank-asked}
@@ -33,38 +33,38 @@ abbrev μ-loop : tie.MeasureT-loop
 μ-loop tables ranks order₀ choices₀ counts₀ room₀ amounts₀ rank s base pairs v₀ k₀ order choices counts room amounts v k = words - k
 
 -- the places before: where the row's width is known, and the start
-abbrev states : tie.After-lowest Inv-loop2 μ-loop2 Inv-loop μ-loop → tie.After-states Inv-loop2 μ-loop2 Inv-loop μ-loop
-states l = l .before .before .before .before .before .before .before .before
+abbrev width : tie.After-lowest Inv-loop2 μ-loop2 Inv-loop μ-loop → tie.After-width Inv-loop2 μ-loop2 Inv-loop μ-loop
+width l = l .before .before .before .before .before .before .before .before
 
-abbrev start : tie.After-states Inv-loop2 μ-loop2 Inv-loop μ-loop → tie.Start Inv-loop2 μ-loop2 Inv-loop μ-loop
+abbrev start : tie.After-width Inv-loop2 μ-loop2 Inv-loop μ-loop → tie.Start Inv-loop2 μ-loop2 Inv-loop μ-loop
 start d = d .before .before .before .before .before .before .before .before .before
 
 -- where the ranks of the row begin
-base-small : (d : tie.After-states Inv-loop2 μ-loop2 Inv-loop μ-loop) → start d .args .w .s * d .states .result ≤ most-pairs
+base-small : (d : tie.After-width Inv-loop2 μ-loop2 Inv-loop μ-loop) → start d .args .w .s * d .width .result ≤ most-pairs
 base-small d =
     let e = start d in
-    let few : d .states .result ≤ most-states = omega (arith, d .states .ensures, limits (second-form (e .args .tables .now)) (e .pre .0 .given .given .ranked .loaded .second) .states-few) in
+    let few : d .width .result ≤ most-states = omega (arith, d .width .ensures, contract-few (e .args .tables .now) (e .pre .0 .given .given .ranked .loaded)) in
     mul-le-mul (le-of-lt (e .pre .1)) few
 
 -- the rank of the lowest pair left is at its place
 place : (l : tie.After-lowest Inv-loop2 μ-loop2 Inv-loop μ-loop) →
-    let d = states l in
+    let d = width l in
     let a = start d .args in
-    a .w .s * d .states .result + l .lowest .result < length (a .ranks .now)
+    a .w .s * d .width .result + l .lowest .result < length (a .ranks .now)
 place l =
-    let d = states l in
+    let d = width l in
     let e = start d in
-    subst (λ (n : ℕ). e .args .w .s * n + l .lowest .result < length (e .args .ranks .now)) (sym (d .states .ensures))
+    subst (λ (n : ℕ). e .args .w .s * n + l .lowest .result < length (e .args .ranks .now)) (sym (d .width .ensures))
     (rank-asked (low-lost (l .before .before .loop2 .inv) (l .lowest .ensures .1)) (e .pre .0 .given .given .ranked) .3)
 
 read : (l : tie.After-lowest Inv-loop2 μ-loop2 Inv-loop μ-loop) →
-    let d = states l in
+    let d = width l in
     let a = start d .args in
-    getD (a .ranks .now) (a .w .s * d .states .result + l .lowest .result) 0 ≡ rank (first-table (a .tables .now)) (second-table (a .tables .now)) (a .w .s) (l .lowest .result)
+    getD (a .ranks .now) (a .w .s * d .width .result + l .lowest .result) 0 ≡ rank (first-table (a .tables .now)) (contract-table (a .tables .now)) (a .w .s) (l .lowest .result)
 read l =
-    let d = states l in
+    let d = width l in
     let a = start d .args in
-    low-rank (l .before .before .loop2 .inv) (l .lowest .ensures .1) (ap (λ (n : ℕ). getD (a .ranks .now) (a .w .s * n + l .lowest .result) 0) (d .states .ensures))
+    low-rank (l .before .before .loop2 .inv) (l .lowest .ensures .1) (ap (λ (n : ℕ). getD (a .ranks .now) (a .w .s * n + l .lowest .result) 0) (d .width .ensures))
 
 loop-holds : tie.Need-loop-holds Inv-loop2 μ-loop2 Inv-loop μ-loop
 loop-holds c =

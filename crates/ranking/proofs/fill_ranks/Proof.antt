@@ -5,8 +5,9 @@ use Prim.Native.Nat.{_*_}
 use native.Mathlib.Omega.{arith}
 use borrow.Author.Needs.{needs}
 use Rattle.simulation.specs.Limits.{most-states}
-use Rattle.form.specs.Tables.{first-form, second-form, first-table, second-table}
-use Rattle.form.proofs.FormLaws.{limits, pairs-bound}
+use Rattle.form.specs.Tables.{first-form, first-table, contract-table}
+use Rattle.form.proofs.FormLaws.{limits}
+use Rattle.form.proofs.Contract.{contract-few, contract-pairs}
 use Rattle.fit.proofs.Trying.{none-tried}
 use Rattle.links.proofs.Filling.{empty-part}
 use Rattle.ranking.proofs.Ends.{begun, refined-over}
@@ -16,8 +17,8 @@ use Rattle.ranking.proofs.fill_ranks.Tie as tie
 states-requires : tie.Need-states-requires
 states-requires c κs = search needs
 
-states-requires-2 : tie.Need-states-requires-2
-states-requires-2 c κs = search needs
+width-requires : tie.Need-width-requires
+width-requires c κs = search needs
 
 mul-clear-ranks : tie.Need-mul-clear-ranks
 mul-clear-ranks c =
@@ -26,16 +27,24 @@ mul-clear-ranks c =
     let d = p .before .before .before .before .before .before .before .before in
     let l = d .pre .ranking .loaded in
     let tables = d .args .tables .now in
-    omega (arith, ap₂ _*_ (p .states .ensures) (q .states2 .ensures), pairs-bound (first-form tables) (second-form tables) (l .first) (l .second))
+    omega (arith, ap₂ _*_ (p .states .ensures) (q .width .ensures), contract-pairs tables l)
 
 clear-ranks-requires : tie.Need-clear-ranks-requires
 clear-ranks-requires c κs =
     let q = c .before in
     let p = q .before in
-    omega (arith, ap₂ _*_ (p .states .ensures) (q .states2 .ensures), p .before .before .before .before .before .before .before .before .pre .ranking .ranks-room)
+    omega (arith, ap₂ _*_ (p .states .ensures) (q .width .ensures), p .before .before .before .before .before .before .before .before .pre .ranking .ranks-room)
 
 narrow-requires : tie.Need-narrow-requires
-narrow-requires c κs = search needs
+narrow-requires c κs =
+    let q = c .before .before .before .before .before in
+    let p = q .before in
+    let d = p .before .before .before .before .before .before .before .before in
+    let loaded = d .pre .ranking .loaded in
+    let tables = d .args .tables .now in (
+      omega (arith, p .states .ensures, limits (first-form tables) (loaded .first) .states-few, d .pre .ranking .rows-open .room),
+      omega (arith, q .width .ensures, contract-few tables loaded),
+    )
 
 fill-sets-requires : tie.Need-fill-sets-requires
 fill-sets-requires c κs = search needs
@@ -64,9 +73,9 @@ refine-requires c κs =
         amounts-room = d .pre .ranking .amounts-room;
         known = none-tried (d .pre .tried-room) (d .pre .untried);
       };
-      after = begun (first-table tables) (second-table tables) (a .rows .now) (n .narrow .last .0) (a .ranks .now) (z .clear-ranks .last .0) full (p .states .ensures) (q .states2 .ensures)
+      after = begun (first-table tables) (contract-table tables) (a .rows .now) (n .narrow .last .0) (a .ranks .now) (z .clear-ranks .last .0) full (p .states .ensures) (q .width .ensures)
           (omega (arith, p .states .ensures, limits (first-form tables) (loaded .first) .states-few))
-          (omega (arith, q .states2 .ensures, limits (second-form tables) (loaded .second) .states-few)) (n .narrow .ensures) (z .clear-ranks .ensures);
+          (omega (arith, q .width .ensures, contract-few tables loaded)) (n .narrow .ensures) (z .clear-ranks .ensures);
       none-lost = empty-part most-states most-states (a .marks .now) (d .pre .no-marks);
     }
 
@@ -93,14 +102,14 @@ returns c =
     let f = c .before .before .before .before .before .before .before .before .before .before in
     let z = f .before .before .before .before .before .before .before .before .before .before .before .before .before .before .before .before .before in
     let q = z .before .before in
-    refined-over (q .before .states .ensures) (q .states2 .ensures) (z .clear-ranks .ensures) (f .refine .ensures)
+    refined-over (q .before .states .ensures) (q .width .ensures) (z .clear-ranks .ensures) (f .refine .ensures)
 
 pub fill-ranks-spec : {M : Type 1} → statement M
 fill-ranks-spec =
     tie.close
     (tie.spec
     states-requires
-    states-requires-2
+    width-requires
     mul-clear-ranks
     clear-ranks-requires
     narrow-requires

@@ -2,8 +2,9 @@
 -- Assumes nothing.
 use native.Mathlib.Omega.{arith}
 use borrow.Author.Needs.{needs}
-use Rattle.form.specs.Tables.{first-form, second-form}
+use Rattle.form.specs.Tables.{first-form}
 use Rattle.form.proofs.FormLaws.{limits}
+use Rattle.form.proofs.Contract.{contract-few}
 use Rattle.ranking.proofs.Ends.{kept-few, filled}
 use Rattle.ranking.proofs.rank_untried.Statement.{statement}
 use Rattle.ranking.proofs.rank_untried.Tie as tie
@@ -53,7 +54,7 @@ returns c =
     let f = s .before .before .before .before .before .before .before .before .before .before .before .before in
     let d = f .before .before .before .before .before .before .before .before .before .before .before .before .before .before in
     let tables = d .args .tables .now in
-    filled tables _ (limits (second-form tables) (d .pre .0 .loaded .second) .states-few) (d .pre .0 .ranks-room) (same-length c) (s .states .ensures) (f .fill-ranks .ensures) (c .count .ensures)
+    filled tables _ (contract-few tables (d .pre .0 .loaded)) (d .pre .0 .ranks-room) (same-length c) (s .states .ensures) (f .fill-ranks .ensures) (c .count .ensures)
 
 pub rank-untried-spec : {M : Type 1} → statement M
 rank-untried-spec =

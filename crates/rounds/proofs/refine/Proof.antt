@@ -6,7 +6,7 @@ use lib.ListN.{length, getD}
 use Rattle.simulation.specs.Round.{pairs}
 use Rattle.set.specs.Words.{mask}
 use Rattle.set.proofs.Sets.{not-none, not-some}
-use Rattle.form.specs.Tables.{first-table, second-table}
+use Rattle.form.specs.Tables.{first-table, contract-table}
 use Rattle.fit.specs.Known.{Tried}
 use Rattle.links.specs.Places.{lost-in}
 use Rattle.rounds.specs.Turns.{Standing}
@@ -17,12 +17,12 @@ use Rattle.rounds.proofs.refine.Tie as tie
 abbrev Inv-loop : tie.InvT-loop
 Inv-loop tables ranks₀ sets rows₀ marks₀ tried₀ amounts₀ last₀ ranks rows marks tried amounts last =
     (length ranks ≡ length ranks₀) × (length rows ≡ length rows₀) × (length marks ≡ length marks₀) × (length tried ≡ length tried₀) × (length amounts ≡ length amounts₀)
-    × Standing (first-table tables) (second-table tables) (last .count) rows ranks (lost-in marks) (mask (last .fell))
+    × Standing (first-table tables) (contract-table tables) (last .count) rows ranks (lost-in marks) (mask (last .fell))
     × Tried tables rows tried
-    × ((i : ℕ) → pairs (first-table tables) (second-table tables) ≤ i → getD ranks i 0 ≡ getD ranks₀ i 0)
+    × ((i : ℕ) → pairs (first-table tables) (contract-table tables) ≤ i → getD ranks i 0 ≡ getD ranks₀ i 0)
 
 abbrev μ-loop : tie.MeasureT-loop
-μ-loop tables ranks₀ sets rows₀ marks₀ tried₀ amounts₀ last₀ ranks rows marks tried amounts last = pairs (first-table tables) (second-table tables) - last .count
+μ-loop tables ranks₀ sets rows₀ marks₀ tried₀ amounts₀ last₀ ranks rows marks tried amounts last = pairs (first-table tables) (contract-table tables) - last .count
 
 first-round-requires : tie.Need-first-round-requires Inv-loop μ-loop
 first-round-requires c κs =

@@ -3,8 +3,8 @@
 use mathlib.Core.Path.{refl}
 use native.Mathlib.Omega.{arith}
 use borrow.Author.Needs.{needs}
-use Rattle.form.specs.Tables.{first-form, second-form, first-table, second-table}
-use Rattle.form.proofs.FormLaws.{limits, pairs-bound}
+use Rattle.form.specs.Tables.{first-table, contract-table}
+use Rattle.form.proofs.Contract.{contract-few, contract-pairs}
 use Rattle.fit.proofs.Trying.{tried-less}
 use Rattle.rounds.proofs.Turning.{held-less, lost-places, bounded, moved, past, sure}
 use Rattle.rounds.proofs.turn.Statement.{statement}
@@ -15,19 +15,19 @@ add-count c =
     let d = c .before .before .before .before .before .before .before .before in
     let t = d .pre .0 in
     let tables = d .args .tables .now in
-    omega (arith, bounded (t .standing) (d .pre .1), pairs-bound (first-form tables) (second-form tables) (t .prepared .loaded .first) (t .prepared .loaded .second))
+    omega (arith, bounded (t .standing) (d .pre .1), contract-pairs tables (t .prepared .loaded))
 
-states-requires : tie.Need-states-requires
-states-requires c κs = search needs
+width-requires : tie.Need-width-requires
+width-requires c κs = search needs
 
 settle-requires : tie.Need-settle-requires
 settle-requires c κs =
     let d = c .before .before .before .before .before .before .before .before .before .before .before .before .before in
     let t = d .pre .0 in
-    let e = c .states .ensures in (
+    let e = c .width .ensures in (
       t .prepared .rows-room,
       t .prepared .marks-room,
-      omega (arith, e, limits (second-form (d .args .tables .now)) (t .prepared .loaded .second) .states-few),
+      omega (arith, e, contract-few (d .args .tables .now) (t .prepared .loaded)),
       (λ s u m. t .standing .next .within s u m .1),
       lost-places (t .standing) e (t .prepared .ranks-room),
     )
@@ -61,10 +61,10 @@ drop-rows-requires c κs =
         target-sets = p .sets-known .targets;
         rows-room = omega (arith, p .rows-room, r .rows .given);
         marks-room = omega (arith, p .marks-room, m .marks .given);
-        ready = sure t (moved (t .standing) (d .pre .1) (s .before .states .ensures) (s .settle .ensures)) w;
+        ready = sure t (moved (t .standing) (d .pre .1) (s .before .width .ensures) (s .settle .ensures)) w;
         none-lost = w .empty;
       },
-      tried-less (held-less (first-table tables) (second-table tables) (s .settle .ensures)) (p .known),
+      tried-less (held-less (first-table tables) (contract-table tables) (s .settle .ensures)) (p .known),
       p .amounts-room,
     )
 
@@ -89,7 +89,7 @@ returns c =
     let s = n .before .before .before .before .before .before .before .before .before .before .before .before .before .before in
     let d = s .before .before .before .before .before .before .before .before .before .before .before .before .before .before in
     let t = d .pre .0 .standing in
-    let e = s .before .states .ensures in (
+    let e = s .before .width .ensures in (
       refl,
       record {
         standing = record { after = moved t (d .pre .1) e (s .settle .ensures); next = n .drop-rows .ensures .fallen };
@@ -103,7 +103,7 @@ turn-spec =
     tie.close
     (tie.spec
     add-count
-    states-requires
+    width-requires
     settle-requires
     doubts-requires
     sub-targets

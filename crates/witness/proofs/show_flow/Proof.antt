@@ -2,6 +2,7 @@
 -- Assumes nothing.
 use native.Mathlib.Omega.{arith}
 use borrow.Author.Needs.{needs}
+use Rattle.form.proofs.Contract.{contract-states}
 use Rattle.flows.proofs.FlowRoom.{flow-within}
 use Rattle.witness.proofs.Showing.{flow-refused, flow-shown}
 use Rattle.witness.proofs.Room.{room-limit, room-asked-enough}
@@ -25,7 +26,7 @@ refused-requires c κs = search needs
 returns : tie.Need-returns
 returns c =
     let p = entry (c .before .before) .pre in
-    flow-refused _ _ _ _ _ _ _ (p .first) (p .second) (p .kept) (c .before .before .flow-room .ensures) (c .before .if1 .taken) (c .refused .ensures)
+    flow-refused _ _ _ _ _ _ _ _ (p .first) (omega (arith, p .second, contract-states (entry (c .before .before) .args .tables .now))) (p .kept) (c .before .before .flow-room .ensures) (c .before .if1 .taken) (c .refused .ensures)
 
 put-flows-requires : tie.Need-put-flows-requires
 put-flows-requires c κs = let p = entry (c .before .before .before) .pre in (p, omega (arith, c .before .before .before .flow-room .ensures, room-asked-enough _ (p .loaded) _ (p .first)))
@@ -48,7 +49,7 @@ same-length-2 c = search needs
 returns-2 : tie.Need-returns-2
 returns-2 c =
     let d = c .before .before .before .before .before in
-    flow-shown _ _ _ _ _ _ _ (d .before .before .before .before .flow-room .ensures) (omega arith) (d .put-flows .ensures) (c .with-written .ensures)
+    flow-shown _ _ _ _ _ _ _ _ (d .before .before .before .before .flow-room .ensures) (omega arith) (d .put-flows .ensures) (c .with-written .ensures)
 
 pub show-flow-spec : {M : Type 1} → statement M
 show-flow-spec =

@@ -23,25 +23,25 @@ under : (c : tie.Else1) → entry c .args .bytes ≤ longest
 under c = omega (arith, c .if1 .left)
 
 -- the pair's place
-low : (c : tie.After-targets) → let a = entry (c .before .before) .args in a .s * c .before .states .result + a .t < most-pairs
-low c = hand-low (entry (c .before .before) .pre) _ (c .before .states .ensures)
+low : (c : tie.After-targets) → let a = entry (c .before .before) .args in a .s * c .before .width .result + a .t < most-pairs
+low c = hand-low (entry (c .before .before) .pre) _ (c .before .width .ensures)
 
-place : (c : tie.After-targets) → let a = entry (c .before .before) .args in a .s * c .before .states .result + a .t < length (a .counts .now)
-place c = hand-place (entry (c .before .before) .pre) _ (c .before .states .ensures)
+place : (c : tie.After-targets) → let a = entry (c .before .before) .args in a .s * c .before .width .result + a .t < length (a .counts .now)
+place c = hand-place (entry (c .before .before) .pre) _ (c .before .width .ensures)
 
 -- the bytes that are counted
 few : (c : tie.After-targets) → length (c .targets .result .now) ≤ most-states
 few c = few-targets (hand-choice (entry (c .before .before) .pre)) (c .targets .ensures)
 
 fits : (c : tie.After-targets) → let a = entry (c .before .before) .args in
-    a .bytes + getD (a .counts .now) (a .s * c .before .states .result + a .t) 0 * (head-length + 4 * length (c .targets .result .now)) < 2 ^ 30
-fits c = hand-fits (entry (c .before .before) .pre) (under (c .before .before)) (c .targets .ensures) _ (c .before .states .ensures)
+    a .bytes + getD (a .counts .now) (a .s * c .before .width .result + a .t) 0 * (head-length + 4 * length (c .targets .result .now)) < 2 ^ 30
+fits c = hand-fits (entry (c .before .before) .pre) (under (c .before .before)) (c .targets .ensures) _ (c .before .width .ensures)
 
 returns : tie.Need-returns
 returns c = record { tally = c .before .before .before .before .pre .tally; total = refl }
 
-states-requires : tie.Need-states-requires
-states-requires c κs = entry c .pre .loaded .second
+width-requires : tie.Need-width-requires
+width-requires c κs = entry c .pre .loaded .second
 
 targets-requires : tie.Need-targets-requires
 targets-requires c κs = let p = entry (c .before) .pre in (p .loaded .first, step-number (hand-choice p))
@@ -67,8 +67,8 @@ slice-write-counts c = place (c .before)
 add-counts-requires : tie.Need-add-counts-requires
 add-counts-requires c κs =
     let at-targets = c .before .before in
-    let at-states = at-targets .before in
-    hand-counts (entry (at-states .before) .pre) (under (at-states .before)) (at-targets .targets .ensures) _ (at-states .states .ensures)
+    let at-width = at-targets .before in
+    hand-counts (entry (at-width .before) .pre) (under (at-width .before)) (at-targets .targets .ensures) _ (at-width .width .ensures)
 
 mul-result : tie.Need-mul-result
 mul-result c = record { fits = omega (arith, few (read c)) }
@@ -91,15 +91,15 @@ same-length c = c .before .counts .given ∙ simp length-set
 returns-2 : tie.Need-returns-2
 returns-2 c =
     let at-targets = read c in
-    let at-states = at-targets .before in
-    handed-on (entry (at-states .before) .pre) (under (at-states .before)) (at-targets .targets .ensures) _ (at-states .states .ensures) (same-length c) (c .before .before .add-counts .ensures)
+    let at-width = at-targets .before in
+    handed-on (entry (at-width .before) .pre) (under (at-width .before)) (at-targets .targets .ensures) _ (at-width .width .ensures) (same-length c) (c .before .before .add-counts .ensures)
 
 pub hand-on-spec : {M : Type 1} → statement M
 hand-on-spec =
     tie.close
     (tie.spec
     returns
-    states-requires
+    width-requires
     targets-requires
     mul-at
     add-at

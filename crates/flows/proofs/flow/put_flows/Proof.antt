@@ -5,7 +5,7 @@ use native.Mathlib.Nat.{le-refl}
 use native.Mathlib.Omega.{arith}
 use lib.ListN.{length, set, length-set}
 use Rattle.simulation.specs.Table.{steps}
-use Rattle.form.specs.Tables.{first-form, first-table, second-table}
+use Rattle.form.specs.Tables.{first-form, first-table, second-table, contract-table, listed-steps}
 use Rattle.form.proofs.FormLaws.{limits}
 use Rattle.flows.specs.Flow.{flow-room}
 use Rattle.flows.proofs.FlowWhole.{
@@ -15,7 +15,7 @@ use Rattle.flows.proofs.FlowWhole.{
   count-ordered,
   count-few,
   number-fits,
-  step-sought,
+  step-answered,
   room-kept,
   room-some,
   flowing-begin,
@@ -30,7 +30,7 @@ use Rattle.flows.proofs.flow.put_flows.Tie as tie
 
 abbrev Inv-loop : tie.InvT-loop
 Inv-loop tables rows s t amounts₀ buf₀ start count at₀ k₀ amounts buf at k =
-    Flowing (first-table tables) (second-table tables) s t buf₀ k at buf × (length amounts ≡ length amounts₀)
+    Flowing (first-table tables) (contract-table tables) (listed-steps tables t) s t buf₀ k at buf × (length amounts ≡ length amounts₀)
 
 abbrev μ-loop : tie.MeasureT-loop
 μ-loop tables rows s t amounts₀ buf₀ start count at₀ k₀ amounts buf at k = count - k
@@ -103,7 +103,7 @@ put-step-requires c κs =
     let l = c .before .before .before in
     let p = pair (l .before .before) in
     let lt = turn l (c .before .before .loop-test .taken) in
-    (step-sought p (l .loop .amounts) (l .loop .k) lt (l .loop .inv .1), p .chosen .rows-kept, flowing-room p _ (room l) (l .loop .inv .0) lt)
+    (step-answered p (l .loop .amounts) (l .loop .k) lt (l .loop .inv .1), p .chosen .rows-kept, flowing-room p _ (room l) (l .loop .inv .0) lt)
 
 add-at : tie.Need-add-at Inv-loop μ-loop
 add-at c =

@@ -1,44 +1,42 @@
 -- `flows::flow::put_step` meets its contract. Assumes nothing.
-use Prim.Native.Nat.{_+_, _<_}
+use mathlib.Core.Path.{_≡_, sym, _∙_, ap, subst}
 use native.Mathlib.Omega.{arith}
 use borrow.Author.Needs.{needs}
-use Rattle.form.specs.Form.{transitions-of}
-use Rattle.form.specs.Tables.{second-form}
-use Rattle.form.proofs.FormLaws.{limits}
-use Rattle.flows.proofs.FlowStep.{step-number, step-asked, step-shown}
+use lib.Dec.{T}
+use lib.ListN.{length}
+use Rattle.simulation.specs.Complete.{lists}
+use Rattle.simulation.proofs.Finite.Tests.{true-T}
+use Rattle.form.specs.Tables.{second-table, first-step}
+use Rattle.flows.proofs.FlowStep.{room-one}
+use Rattle.flows.proofs.FlowAdded.{listed-sought, added-shown}
 use Rattle.flows.proofs.flow.put_step.Statement.{statement}
 use Rattle.flows.proofs.flow.put_step.Tie as tie
 
-first-fit-requires : tie.Need-first-fit-requires
-first-fit-requires c κs = search needs
+abbrev entry : tie.After-lists → tie.Start
+entry d = d .before .before .before .before .before .before
 
-start-of-requires : tie.Need-start-of-requires
-start-of-requires c κs = search needs
+-- what is tested
+tested : (d : tie.After-lists) →
+    let a = entry d .args in
+    d .lists .result ≡ lists (second-table (a .tables .now) .codes) (first-step (a .tables .now) (a .j) .code)
+tested d = d .lists .ensures ∙ ap (lists (second-table (entry d .args .tables .now) .codes)) (d .before .code .ensures)
 
-abbrev entry : tie.After-start-of → tie.Start
-entry d = d .before .before .before .before .before .before .before .before .before
+missing : (d : tie.Else1) →
+    let a = entry (d .before) .args in
+    ¬ T (lists (second-table (a .tables .now) .codes) (first-step (a .tables .now) (a .j) .code))
+missing d h = subst T (sym (tested (d .before)) ∙ d .if1 .left) h
 
--- the number of the transition found
-number : (d : tie.After-start-of) → d .start-of .result + d .before .before .before .first-fit .result < transitions-of (second-form (entry d .args .tables .now))
-number d = step-number (entry d .pre .0) (d .before .before .before .first-fit .ensures) (d .start-of .ensures)
+code-requires : tie.Need-code-requires
+code-requires c κs = search needs
 
-add-l : tie.Need-add-l
-add-l c =
-    let k = entry c in
-    omega (arith, number c, limits (second-form (k .args .tables .now)) (k .pre .0 .loaded .second) .transitions-few)
+lists-requires : tie.Need-lists-requires
+lists-requires c κs = search needs
 
-targets-requires : tie.Need-targets-requires
-targets-requires c κs = search needs
-
-targets-requires-2 : tie.Need-targets-requires-2
-targets-requires-2 c κs = (entry (c .before) .pre .0 .loaded .second, number (c .before))
-
-put-one-requires : tie.Need-put-one-requires
-put-one-requires c κs =
-    let d = c .before .before .before .before in
-    let k = entry d in
-    step-asked (k .pre .0) (d .before .before .before .first-fit .ensures) (d .start-of .ensures) (c .before .before .before .targets .ensures)
-    (c .before .before .targets2 .ensures) (d .before .before .amounts .given) (k .pre .2)
+put-listed-requires : tie.Need-put-listed-requires
+put-listed-requires c κs =
+    let d = c .before .before in
+    let k = entry (d .before) in
+    (listed-sought (k .pre .0) (true-T (sym (tested (d .before)) ∙ d .if1 .taken)), k .pre .1, k .pre .2)
 
 same-length : tie.Need-same-length
 same-length c = search needs
@@ -47,23 +45,38 @@ same-length-2 : tie.Need-same-length-2
 same-length-2 c = search needs
 
 returns : tie.Need-returns
-returns c =
-    let n = c .before .before .before .before .before in
-    let d = n .before .before in
-    let k = entry d in
-    step-shown (k .pre .0) (d .before .before .before .first-fit .ensures) (d .start-of .ensures) (n .before .targets .ensures) (n .targets2 .ensures)
-    (k .pre .1) (c .before .before .put-one .ensures)
+returns c = search needs
+
+put-added-requires : tie.Need-put-added-requires
+put-added-requires c κs =
+    let k = entry (c .before .before .before) in
+    let p = k .pre .0 in
+    (p .loaded, p .amounts-room, p .from-first, p .state, omega (arith, k .pre .2, room-one (length (first-step (k .args .tables .now) (k .args .j) .entries)) (p .state)))
+
+same-length-3 : tie.Need-same-length-3
+same-length-3 c = search needs
+
+same-length-4 : tie.Need-same-length-4
+same-length-4 c = search needs
+
+returns-2 : tie.Need-returns-2
+returns-2 c =
+    let p = c .before .before .before .before in
+    let d = p .before .before .before in
+    let k = entry (d .before) in
+    added-shown (k .pre .0) (missing d) (k .pre .1) (p .put-added .ensures .0) (p .put-added .ensures .1)
 
 pub put-step-spec : {M : Type 1} → statement M
 put-step-spec =
     tie.close
     (tie.spec
-    first-fit-requires
-    start-of-requires
-    add-l
-    targets-requires
-    targets-requires-2
-    put-one-requires
+    code-requires
+    lists-requires
+    put-listed-requires
     same-length
     same-length-2
-    returns)
+    returns
+    put-added-requires
+    same-length-3
+    same-length-4
+    returns-2)

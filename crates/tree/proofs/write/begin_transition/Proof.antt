@@ -9,6 +9,7 @@ use Rattle.simulation.specs.Table.{Transition}
 use Rattle.buffer.specs.Buffer.{over}
 use Rattle.choice.specs.Choice.{Choice}
 use Rattle.choice.proofs.Choices.{choice-number, pair-place}
+use Rattle.counting.proofs.Pairs.{number-asked}
 use Rattle.tree.specs.Begin.{head-bytes}
 use Rattle.tree.proofs.write.begin_transition.Statement.{statement}
 use Rattle.tree.proofs.write.begin_transition.Tie as tie
@@ -18,7 +19,7 @@ chosen-at : {tables : List ℕ} {s t p q : ℕ} (choices : List ℕ) → p ≡ q
 chosen-at {tables} {s} {t} choices e w = subst (λ (j : ℕ). Choice tables s t j) (sym (ap (λ (n : ℕ). getD choices n 0) e)) w
 
 number-requires : tie.Need-number-requires
-number-requires c κs = search needs
+number-requires c κs = let p = c .before .before .before .before .before .before .pre in number-asked (p .lost) (p .ranked .loaded)
 
 shared-slice-read-j : tie.Need-shared-slice-read-j
 shared-slice-read-j c = search needs
