@@ -98,3 +98,16 @@ pub fn large(random: &mut Random, kind: usize) -> (Table, Table) {
         }
     }
 }
+
+/// All pairs of states, or so many of them, half with equal numbers.
+pub fn chosen(random: &mut Random, tables: &(Table, Table), count: usize) -> Vec<(usize, usize)> {
+    let (p, q) = (tables.0.states.len(), tables.1.states.len());
+    if p * q <= count {
+        return (0..p * q).map(|at| (at / q, at % q)).collect();
+    }
+    let mut one = |k: usize| match (random.below(p), random.below(q)) {
+        (s, _) if k % 2 == 0 => (s, s % q),
+        any => any,
+    };
+    (0..count).map(&mut one).collect()
+}

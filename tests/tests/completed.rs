@@ -772,19 +772,6 @@ fn unlike(random: &mut Random, (first, second): (Table, Table)) -> (Table, Table
     (more(first), more(second))
 }
 
-/// All pairs of states, or so many of them, half with equal numbers.
-fn chosen(random: &mut Random, tables: &(Table, Table), count: usize) -> Vec<(usize, usize)> {
-    let (p, q) = (tables.0.states.len(), tables.1.states.len());
-    if p * q <= count {
-        return (0..p * q).map(|at| (at / q, at % q)).collect();
-    }
-    let mut one = |k: usize| match (random.below(p), random.below(q)) {
-        (s, _) if k % 2 == 0 => (s, s % q),
-        any => any,
-    };
-    (0..count).map(&mut one).collect()
-}
-
 #[test]
 fn small_tables() {
     // In both orders, so that it is now the one, now the other whose codes the
@@ -796,7 +783,7 @@ fn small_tables() {
         let tables = unlike(&mut random, tables);
         let swapped = (tables.1.clone(), tables.0.clone());
         for tables in [tables, swapped] {
-            let chosen = chosen(&mut random, &tables, 25);
+            let chosen = alike::chosen(&mut random, &tables, 25);
             seen.judge(SUBSETS, &tables, &chosen);
         }
     }
@@ -820,7 +807,7 @@ fn wide_tables() {
         let first = make::random(&mut random, shape);
         let second = make::edited(&mut random, &first, 1 + round % 4, 3);
         let tables = unlike(&mut random, (first, second));
-        let chosen = chosen(&mut random, &tables, 30);
+        let chosen = alike::chosen(&mut random, &tables, 30);
         seen.judge(SUBSETS, &tables, &chosen);
     }
     seen.above(80);
@@ -834,7 +821,7 @@ fn large_tables() {
         for round in 0..150 {
             let tables = alike::large(&mut random, round % 4);
             let tables = unlike(&mut random, tables);
-            let chosen = chosen(&mut random, &tables, 12);
+            let chosen = alike::chosen(&mut random, &tables, 12);
             seen.judge(4, &tables, &chosen);
         }
     });
@@ -862,7 +849,7 @@ fn limits() {
         let first = make::sprinkled(&mut random, &first, ENTRIES);
         assert_eq!(first.entries(), ENTRIES);
         let tables = (first, make::without(second, &free));
-        let chosen = chosen(&mut random, &tables, 10);
+        let chosen = alike::chosen(&mut random, &tables, 10);
         deep(|| seen.judge(0, &tables, &chosen));
     }
     seen.above(12);

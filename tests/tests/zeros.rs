@@ -446,19 +446,6 @@ impl Seen {
     }
 }
 
-/// All pairs of states, or so many of them, half with equal numbers.
-fn chosen(random: &mut Random, tables: &(Table, Table), count: usize) -> Vec<(usize, usize)> {
-    let (p, q) = (tables.0.states.len(), tables.1.states.len());
-    if p * q <= count {
-        return (0..p * q).map(|at| (at / q, at % q)).collect();
-    }
-    let mut one = |k: usize| match (random.below(p), random.below(q)) {
-        (s, _) if k % 2 == 0 => (s, s % q),
-        any => any,
-    };
-    (0..count).map(&mut one).collect()
-}
-
 /// The tables with some entries of weight 0 more on each side, or none.
 fn sprinkled(random: &mut Random, (first, second): (Table, Table)) -> (Table, Table) {
     let mut more = |table: Table| {
@@ -475,7 +462,7 @@ fn small_tables() {
     for round in 0..2_000 {
         let tables = alike::small(&mut random, round % 8);
         let tables = sprinkled(&mut random, tables);
-        let chosen = chosen(&mut random, &tables, 16);
+        let chosen = alike::chosen(&mut random, &tables, 16);
         seen.judge(SUBSETS, &tables, &chosen);
     }
     seen.above(2_000);
@@ -505,7 +492,7 @@ fn wide_tables() {
         };
         let table = make::random(&mut random, shape);
         let tables = emptied(&mut random, &table, 1 + round % 4);
-        let chosen = chosen(&mut random, &tables, 24);
+        let chosen = alike::chosen(&mut random, &tables, 24);
         seen.judge(SUBSETS, &tables, &chosen);
     }
     seen.above(500);
@@ -519,7 +506,7 @@ fn large_tables() {
         for round in 0..100 {
             let tables = alike::large(&mut random, round % 4);
             let tables = sprinkled(&mut random, tables);
-            let chosen = chosen(&mut random, &tables, 8);
+            let chosen = alike::chosen(&mut random, &tables, 8);
             seen.judge(4, &tables, &chosen);
         }
     });
@@ -536,7 +523,7 @@ fn limits() {
         let table = make::sized(&mut random, states, codes, round % 4 == 0);
         let tables = emptied(&mut random, &table, round % 5);
         assert_eq!(tables.0.entries(), ENTRIES);
-        let chosen = chosen(&mut random, &tables, 10);
+        let chosen = alike::chosen(&mut random, &tables, 10);
         deep(|| seen.judge(0, &tables, &chosen));
     }
     seen.above(80);
@@ -557,7 +544,7 @@ fn deep_trees() {
         let [first, second] =
             [first, second].map(|table| make::sprinkled(&mut random, &table, ENTRIES));
         let tables = (first, second);
-        let mut chosen = chosen(&mut random, &tables, 30);
+        let mut chosen = alike::chosen(&mut random, &tables, 30);
         chosen[0] = (0, 0);
         deep(|| seen.judge(0, &tables, &chosen));
     }
@@ -581,7 +568,7 @@ fn widened_then_checked() {
             assert_eq!(parse(&wide).as_ref(), Ok(table));
             wide
         });
-        let chosen = chosen(&mut random, &tables, 8);
+        let chosen = alike::chosen(&mut random, &tables, 8);
         let pair = Pair::in_bytes(SUBSETS, (first, second), tables.clone());
         for (s, t) in chosen {
             let judged = check(&pair, s, t, pair.lengths(s, t), round as u64);

@@ -67,8 +67,8 @@ fn drop_listed(
     fallen
 }
 
-// The states of a set that do not answer the transition j. Where the second table does not list its code, a state answers by the
-// transition to itself, which all targets of j must be related to.
+// The states of a set that do not answer the transition j. Where the second table does not list its code, a state answers by its transition
+// to itself: all targets of j must be related to the state.
 fn drop_step(
     tables: &[u16],
     j: usize,
