@@ -265,10 +265,10 @@ pub second-state : (tables : List ℕ) {t : ℕ} → t < states-of (contract-tab
 second-state tables b = omega (arith, contract-states tables)
 
 -- m fits the listed transition l of t
-pub fits-listed : (tables : List ℕ) → Loaded (second-form tables) → (R : Relation) (m : Transition) (t l : ℕ) → t < states-of (contract-table tables)
+pub listed-answers : (tables : List ℕ) → Loaded (second-form tables) → (R : Relation) (m : Transition) (t l : ℕ) → t < states-of (contract-table tables)
     → start-of (second-form tables) t ≤ l → l < start-of (second-form tables) (t + 1) → {b : Bool} → b ≡ fits-step R m (second-step tables l) → b ≡ true
     → any-of (fits-step R m) (steps (contract-table tables) t) ≡ true
-fits-listed tables loaded R m t l b low high e h =
+listed-answers tables loaded R m t l b low high e h =
     let g = second-form tables in
     let state = second-state tables b in
     let same = fits-step-code R m (second-step tables l) (true-T (sym e ∙ h)) in

@@ -49,7 +49,8 @@ fn rank_pairs(
     flow: &mut [u8],
 ) -> Answer
     requires { ⌜ Chosen (now tables) (now ranks) s t × (most-pairs ≤ length (now amounts)) ⌝ }
-    ensures { λ r. ⌜ PairRanked (first-table (now (tables .entry))) (contract-table (now (tables .entry))) (room-asked (now (tables .entry)) s) (listed-steps (now (tables .entry)) t) s t r
+    ensures { λ r. ⌜ PairRanked (first-table (now (tables .entry))) (contract-table (now (tables .entry))) (room-asked (now (tables .entry)) s)
+        (listed-steps (now (tables .entry)) t) s t r
         (now (ranks .entry)) (now (ranks .exit)) (now (flow .entry)) (now (flow .exit)) ⌝ }
 {
     let all = Relation::full();
@@ -73,7 +74,8 @@ fn show(
     tree: &mut [u8],
 ) -> Answer
     requires { ⌜ Chosen (now tables) (now ranks) s t ⌝ }
-    ensures { λ r. ⌜ Compared (first-table (now (tables .entry))) (contract-table (now (tables .entry))) (room-asked (now (tables .entry)) s) (listed-steps (now (tables .entry)) t) s t
+    ensures { λ r. ⌜ Compared (first-table (now (tables .entry))) (contract-table (now (tables .entry))) (room-asked (now (tables .entry)) s)
+        (listed-steps (now (tables .entry)) t) s t
         (lent (now (ranks .entry)) (now (flow .entry)) (now (tree .entry))) (left r (lent (now (ranks .exit)) (now (flow .exit)) (now (tree .exit)))) ⌝ }
 {
     let mut amounts = [1u32; Table::PAIRS];
@@ -101,7 +103,8 @@ pub fn compare_tables(
     tree: &mut [u8],
 ) -> Answer
     requires { ⌜ BothLoaded (now tables) ⌝ }
-    ensures { λ r. ⌜ Compared (first-table (now (tables .entry))) (contract-table (now (tables .entry))) (room-asked (now (tables .entry)) s) (listed-steps (now (tables .entry)) t) s t
+    ensures { λ r. ⌜ Compared (first-table (now (tables .entry))) (contract-table (now (tables .entry))) (room-asked (now (tables .entry)) s)
+        (listed-steps (now (tables .entry)) t) s t
         (lent (now (ranks .entry)) (now (flow .entry)) (now (tree .entry))) (left r (lent (now (ranks .exit)) (now (flow .exit)) (now (tree .exit)))) ⌝ }
 {
     let p = tables::states(tables, Form::FIRST);

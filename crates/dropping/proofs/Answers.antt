@@ -41,8 +41,8 @@ on-set true e = ap not (e tt)
 on-set false e = refl
 
 -- the second table lists the code of the transition j
-abbrev pub Listed : (tables : List ℕ) (j : ℕ) → Bool
-Listed tables j = lists (second-table tables .codes) (first-step tables j .code)
+abbrev pub code-listed : (tables : List ℕ) (j : ℕ) → Bool
+code-listed tables j = lists (second-table tables .codes) (first-step tables j .code)
 
 -- its targets have rows
 pub target-places : {tables sets rows amounts ts : List ℕ} (j : ℕ) → Lent tables sets rows amounts → j < transitions-of (first-form tables) → ts ≡ targets (first-step tables j) → Places (height rows) ts
@@ -54,7 +54,7 @@ module _ (tables rows : List ℕ) (j near : ℕ) where
   Unanswering fallen = (t : ℕ) → fallen t ≡ (member near t && not (answered tables rows j t))
 
   -- a listed code: the transitions that are listed decide
-  pub gone-listed : {fallen : Test} → Listed tables j ≡ true → ((t : ℕ) → fallen t ≡ (member near t && not (fits-listed tables rows j t))) → Unanswering fallen
+  pub gone-listed : {fallen : Test} → code-listed tables j ≡ true → ((t : ℕ) → fallen t ≡ (member near t && not (fits-listed tables rows j t))) → Unanswering fallen
   gone-listed e h t = h t ∙ ap (λ (b : Bool). member near t && not b) (sym (answered-listed tables (first-step tables j) t (true-T e) (relation-of tables rows)))
 
   module _ (loaded : BothLoaded tables) (own : j < transitions-of (first-form tables)) where
@@ -69,7 +69,7 @@ module _ (tables rows : List ℕ) (j near : ℕ) where
         (distribution-at (first-form tables) (loaded .first) j own .in-range i (omega (arith, targets-length m))) b)
 
     -- another: what all its targets are related to decides
-    pub gone-added : {common fallen : Test} → Listed tables j ≡ false → StatesOnly (contract-table tables) near
+    pub gone-added : {common fallen : Test} → code-listed tables j ≡ false → StatesOnly (contract-table tables) near
         → ((t : ℕ) → t < most-states → common t ≡ all-of (λ s. holds rows s t) (targets (first-step tables j))) → fallen ≡ except (member near) common → Unanswering fallen
     gone-added {common} e columns h d t = ap (λ (X : Test). X t) d ∙ on-set (member near t) at
       where
@@ -77,4 +77,4 @@ module _ (tables rows : List ℕ) (j near : ℕ) where
         at m =
             let b = columns t m in
             h t (omega (arith, contract-few tables loaded)) ∙ sym (all-held t b)
-            ∙ sym (answered-added tables loaded j t own (omega (arith, contract-states tables)) (T-not (Listed tables j) (false-T e)) (relation-of tables rows))
+            ∙ sym (answered-added tables loaded j t own (omega (arith, contract-states tables)) (T-not (code-listed tables j) (false-T e)) (relation-of tables rows))

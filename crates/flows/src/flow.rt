@@ -111,8 +111,8 @@ fn put_added(tables: &[u16], j: usize, t: usize, amounts: &mut [u32], buf: &mut 
         × (t < states-of (second-table (now tables))) × (step-room 1 (length (first-step (now tables) j .entries)) ≤ length (now buf)) ⌝ }
     ensures { λ r. ⌜ ((i : ℕ) → i < length (first-step (now (tables .entry)) j .entries)
         → cell (now (amounts .exit)) i 0 ≡ getD (weights (first-step (now (tables .entry)) j)) i 0)
-        × Filled (one-flow added-place (first-step (now (tables .entry)) j) (self-loop t (first-step (now (tables .entry)) j .code)) (cell (now (amounts .exit))))
-        r (now (buf .entry)) (now (buf .exit)) ⌝ }
+        × Filled (one-flow added-place (first-step (now (tables .entry)) j) (self-loop t (first-step (now (tables .entry)) j .code))
+        (cell (now (amounts .exit)))) r (now (buf .entry)) (now (buf .exit)) ⌝ }
 {
     send_all(tables::weights(tables, Form::FIRST, j), amounts);
     let state = t as u16;

@@ -21,7 +21,7 @@ use Rattle.fit.specs.Partner.{NextCoded}
 use Rattle.fit.specs.Ranked.{InRound}
 use Rattle.fit.proofs.Partner.{search-begins}
 use Rattle.choice.specs.Choice.{Parted, Tested}
-use Rattle.choice.proofs.Choosing.{LostPair, lost-compared, SetsGathering, number-of, second-state, fits-listed, scan-end, tested-one, tested-none, gathering-start, gathering-next, gathering-coded, gathering-end}
+use Rattle.choice.proofs.Choosing.{LostPair, lost-compared, SetsGathering, number-of, second-state, listed-answers, scan-end, tested-one, tested-none, gathering-start, gathering-next, gathering-coded, gathering-end}
 use Rattle.choice.proofs.find_listed.Statement.{statement}
 use Rattle.choice.proofs.find_listed.Tie as tie
 
@@ -81,7 +81,7 @@ module _ {tables ranks : List ℕ} {s t r j : ℕ} (p : Asked tables ranks s t r
     stopped lt a e =
         let low = l .gathering .scan .low in
         tested-one tables s t first (p .pair .lost) (p .pair .its-rank) low (λ q. omega (arith, q, l .ends))
-        (fits-listed tables second R m t k (p .pair .lost .right) low (omega (arith, l .ends)) (a .fit) e)
+        (listed-answers tables second R m t k (p .pair .lost .right) low (omega (arith, l .ends)) (a .fit) e)
 
     -- number k adds to the sets, and those up to the next with the code don't
     added : {b : Bool} {k′ : ℕ} {sets′ amounts′ : List ℕ} → k < end → Parted R m (second-step tables k) b sets sets′ → b ≡ false → NextCoded tables code (k + 1) end k′

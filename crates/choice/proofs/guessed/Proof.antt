@@ -12,7 +12,7 @@ use Rattle.form.specs.Tables.{first-form, second-form, first-table, second-tabl
 use Rattle.form.proofs.FormLaws.{limits, starts-ascend}
 use Rattle.matrix.proofs.MaskedLaws.{neither}
 use Rattle.relate.proofs.Places.{few-places}
-use Rattle.choice.proofs.Choosing.{number-of, second-state, fits-listed}
+use Rattle.choice.proofs.Choosing.{number-of, second-state, listed-answers}
 use Rattle.choice.proofs.guessed.Statement.{statement}
 use Rattle.choice.proofs.guessed.Tie as tie
 
@@ -79,7 +79,7 @@ returns-2 c = λ h.
     let p = entry .pre in
     let tables = a .tables .now in
     let R = round (first-table tables) (contract-table tables) (pred (a .r)) in
-    fits-listed tables (p .0 .loaded .second) R (first-step tables (a .j)) (a .t) (a .l) (p .5) (p .6) (high at-if2) (at-fits .fits2 .ensures) h
+    listed-answers tables (p .0 .loaded .second) R (first-step tables (a .j)) (a .t) (a .l) (p .5) (p .6) (high at-if2) (at-fits .fits2 .ensures) h
 
 pub guessed-spec : {M : Type 1} → statement M
 guessed-spec =

@@ -8,7 +8,7 @@ use Rattle.simulation.specs.Complete.{lists}
 use Rattle.word.specs.Mask.{member}
 use Rattle.set.specs.Words.{mask}
 use Rattle.relation.specs.Related.{holds}
-use Rattle.dropping.proofs.Answers.{Listed, target-places, gone-listed, gone-added}
+use Rattle.dropping.proofs.Answers.{code-listed, target-places, gone-listed, gone-added}
 use Rattle.dropping.proofs.drop_step.Statement.{statement}
 use Rattle.dropping.proofs.drop_step.Tie as tie
 
@@ -28,7 +28,7 @@ same-length-2 : tie.Need-same-length-2
 same-length-2 c = search needs
 
 -- whether the code is listed, as it was told
-told : (c : tie.After-lists) → let a = c .before .before .before .before .before .before .before .args in Listed (a .tables .now) (a .j) ≡ c .lists .result
+told : (c : tie.After-lists) → let a = c .before .before .before .before .before .before .before .args in code-listed (a .tables .now) (a .j) ≡ c .lists .result
 told c = sym (c .lists .ensures ∙ ap (lists _) (c .before .code .ensures))
 
 returns : tie.Need-returns
