@@ -262,6 +262,8 @@ impl Call {
 #[cfg(feature = "check")]
 pub struct Judged {
     pub answer: Answer,
+    /// As they were left; none where they were not filled in.
+    pub ranks: Vec<u16>,
     /// Targets whose weight had to be shared out over several.
     pub split: usize,
     pub flow: Vec<u8>,
@@ -353,6 +355,7 @@ fn compare(
     }
     Ok(Judged {
         answer,
+        ranks: ranks.to_vec(),
         split,
         flow: flow.to_vec(),
         tree: tree.to_vec(),

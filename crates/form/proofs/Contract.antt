@@ -22,7 +22,8 @@ use Rattle.simulation.proofs.Complete.Loops.{matched-listed, matched-added, apa
 use Rattle.form.specs.Form.{at, actions-from, listed-from, transitions-of, transition-at, table-of, Loaded}
 use Rattle.form.specs.Tables.{first-form, second-form, first-table, second-table, contract-table, first-step, BothLoaded}
 use Rattle.form.proofs.FormLists.{ascends}
-use Rattle.form.proofs.FormLaws.{state-of, by-state, sound, positive-at, limits, pairs-bound}
+use Rattle.form.proofs.Sound.{shaped-codes}
+use Rattle.form.proofs.FormLaws.{by-state, sound, positive-at, limits, pairs-bound}
 
 module _ (f : List ℕ) where
   pub codes-count : length (table-of f .codes) ≡ at f actions-from
@@ -56,12 +57,7 @@ module _ (f : List ℕ) where
         (λ i c. omega (arith, l .valid .codes .ascending i (omega (arith, codes-count)), code-at i (omega arith), code-at (i + 1) (omega arith))) i j a (omega arith)
 
     pub own-codes : OwnCodes (table-of f)
-    own-codes =
-        record {
-          listed = λ t k b.
-              let r = l .valid .shape .listed t k (state-of f t k b) b in
-              lists-same (table-of f .codes) (sym (r .2)) (lists-by (table-of f .codes) (r .0) (r .1));
-        }
+    own-codes = shaped-codes (table-of f) (l .valid .shape)
 
     -- the code of a transition is listed
     pub own-code : (j : ℕ) → j < transitions-of f → T (lists (table-of f .codes) (transition-at f j .code))

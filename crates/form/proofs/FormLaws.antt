@@ -3,16 +3,16 @@
 use mathlib.Core.Path.{_≡_, sym, ap, _∙_, subst}
 use mathlib.Core.List.{List, []}
 use Prim.Native.Nat.{ℕ, _+_, _-_, _*_, _≤_, _<_}
-use native.Mathlib.Nat.{mul-le-mul, not-suc-le-zero}
-use native.Mathlib.Decide.{decLe}
+use native.Mathlib.Nat.{mul-le-mul}
 use native.Mathlib.Omega.{arith}
 use lib.ListN.{length, getD, take, drop, length-map}
 use Rattle.simulation.specs.Sum.{sum, below}
 use Rattle.simulation.specs.Fit.{Positive, total}
 use Rattle.simulation.specs.Table.{Entry, Transition, weights, targets, states-of, steps, no-transition, transition}
 use Rattle.simulation.specs.Demands.{Sound}
-use Rattle.simulation.proofs.Finite.Lists.{below-at, below-past, below-length}
+use Rattle.simulation.proofs.Finite.Lists.{below-at, below-length}
 use Rattle.simulation.proofs.Finite.Sums.{sum-join}
+use Rattle.simulation.proofs.Simulation.Steps.{step-state}
 use Rattle.simulation.specs.Limits.{most-states, most-transitions, most-entries, most-total, most-of-state, most-pairs}
 use Rattle.form.specs.Valid.{Distribution}
 use Rattle.form.specs.Form.{Loaded, targets-from, weights-from, count-of, start-of, transitions-of, entries-listed, entry-start, size-of, column-of, entry-at, transition-at, table-of, Span}
@@ -37,18 +37,6 @@ module _ (f : List ℕ) where
 
   pub steps-count : (s : ℕ) → s < count-of f → length (steps (table-of f) s) ≡ start-of f (s + 1) - start-of f s
   steps-count s h = ap length (steps-are s h) ∙ below-length (transition-at f) (start-of f s) (start-of f (s + 1) - start-of f s)
-
-  steps-past : (s : ℕ) → count-of f ≤ s → steps (table-of f) s ≡ []
-  unfolding table-of
-  steps-past s h = below-past [] _ 0 (count-of f) s h
-
-  -- a state that has a transition is a state
-  pub state-of : (s k : ℕ) → k < length (steps (table-of f) s) → s < states-of (table-of f)
-  state-of s k h = go (decLe (count-of f) s)
-    where
-      go : Dec (count-of f ≤ s) → s < states-of (table-of f)
-      go (yes p) = absurd (not-suc-le-zero (subst (λ (l : List Transition). k < length l) (steps-past s p) h))
-      go (no p) = omega (arith, states-count)
 
   pub entries-count : (j : ℕ) → length (transition-at f j .entries) ≡ size-of f j
   unfolding transition-at
@@ -142,7 +130,7 @@ module _ (f : List ℕ) (l : Loaded f) where
       ap (transition-at f) (sym e) ∙ transition-of s (j - start-of f s) h (omega (arith, counts s h))
 
   pub distribution-of : (s k : ℕ) → k < length (steps (table-of f) s) → Distribution (states-of (table-of f)) (transition (table-of f) s k)
-  distribution-of s k h = l .valid .shape .distribution s k (state-of f s k h) h
+  distribution-of s k h = l .valid .shape .distribution s k (step-state (table-of f) s k h) h
 
   pub limited-of : (s k : ℕ) → k < length (steps (table-of f) s) → Limited (transition (table-of f) s k)
   limited-of s k h =

@@ -1,14 +1,15 @@
--- A table of valid shape without entries of weight 0 is sound in the sense of simulation's demands; no transition has more entries than the table has states.
+-- A table of valid shape without entries of weight 0 is sound in the sense of simulation's demands; it lists the codes of its transitions, and none of these has more entries than the table has states.
 -- Assumes nothing.
-use mathlib.Core.Path.{_≡_, ap}
-use mathlib.Core.List.{[]}
+use mathlib.Core.Path.{_≡_, sym}
 use Prim.Native.Nat.{ℕ, zero, suc, _+_, _≤_, _<_}
-use native.Mathlib.Decide.{decLt}
 use native.Mathlib.Numerals.{add-one}
 use native.Mathlib.Omega.{arith}
-use lib.ListN.{length, length-map, List·getD-eq-default}
-use Rattle.simulation.specs.Table.{Entry, Transition, Table, weights, target-at, states-of, steps}
+use lib.ListN.{length, length-map}
+use Rattle.simulation.specs.Table.{Entry, Transition, Table, weights, target-at}
 use Rattle.simulation.specs.Demands.{Sound}
+use Rattle.simulation.proofs.Simulation.Steps.{step-state}
+use Rattle.simulation.proofs.Complete.Codes.{lists-by, lists-same}
+use Rattle.simulation.proofs.Complete.Tables.{OwnCodes}
 use Rattle.form.specs.Valid.{Distribution, Shaped, AllPositive}
 
 -- numbers that ascend strictly are no less than their places
@@ -30,17 +31,17 @@ few-targets n m d = go (length (m .entries)) (d .some) (d .in-range) (d .ascendi
     go (suc k) l r a = let last = r k (omega arith) in let up = ascending-above (suc k) (target-at m) a k (omega arith) in omega arith
 
 module _ (M : Table) (v : Shaped M) where
-  -- where a state has a transition, it is a state
-  pub state-below : (s k : ℕ) → k < length (steps M s) → s < states-of M
-  state-below s k l = go (decLt s (states-of M))
-    where
-      go : Dec (s < states-of M) → s < states-of M
-      go (yes b) = b
-      go (no b) = let e : length (steps M s) ≡ 0 = ap length (List·getD-eq-default (M .states) [] (omega arith)) in absurd (omega arith)
-
   pub shaped-sound : AllPositive M → Sound M
   shaped-sound positive = record {
-    target-bound = λ s k i l m. v .distribution s k (state-below s k l) l .in-range i (rw weights-long at m);
-    nonempty = λ s k l. rw weights-long (v .distribution s k (state-below s k l) l .some);
+    target-bound = λ s k i l m. v .distribution s k (step-state M s k l) l .in-range i (rw weights-long at m);
+    nonempty = λ s k l. rw weights-long (v .distribution s k (step-state M s k l) l .some);
     positive = λ s k i l m. positive s k l i m;
   }
+
+  pub shaped-codes : OwnCodes M
+  shaped-codes =
+      record {
+        listed = λ s k l.
+            let r = v .listed s k (step-state M s k l) l in
+            lists-same (M .codes) (sym (r .2)) (lists-by (M .codes) (r .0) (r .1));
+      }

@@ -12,6 +12,7 @@ use Rattle.simulation.specs.Table.{Entry, Transition, steps, transition}
 use Rattle.simulation.specs.Support.{support-step, supported}
 use Rattle.simulation.proofs.Finite.Lists.{below-ext}
 use Rattle.simulation.proofs.Finite.Sums.{sum-ext, sum-more, sum-none, sum-le}
+use Rattle.simulation.proofs.Simulation.Steps.{step-state}
 use Rattle.simulation.specs.Limits.{wide}
 use Rattle.table.specs.declared.parts.TableAnswer.{TableAnswer}
 use Rattle.table.specs.declared.parts.TableAnswer.the-variants.{Refused}
@@ -20,12 +21,11 @@ use Rattle.layout.specs.Bytes.{Octets, actions, code, states, count, transition
 use Rattle.table.specs.Stages.{answer}
 use Rattle.form.specs.Form.{form-size, states-from, actions-from, starts-from, entries-listed-from, codes-from, entry-starts-from, listed-from, at, count-of, start-of, transitions-of, entries-listed, entry-start, size-of, entry-at, transition-at, table-of, Loaded}
 use Rattle.form.proofs.Lists.{map-below}
-use Rattle.form.proofs.Sound.{state-below}
 use Rattle.form.proofs.Support.{supported-valid, supported-positive}
 use Rattle.loading.specs.Fill.{Counts, Columns, Between, support-of, support-start, SupportsUpTo, Loads, Reads}
 use Rattle.layout.proofs.Bounds.{accepted-bounds}
 use Rattle.layout.proofs.PlaceLaws.{state-count, step-count, transition-is, label-is, entry-count}
-use Rattle.layout.proofs.ValidLaws.{shaped, valid}
+use Rattle.layout.proofs.ValidLaws.{valid}
 use Rattle.table.proofs.AnswerLaws.{refusal-told, answer-accepted}
 use Rattle.loading.proofs.FillLaws.{between-trans, between-wider, between-beyond}
 use Rattle.loading.proofs.SupportLaws.{support-size, support-start-few}
@@ -79,7 +79,7 @@ module _ (s : List ℕ) (octets : Octets s) (e : refusal wide s ≡ 0) where
     -- how many entries a transition lists
     listed-same : (q k : ℕ) → k < length (steps (table wide s) q) → entries-listed f (start-of f q + k) ≡ length (transition (table wide s) q k .entries)
     listed-same q k l =
-        let at : q < states wide s = omega (arith, state-below (table wide s) (shaped wide s e) q k l, state-count wide s) in
+        let at : q < states wide s = omega (arith, step-state (table wide s) q k l, state-count wide s) in
         let m : k < count wide s q = omega (arith, step-count wide s q at) in
         let j : state-start wide s q + k < transitions wide s = omega (arith, number-bound q at) in
         ap (λ (i : ℕ). entries-listed f (i + k)) (h .starts-are q (omega arith)) ∙ c .sizes-are (state-start wide s q + k) j

@@ -16,7 +16,8 @@ use Rattle.simulation.specs.Round.{rank, rank-list, maximum, zeros}
 use Rattle.simulation.specs.Demands.{Kept, Told, Demands as TheoryDemands}
 use Rattle.simulation.proofs.Simulation.RankList.{rank-list-length, rank-list-at}
 use Rattle.simulation.proofs.Demands as theory
-use Rattle.simulation.proofs.Complete.Tables.{complete-sound}
+use Rattle.simulation.proofs.Support.Tables.{supported-states}
+use Rattle.simulation.proofs.Complete.Tables.{complete-states, complete-sound}
 use Rattle.simulation.proofs.Finite.Tests.{is-true, same-eqb}
 use Rattle.layout.specs.Bytes.{Decoded, refused, accepted, decode}
 use Rattle.form.proofs.Support.{supported-sound}
@@ -137,6 +138,9 @@ module _ (M N : Table) (room listed s t : ℕ) (b : Buffers) (x : ℕ → Amount
       yes-only true e _ = eqb→eq (rank M N 0 0) 0 (subst T (sym e) tt)
       yes-only false e f = absurd (omega arith)
 
+pub contract-states : (M N : Table) → states-of (contract M N) ≡ states-of N
+contract-states M N = complete-states (supported M .codes) (supported N) ∙ supported-states N
+
 module _ (first second : List ℕ) (s t : ℕ) (b : Buffers) (r : Result) (h : Checked first second s t b r)
     (M N : Table) (e : decode first ≡ accepted M) (f : decode second ≡ accepted N) where
   -- what they are judged as, the room asked, and how many transitions are listed
@@ -169,6 +173,12 @@ module _ (first second : List ℕ) (s t : ℕ) (b : Buffers) (r : Result) (h : C
         ap (λ (l : List ℕ). getD l (u * states-of N′ + v) 0) g
         ∙ List·getD-append (rank-list M′ N′) _ 0 (u * states-of N′ + v) (omega (arith, rank-list-length M′ N′, place-below u v (states-of M′) (states-of N′) a c))
         ∙ rank-list-at M′ N′ u v a c
+
+    -- by the states that the tables list
+    pub ranks-judged : (u v : ℕ) → u < states-of M → v < states-of N → rank-at M N s t b r u v ≡ rank (supported M) (contract M N) u v
+    ranks-judged u v a c =
+        let same = contract-states M N in
+        ap (λ (n : ℕ). getD (r .buffers .ranks) (u * n + v) 0) (sym same) ∙ ranks-left u v (omega (arith, supported-states M)) (omega arith)
 
     demands : TheoryDemands M′ N′
     demands =

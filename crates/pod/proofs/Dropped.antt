@@ -3,9 +3,8 @@
 use mathlib.Core.Path.{_≡_, refl, sym, ap, ap₂, _∙_, subst, subst₂}
 use mathlib.Core.List.{List}
 use mathlib.Core.Logic.{_↔_}
-use Prim.Native.Nat.{ℕ, _+_, _*_, _<_}
-use native.Mathlib.Omega.{arith}
-use lib.ListN.{length, getD}
+use Prim.Native.Nat.{ℕ, _<_}
+use lib.ListN.{length}
 use Rattle.simulation.specs.Fit.{Amounts}
 use Rattle.simulation.specs.Limits.{wide}
 use Rattle.simulation.specs.Table.{Table, states-of, steps}
@@ -13,9 +12,9 @@ use Rattle.simulation.specs.Support.{supported}
 use Rattle.simulation.specs.Complete.{complete, contract-for}
 use Rattle.simulation.specs.Round.{rank}
 use Rattle.simulation.specs.Demands.{Kept}
-use Rattle.simulation.proofs.Support.Tables.{supported-codes, supported-states, supported-twice}
+use Rattle.simulation.proofs.Support.Tables.{supported-codes, supported-twice}
 use Rattle.simulation.proofs.Support.Ranks.{rank-supported}
-use Rattle.simulation.proofs.Complete.Tables.{complete-states, supported-complete}
+use Rattle.simulation.proofs.Complete.Tables.{supported-complete}
 use Rattle.form.proofs.Support.{supported-valid}
 use Rattle.layout.specs.Bytes.{Octets, Decoded, accepted, decode}
 use Rattle.layout.specs.Encode.{encode}
@@ -29,7 +28,7 @@ use Rattle.compare.proofs.Outcome.{met, some-condition}
 use Rattle.pod.specs.Check.{contract, RightFor, Checked}
 use Rattle.pod.specs.Demands.{rank-at}
 use Rattle.pod.specs.Dropped.{Alike}
-use Rattle.pod.proofs.Demands.{call-outcome, ranks-filled, demand-2}
+use Rattle.pod.proofs.Demands.{call-outcome, ranks-filled, ranks-judged}
 
 -- the bytes of the table without them hold it
 pub dropped-decodes : (bytes : List ℕ) → Octets bytes → (M : Table) → decode bytes ≡ accepted M → decode (encode (supported M)) ≡ accepted (supported M)
@@ -140,15 +139,11 @@ module _ (first second dropped : List ℕ) (s t : ℕ) (M N : Table) (e : decode
 -- plain weights of 0, which send nothing out and take nothing in, would give the same ranks
 module _ (first second : List ℕ) (s t : ℕ) (b : Buffers) (r : Result) (h : Checked first second s t b r)
     (M N : Table) (e : decode first ≡ accepted M) (f : decode second ≡ accepted N) (ready : Ready (supported M) (contract M N) s t b) where
-  states-same : states-of (contract M N) ≡ states-of N
-  states-same = complete-states (supported M .codes) (supported N) ∙ supported-states N
-
   contract-same : contract M N ≡ supported (contract-for M N)
   contract-same = ap (λ (cs : List ℕ). complete cs (supported N)) (supported-codes M) ∙ sym (supported-complete (M .codes) N)
 
   pub plain-ranks : (u v : ℕ) → u < states-of M → v < states-of N → rank-at M N s t b r u v ≡ rank M (contract-for M N) u v
   plain-ranks u v a c =
-      ap (λ (n : ℕ). getD (r .buffers .ranks) (u * n + v) 0) (sym states-same)
-      ∙ demand-2 first second s t b r h M N e f ready .ranks u v (omega (arith, supported-states M)) (omega (arith, states-same))
+      ranks-judged first second s t b r h M N e f ready u v a c
       ∙ ap (λ (K : Table). rank (supported M) K u v) contract-same
       ∙ rank-supported M (contract-for M N) u v

@@ -11,9 +11,7 @@ use Rattle.simulation.specs.Fit.{Amounts}
 use Rattle.simulation.specs.Limits.{wide}
 use Rattle.simulation.specs.Table.{Table, states-of}
 use Rattle.simulation.specs.Sum.{sum, any}
-use Rattle.simulation.specs.Support.{supported}
 use Rattle.simulation.proofs.Support.Tables.{supported-states}
-use Rattle.simulation.proofs.Complete.Tables.{complete-states}
 use Rattle.layout.specs.Bytes.{Octets, refuse_unless_, _then_, first, section, byte, field, size-from, total-from, actions, code, end, target-right, weight-right, code-refusal, actions-refusal, states-refusal, transition-refusal, transitions-refusal, entry-refusal, distribution-refusal, run-refusal, entries-refusal, refusal, refused, number, decode-as}
 use Rattle.layout.proofs.DecodeLaws.{number-is}
 use Rattle.layout.proofs.Accepted.{accepted-shaped, accepted-valid}
@@ -24,7 +22,7 @@ use Rattle.compare.specs.Outcome.{Buffers, Result, success}
 use Rattle.pod.specs.Check.{Checked, StatesCounted}
 use Rattle.pod.specs.Demands.{Call, first-refused, second-refused, both-accepted, call-result}
 use Rattle.compare.specs.Condition.{Condition, outside, short-ranks, short-flow, short-tree, long-tree, flow-fits, tree-fits}
-use Rattle.pod.proofs.Demands.{demand-1}
+use Rattle.pod.proofs.Demands.{demand-1, contract-states}
 
 -- ---- a table's number is at most 10
 
@@ -133,7 +131,7 @@ module _ {first second : List ℕ} {s t : ℕ} {b : Buffers} where
   pub ranks-enough : {n k p q : ℕ} → StatesCounted first p → StatesCounted second q → p * q ≤ length (b .ranks) → Call first second s t b n k → n ≡ 20 → ⊥
   ranks-enough m n le (first-refused e) z = omega (arith, refused-most wide first e)
   ranks-enough m n le (second-refused e f) z = omega (arith, refused-most wide second f)
-  ranks-enough m n le (both-accepted {M} {N} e f c) z = ranks-few (omega (arith, ap₂ (λ (p q : ℕ). p * q) (m .right M e ∙ sym (supported-states M)) (n .right N f ∙ sym (complete-states (supported M .codes) (supported N) ∙ supported-states N)))) c z
+  ranks-enough m n le (both-accepted {M} {N} e f c) z = ranks-few (omega (arith, ap₂ (λ (p q : ℕ). p * q) (m .right M e ∙ sym (supported-states M)) (n .right N f ∙ sym (contract-states M N)))) c z
 
   pub tree-enough : {n k : ℕ} → longest ≤ length (b .tree) → Call first second s t b n k → n ≡ 22 → ⊥
   tree-enough le (first-refused e) z = omega (arith, refused-most wide first e)

@@ -7,4 +7,5 @@ pub mod Reading
 pub mod Widening
 pub mod Dropped
 pub mod Governed
+pub mod Chain
 pub mod Examples

@@ -154,6 +154,7 @@ over-added =
     call later listing 0 0 2 0 19 (answered 2 0 0 2 19)
     (lent (2 ∷ 1 ∷ []) [] (1 ∷ 20 ∷ 0 ∷ 2 ∷ 0 ∷ 1 ∷ 0 ∷ 0 ∷ 1 ∷ 2 ∷ 0 ∷ 1 ∷ 10 ∷ 0 ∷ 1 ∷ 1 ∷ 1 ∷ 0 ∷ 0 ∷ []))
 
+-- `alone-fits` and `second-only` say yes and `not-taken` says no: a chain that breaks, since its middle table does not list 0A (02, E14)
 abbrev pub partial-rows : List Row
 partial-rows = alone-fits ∷ alone-short ∷ not-taken ∷ second-only ∷ over-added ∷ []
 

@@ -3,4 +3,5 @@
 pub mod Check
 pub mod Demands
 pub mod Dropped
+pub mod Chain
 pub mod Examples

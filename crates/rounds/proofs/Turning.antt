@@ -15,13 +15,14 @@ use Rattle.simulation.specs.Complete.{lists, added, self-loop, complete}
 use Rattle.simulation.proofs.Finite.Tests.{and-left, is-true, is-false, same-test, below-one}
 use Rattle.simulation.proofs.Simulation.Relation.{relation-at, relation-left, relation-right}
 use Rattle.simulation.proofs.Simulation.Rounds.{in-right, round-falls}
+use Rattle.simulation.proofs.Simulation.Steps.{step-state}
 use Rattle.simulation.proofs.Complete.Codes.{added-new}
 use Rattle.simulation.proofs.Complete.Tables.{Placed as PlacedIn, complete-listed, complete-added, complete-place}
 use Rattle.word.specs.Mask.{Test, member}
 use Rattle.word.proofs.Mask.{member-none}
 use Rattle.form.specs.Form.{Loaded, start-of, transition-at, table-of}
 use Rattle.form.specs.Tables.{first-form, second-form, first-table, second-table, contract-table, BothLoaded}
-use Rattle.form.proofs.FormLaws.{counts, transition-number, transition-of, state-of, weights-length, targets-length}
+use Rattle.form.proofs.FormLaws.{counts, transition-number, transition-of, weights-length, targets-length}
 use Rattle.relation.specs.Related.{holds}
 use Rattle.decision.specs.Fitting.{held}
 use Rattle.fit.specs.Held.{matched}
@@ -126,7 +127,7 @@ module _ (tables behind : List ℕ) (loaded : BothLoaded tables) (linked : Contr
       → (j : ℕ) → j < 1 → holds behind (target-at (self-loop t p) j) t ≡ true
   loop-at t p a missing e =
       let f = first-form tables in
-      let state = state-of f s c own in
+      let state = step-state (first-table tables) s c own in
       below-one (λ j. holds behind (target-at (self-loop t p) j) t ≡ true)
       (linked .loops (start-of f s + c) t (transition-number f (loaded .first) s c state own)
       (λ h. missing (subst (λ (n : ℕ). T (lists (second-table tables .codes) n)) (ap (λ (m : Transition). m .code) (transition-of f (loaded .first) s c state own) ∙ e) h)) a)

@@ -2,11 +2,14 @@
 -- Assumes nothing.
 use mathlib.Core.Path.{_≡_, refl}
 use mathlib.Core.List.{List, [], _∷_}
+use mathlib.Core.Logic.{inl}
 use Prim.Native.Nat.{ℕ}
+use native.Mathlib.Omega.{arith}
 use Rattle.simulation.specs.Sum.{below}
 use Rattle.simulation.specs.Table.{Entry, Transition, Table}
 use Rattle.simulation.specs.Support.{supported}
-use Rattle.simulation.specs.Complete.{added, complete, contract-for}
+use Rattle.simulation.specs.Complete.{lists, added, complete, contract-for}
+use Rattle.simulation.specs.Chain.{Chained, Mediates}
 use Rattle.simulation.specs.Round.{rank, rank-list, maximum, zeros}
 use Rattle.simulation.specs.Tree.{depth, tree, node-bytes}
 use Rattle.simulation.specs.Length.{pair-length, tree-length}
@@ -173,3 +176,19 @@ later = record { codes = 10 ∷ 20 ∷ []; states = (on 20 (entry 0 1 ∷ entry 
 later-tree : node-bytes (tree later (contract-for later listing) 0 0) ≡ 1 ∷ 20 ∷ 0 ∷ 2 ∷ 0 ∷ 1 ∷ 0 ∷ 0 ∷ 1 ∷ 2 ∷ 0 ∷ 1 ∷ 10 ∷ 0 ∷ 1 ∷ 1 ∷ 1 ∷ 0 ∷ 0 ∷ []
 unfolding node-bytes tree complete
 later-tree = refl
+
+-- chains of contracts
+
+-- through a table between P and C, both of whose ranks are as large as that of the whole chain
+chained : Chained (rank P C 0 0) (rank P (with-first 2) 0 0) (rank (with-first 2) C 0 0)
+unfolding rank
+chained _ = inl (omega arith, omega arith)
+
+-- a middle table that does not list a code of the two others breaks the chain: it keeps the pod, and the last keeps it
+broken : (rank display (contract-for display no-way) 0 0 ∷ rank no-way (contract-for no-way listing) 0 0 ∷ rank display (contract-for display listing) 0 0 ∷ []) ≡ 0 ∷ 0 ∷ 1 ∷ []
+unfolding rank complete
+broken = refl
+
+pub not-mediated : ¬ Mediates display no-way listing
+unfolding lists
+not-mediated h = h 10 tt tt

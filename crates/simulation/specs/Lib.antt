@@ -7,6 +7,7 @@ pub mod Table
 pub mod Support
 pub mod Round
 pub mod Complete
+pub mod Chain
 pub mod Tree
 pub mod Length
 pub mod Demands

@@ -149,3 +149,11 @@ module _ (R : Relation) (m : Transition) where
       unfolding apart
       apart-added i t′ b =
           search-added cs N t (m .code) (λ n. apart-by R m i n t′) (like-apart i t′) listed state asked missing ∙ loop-apart R m t (m .code) positive refl i t′ b
+
+  -- whatever codes a table is completed for: one that is asked of both gets the same answer
+  pub matched-same : (cs ds : List ℕ) (N : Table) (t : ℕ) → OwnCodes N → t < states-of N → T (lists cs (m .code)) → T (lists ds (m .code)) → Positive (weights m)
+      → any-of (fits-step R m) (steps (complete cs N) t) ≡ any-of (fits-step R m) (steps (complete ds N) t)
+  matched-same cs ds N t listed state c d positive =
+      ⊎-elim (λ h. matched-listed cs N t h ∙ sym (matched-listed ds N t h))
+      (λ f. let n = T-not (lists (N .codes) (m .code)) f in matched-added cs N t listed state c n positive ∙ sym (matched-added ds N t listed state d n positive))
+      (true-or-not (lists (N .codes) (m .code)))

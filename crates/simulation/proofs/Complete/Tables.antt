@@ -9,7 +9,7 @@ use native.Mathlib.Nat.{not-suc-le-zero, le-of-suc-le-suc}
 use native.Mathlib.Omega.{arith}
 use native.Mathlib.Decide.{decLt}
 use lib.Dec.{T}
-use lib.ListN.{length, getD, length-append, length-map, List·getD-append, List·getD-eq-default}
+use lib.ListN.{length, getD, length-append, length-map, List·getD-append}
 use lib.Seq.{getD-append-add}
 use Rattle.simulation.specs.Sum.{any-of}
 use Rattle.simulation.specs.Fit.{weight}
@@ -20,6 +20,7 @@ use Rattle.simulation.specs.Support.{support-entries, support-step, supp
 use Rattle.simulation.proofs.Finite.Tests.{same-test, below-one}
 use Rattle.simulation.proofs.Finite.Lists.{any-of-at, any-of-by, below-at, below-length}
 use Rattle.simulation.proofs.Support.Tables.{same-table, supported-codes, supported-states, supported-steps}
+use Rattle.simulation.proofs.Simulation.Steps.{step-state}
 use Rattle.simulation.proofs.Complete.Codes.{lists-at, lists-same, added-new, added-from, added-all, added-once, added-none}
 
 -- the transitions of a table have codes that it lists; this holds of every accepted one
@@ -39,14 +40,6 @@ map-at : {A : Type 0} (f : ℕ → A) (l : List ℕ) (d : A) (p : ℕ) → p < l
 map-at f [] d p b = absurd (not-suc-le-zero b)
 map-at f (x ∷ l) d zero b = refl
 map-at f (x ∷ l) d (suc p) b = map-at f l d p (le-of-suc-le-suc b)
-
--- a state with a transition is a state
-step-state : (M : Table) (t k : ℕ) → k < length (steps M t) → t < states-of M
-step-state M t k b = go (decLt t (states-of M))
-  where
-    go : Dec (t < states-of M) → t < states-of M
-    go (yes a) = a
-    go (no a) = absurd (not-suc-le-zero (subst (λ (l : List Transition). k < length l) (List·getD-eq-default (M .states) [] {n = t} (omega arith)) b))
 
 -- a completed table
 
