@@ -1,0 +1,7 @@
+-- `word::bit` meets its contract. Assumes nothing.
+use borrow.Author.Rules.{rules}
+use Rattle.word.proofs.Mask.{bit_is}
+use Rattle.word.proofs.bit.Goals as goal
+
+pub returns : goal.returns
+returns c = bit_is c.args.set c.args.t
