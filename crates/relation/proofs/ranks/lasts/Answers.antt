@@ -1,0 +1,7 @@
+-- `relation::ranks::lasts` meets its contract. Assumes nothing.
+use borrow.Author.Rules.{rules}
+use Rattle.relation.proofs.Lasting.{lasts_digit}
+use Rattle.relation.proofs.ranks.lasts.Goals as goal
+
+pub returns : goal.returns
+returns c = lasts_digit c.args.r c.args.rank c.ranges.r.fits c.ranges.rank.fits
