@@ -401,7 +401,7 @@ def convert(crate, path, old_text, text, row, module):
             if re.search(r"(?<![\w.])κs\b", body):
                 body = body
             new = f.needs[need]
-            out = f"pub {new} : goal.{new}\n{unfolding}{new} {c} ={tr.run(body)}"
+            out = f"pub {new} : goal.{new}\n{unfolding}{new} {c}{m[4]} ={tr.run(body)}"
             imports.update(())
             cm = "\n".join(comments)
             return (cm + "\n" if cm else "") + out, tr.imports

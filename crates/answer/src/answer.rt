@@ -6,7 +6,7 @@ ghost use Rattle.answer.specs.Numbers.{refusal, with_written, with_answer};
 pub const FIELDS: usize = 8;
 
 // The answer of a call, 01's fields in its order. What a call has nothing for is 0.
-#[derive(Drop)]
+#[derive(Clone, Copy)]
 pub struct Answer {
     // 0, or the number of the refusal
     pub number: u32,

@@ -17,7 +17,7 @@ use simulation::Table;
 use word::Word;
 
 // The first row of a path, and the most that it can carry.
-#[derive(Drop)]
+#[derive(Clone, Copy)]
 struct Carried {
     row: usize,
     amount: u32,

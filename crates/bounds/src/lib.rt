@@ -49,7 +49,7 @@ pub fn meets(from: &[u16], rows: &[Word], to: Set) -> bool
 }
 
 // What bounds on the related states tell of a fit, before any flow.
-#[derive(Drop)]
+#[derive(Clone, Copy)]
 pub enum FromBounds {
     Fits,
     Misfits,
@@ -58,7 +58,7 @@ pub enum FromBounds {
 
 // What every, and what some of the targets of a transition are related to, so far as it is known: each is related to all of `every`, and
 // to none outside `some`.
-#[derive(Drop)]
+#[derive(Clone, Copy)]
 pub struct Bounds {
     pub some: Set,
     pub every: Set,

@@ -15,7 +15,7 @@ use transport::maximum_flow;
 use word::Word;
 
 // The rows that lack a column, the columns that one of them has, and the columns that one of them lacks.
-#[derive(Drop)]
+#[derive(Clone, Copy)]
 struct Short {
     rows: Set,
     has: Set,

@@ -7,7 +7,7 @@ ghost use Rattle.flows.specs.Records.{cell_record, row_records, RecordsGathered,
 
 use simulation::Table;
 
-#[derive(Drop)]
+#[derive(Clone, Copy)]
 pub struct Record {
     pub from: u8,
     pub to: u8,

@@ -5,12 +5,12 @@ ghost use Rattle.items.specs.Reads.{ValueBelow, byte_read, half_read, field_read
 
 use simulation::Width;
 
-#[derive(Drop)]
+#[derive(Clone, Copy)]
 pub struct Cursor {
     pub at: usize,
 }
 
-#[derive(Drop)]
+#[derive(Clone, Copy)]
 pub enum Read {
     Value(usize, Cursor),
     End,

@@ -29,7 +29,7 @@ impl Room {
 
 // Where the walk over the pairs is, the rank that it passes, and what it has done: the bytes counted, how many pairs are passed, and the rows
 // with a pair that is still to be passed.
-#[derive(Drop)]
+#[derive(Clone, Copy)]
 pub struct Walk {
     pub s: u8,
     pub t: u8,

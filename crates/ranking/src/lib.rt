@@ -70,7 +70,7 @@ fn none_tried() -> [u8; (Table::TRANSITIONS + 1) * Table::STATES]
 }
 
 // What is found beside the ranks.
-#[derive(Drop)]
+#[derive(Clone, Copy)]
 pub struct Ranked {
     // the count of rounds: the largest rank
     pub rounds: u16,

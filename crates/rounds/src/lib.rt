@@ -51,7 +51,7 @@ fn settle(ranks: &mut [u16], rows: &mut [Word], marks: &[Word], fell: Set, q: us
 }
 
 // How many rounds are done, and the rows that lose a pair in the next.
-#[derive(Drop)]
+#[derive(Clone, Copy)]
 pub struct Round {
     count: u16,
     fell: Set,

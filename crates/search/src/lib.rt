@@ -25,21 +25,21 @@ impl Links {
 }
 
 // The short rows and the free columns.
-#[derive(Drop)]
+#[derive(Clone, Copy)]
 pub struct Ends {
     pub short: Set,
     pub free: Set,
 }
 
 // The rows reached and the columns gone to.
-#[derive(Drop)]
+#[derive(Clone, Copy)]
 struct Visited {
     reached: Set,
     seen: Set,
 }
 
 // The rows reached, and the row of a free column with the length of its path; row Table::STATES where there is none.
-#[derive(Drop)]
+#[derive(Clone, Copy)]
 pub struct Path {
     pub reached: Set,
     pub row: usize,

@@ -9,7 +9,7 @@ ghost use Rattle.set.specs.Words.{words, mask};
 use simulation::Table;
 use word::Word;
 
-#[derive(Drop)]
+#[derive(Clone, Copy)]
 pub struct Set {
     pub words: [Word; Set::WORDS],
 }

@@ -5,7 +5,7 @@ ghost use Rattle.table.specs.Stages.{unread};
 use items::cursor::Cursor;
 
 // Where the parts of an accepted table lie.
-#[derive(Drop)]
+#[derive(Clone, Copy)]
 pub struct Layout {
     pub actions: usize,
     pub states: usize,
@@ -37,13 +37,13 @@ impl Layout {
 }
 
 // A table read up to a cursor, or the number of its refusal.
-#[derive(Drop)]
+#[derive(Clone, Copy)]
 pub enum Stage {
     Refused(u8),
     At(Layout, Cursor),
 }
 
-#[derive(Drop)]
+#[derive(Clone, Copy)]
 pub enum TableAnswer {
     Refused(u8),
     Accepted(Layout),

@@ -10,7 +10,7 @@ use items::items::{codes_refusal, entries_refusal, sum_of, transitions_refusal};
 use simulation::Table;
 
 // The items of a section: how many, where the first lies, and the cursor after the last; or the number of the refusal.
-#[derive(Drop)]
+#[derive(Clone, Copy)]
 pub enum Items {
     Refused(u8),
     At(usize, usize, Cursor),

@@ -23,7 +23,7 @@ use simulation::Table;
 use word::Word;
 
 // The smallest of the sets with the largest excess, and the number of augmenting paths that led to the flow.
-#[derive(Drop)]
+#[derive(Clone, Copy)]
 pub struct Outcome {
     pub cut: Set,
     pub paths: u32,

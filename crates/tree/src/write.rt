@@ -28,7 +28,7 @@ use word::Word;
 pub const STACK: usize = Set::WORDS * (11 * Table::STATES - 1);
 
 // The pair whose part of the buffer is still to be written, and where it is; none if its length is 0.
-#[derive(Drop)]
+#[derive(Clone, Copy)]
 pub struct Rest {
     pub s: usize,
     pub t: usize,
@@ -37,7 +37,7 @@ pub struct Rest {
 }
 
 // The transition of a pair, to be written if it is not longer than the limit.
-#[derive(Drop)]
+#[derive(Clone, Copy)]
 pub struct Step {
     pub s: usize,
     pub t: usize,
@@ -45,7 +45,7 @@ pub struct Step {
 }
 
 // The node of a state and a set, to be written but for a transition that is longer than half.
-#[derive(Drop)]
+#[derive(Clone, Copy)]
 pub struct Node {
     pub s: usize,
     pub members: Set,
