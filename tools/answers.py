@@ -36,11 +36,15 @@ class Function:
         self.places = {p[0]: p for p in row["places"]}
         self.new = {p[0]: n for p, n in zip(row["places"], row["places_by_name"])}
         self.order = [p[0] for p in row["places"]]
+        self.by_norm = {norm(p): p for p in self.order}
         self.needs = {a: b for a, b in row["needs"]}
         self.asked = {a[0]: b for a, b in zip(row["needs"], [x[0] for x in row["asked_at"]])}
         self.settled = set(row["settled"])
         self.loops = [(n[0], n[1], vs, ch) for (n, vs), ch in zip(row["loops"], row["changed"])]
         self.params = row["params"]
+
+    def find(self, p):
+        return p if p in self.places else self.by_norm.get(norm(p))
 
     def parent(self, p):
         if p not in self.places:
@@ -77,6 +81,7 @@ class Turn:
     def __init__(self, f, need=None):
         self.f, self.need = f, need
         self.env = {}
+        self.tuples = {}
         self.aliases = {}
         self.imports = set()
 
@@ -93,6 +98,21 @@ class Turn:
                 k = self.bound_place(i)
                 if k is not None:
                     i = k
+                    continue
+            if t in self.tuples and (i == 0 or self.toks[i - 1] != ".") and self.toks[i + 1 : i + 2] == ["."]:
+                j, rest = i + 1, []
+                while j + 1 < len(self.toks) and self.toks[j] == "." and not self.toks[j + 1].isspace():
+                    rest.append(self.toks[j + 1])
+                    j += 2
+                out.append(".".join([t] + self.by_parameter(self.tuples[t], rest)))
+                i = j
+                continue
+            if t in self.helpers and (i == 0 or self.toks[i - 1] != ".") and not self.need:
+                j = self.skip_space(i + 1)
+                got = self.chain(j) if j > i + 1 else None
+                if got and not got[2] and got[1] != self.roots.get(got[0]):
+                    out.append(self.inlined(t, got[0], got[1]))
+                    i = got[3]
                     continue
             got = self.chain(i)
             if got:
@@ -113,6 +133,22 @@ class Turn:
             i += 1
         return "".join(out)
 
+    def inlined(self, name, root, place):
+        """What a helper says of an earlier place, over the place at hand, which has all its fields."""
+        sig, param, rest, body, sigparam = self.helpers[name]
+        sub = Turn(self.f)
+        sub.__dict__.update({k: v for k, v in self.__dict__.items() if k != "toks"})
+        sub.env = {param: (root, place)}
+        text = sub.run(body)
+        self.imports |= sub.imports
+        if rest:
+            return f"(λ{rest}. {text.strip()})"
+        if sig is None:
+            return f"({text.strip()})"
+        sub.env = {sigparam: (root, place)} if sigparam else {}
+        kind = sub.run(sig)
+        return f"(let it : {kind.strip()} = {text.strip()} in it)"
+
     def skip_space(self, i):
         while i < len(self.toks) and self.toks[i].isspace():
             i += 1
@@ -128,6 +164,10 @@ class Turn:
             return None
         j = self.skip_space(j + 1)
         got = self.chain(j)
+        if got and len(got[2]) == 2 and got[2][1] in ("auto", "kept", "new", "last") and got[1]:
+            step, callee = self.f.places[got[1]][2], self.f.places[got[1]][3]
+            if callee and norm(step[0]) == norm(got[2][0]):
+                self.tuples[name] = callee
         if not got or got[2]:
             return None
         k = self.skip_space(got[3])
@@ -217,14 +257,11 @@ class Turn:
                 elif isloop:
                     word = {"inv": "invariant", "kept": "auto"}.get(rest[0], rest[0])
                     rest = [norm(word)] + rest[1:]
-                elif rest[0] in ("new", "last") and callee and len(rest) > 1 and rest[1] in ("0", "1"):
-                    ps = f.params.get(callee, [])
-                    k, n = 1, 0
-                    while k < len(rest) and rest[k] == "1":
-                        n += 1
-                        k += 1
-                    if k < len(rest) and rest[k] == "0" and n < len(ps):
-                        rest = ["new", ps[n]] + rest[k + 1 :]
+                elif rest[0] in ("new", "last", "kept", "auto") and callee:
+                    word = {"last": "new", "kept": "auto"}.get(rest[0], rest[0])
+                    rest = [word] + self.by_parameter(callee, rest[1:])
+                elif rest[0] in ("taken", "left") and (new.endswith("-test") or new.startswith("if-")):
+                    rest = [{"taken": "true", "left": "false"}[rest[0]]] + rest[1:]
                 elif rest[0] == "type-inv":
                     rest = ["type_inv"] + rest[1:]
             return ".".join([root, new] + rest)
@@ -240,15 +277,23 @@ class Turn:
         # a step that is not this place's: leave it to the reader
         return ".".join([root] + [f"?{head}@{place}?"] + rest)
 
+    def by_parameter(self, callee, rest):
+        """A part of a tuple with an element for each parameter."""
+        ps = self.f.params.get(callee, [])
+        n = 0
+        while n < len(rest) and rest[n] == "1":
+            n += 1
+        if n < len(rest) and rest[n] == "0" and n < len(ps):
+            return [ps[n]] + rest[n + 1 :]
+        return rest
+
     def place_type(self, i):
         """tie.PLACE and its arguments."""
         name = self.toks[i + 2]
         old = self.oldnames.get(name, name)
-        if old not in self.f.new:
-            near = [a for a in self.f.new if norm(a) == norm(old)]
-            if not near:
-                return None
-            old = near[0]
+        old = self.f.find(old)
+        if old is None:
+            return None
         j = i + 3
         while True:
             k = self.skip_space(j)
@@ -304,6 +349,30 @@ def binders(sig):
     return out
 
 
+def spec_list(text):
+    """The arguments of tie.spec."""
+    i = text.index("tie.spec") + len("tie.spec")
+    out, depth, cur = [], 0, ""
+    while i < len(text):
+        ch = text[i]
+        if ch in "({":
+            depth += 1
+        elif ch in ")}":
+            depth -= 1
+            if depth < 0:
+                break
+        if depth == 0 and ch.isspace():
+            if cur.strip():
+                out.append(cur.strip())
+            cur = ""
+        else:
+            cur += ch
+        i += 1
+    if cur.strip():
+        out.append(cur.strip())
+    return out
+
+
 PLACE = re.compile(rf"^tie\.({NAME})(?: (?:(?:invariant|decreases)[-_]loop\d*|\s)+)?$")
 
 
@@ -329,7 +398,12 @@ def convert(crate, path, old_text, text, row, module):
     decls = split(text)
     head, uses, invs, answers, others = [], [], [], [], []
     aliases = {}
+    last = ""
     items = []
+
+    def text_of(d):
+        return "\n".join(d).rstrip()
+
     for d in decls:
         body = [l for l in d if not l.startswith("--")]
         first = body[0] if body else ""
@@ -342,7 +416,8 @@ def convert(crate, path, old_text, text, row, module):
             items.append(("inv", d, first))
         elif m and re.match(rf"{re.escape(m[2])} : tie\.Need-", first):
             items.append(("need", d, first))
-        elif m and "-spec" in m[2] or m and re.search(r"_spec$", m[2]) and first.startswith("pub"):
+        elif m and re.search(r"[-_]spec$", m[2]) and first.startswith("pub"):
+            last = text_of(d)
             continue
         elif not first:
             items.append(("text", d, first))
@@ -361,7 +436,7 @@ def convert(crate, path, old_text, text, row, module):
         if m:
             a, b = PLACE.match(m[2].strip()), PLACE.match(m[3].strip())
             if a and b:
-                aliases[m[1]] = oldnames.get(b[1], b[1])
+                aliases[m[1]] = f.find(oldnames.get(b[1], b[1]))
     kept = []
     imports = set()
     for kind, d, first in items:
@@ -376,6 +451,7 @@ def convert(crate, path, old_text, text, row, module):
         t = text_of(d)
         tr = Turn(f, need)
         tr.answers = given
+        tr.helpers = helpers
         tr.aliases, tr.oldnames, tr.roots, tr.goal_c, tr.own = aliases, oldnames, {}, None, own
         comments = [l for l in t.split("\n") if l.startswith("--")]
         code = "\n".join(l for l in t.split("\n") if not l.startswith("--"))
@@ -411,8 +487,7 @@ def convert(crate, path, old_text, text, row, module):
             places = []
             for n, ty in bs:
                 p = PLACE.match(ty.strip())
-                pl = oldnames.get(p[1], p[1]) if p else None
-                places.append(pl if pl in f.places else None)
+                places.append(f.find(oldnames.get(p[1], p[1])) if p else None)
                 if places[-1] and n:
                     tr.env[n] = (n, places[-1])
                     tr.roots[n] = places[-1]
@@ -440,13 +515,35 @@ def convert(crate, path, old_text, text, row, module):
         else:
             # a module or a record
             for mm in re.finditer(rf"\(({NAME}) : tie\.({NAME})[^()]*\)", code):
-                pl = oldnames.get(mm[2], mm[2])
-                if pl in f.places:
+                pl = f.find(oldnames.get(mm[2], mm[2]))
+                if pl:
                     tr.env[mm[1]] = (mm[1], pl)
                     tr.roots[mm[1]] = pl
             out = tr.run(code)
         cm = "\n".join(comments)
         return (cm + "\n" if cm else "") + out, tr.imports
+
+    # helpers over a place, of one clause: the type without the place, the name of it, the other arguments, the body
+    helpers = {}
+    for kind, d, first in kept:
+        if kind != "other" or first.startswith(("module", "record", "pub record")):
+            continue
+        t = "\n".join(l for l in d if not l.startswith("--")).rstrip()
+        m = re.match(rf"(abbrev )?(?:pub )?({NAME}) : (.*?)\n(unfolding [^\n]*\n)?\2 ({NAME})((?: (?!=){NAME})*?) =(?=\s)(.*)$", t, re.S)
+        if not m or re.search(rf"(?m)^{re.escape(m[2])} ", m[7]):
+            continue
+        bs = binders(m[3])
+        if not bs or not (q := PLACE.match(bs[0][1].strip())) or not f.find(oldnames.get(q[1], q[1])):
+            continue
+        sig = None
+        if not m[1]:
+            depth = 0
+            for i, ch in enumerate(m[3]):
+                depth += (ch in "({") - (ch in ")}")
+                if depth == 0 and ch == "→":
+                    sig = m[3][i + 1 :]
+                    break
+        helpers[m[2]] = (sig, m[5], m[6], m[7], bs[0][0])
 
     def need_of(first):
         m = re.match(rf"({NAME}) : tie\.Need-({NAME})", first)
@@ -457,12 +554,58 @@ def convert(crate, path, old_text, text, row, module):
         near = [a for it in tries for a in f.needs if norm(it) in (norm(a), norm(f.needs[a]))]
         return m[1], (near[0] if near else None)
 
-    given = {}
+    given, given_by = {}, {}
     for kind, d, first in kept:
         if kind == "need":
             local, need = need_of(first)
             if need:
                 given[local] = f.needs[need]
+                given_by[local] = need
+
+    # answers that the last declaration has as λs
+    if last:
+        listed = spec_list(last)
+        k = 0
+        entries = []
+        for it in listed:
+            if re.fullmatch(r"(invariant|decreases)[-_]loop\d*", it):
+                continue
+            entries.append(it)
+        order = list(f.needs)
+        at, gaps, gap = 0, [], []
+        for it in entries + [None]:
+            if it is not None and it.startswith("("):
+                gap.append(it)
+                continue
+            local = given_by.get(it) if it is not None else None
+            stop = order.index(local) if local in order else (len(order) if it is None else None)
+            if stop is None:
+                gap.append(it)
+                continue
+            gaps.append((gap, order[at:stop] if stop >= at else []))
+            gap, at = [], max(at, stop + 1)
+        taken = set(given_by.values())
+        for gap, names in gaps:
+            names = [n for n in names if n not in taken]
+            for q, it in enumerate(gap):
+                if it is None or not it.startswith("("):
+                    continue
+                m = re.match(r"\(λ (\S+?)( κs)?\. (.*)\)$", it, re.S)
+                if not m or re.fullmatch(r"\s*(omega arith|search rules)\s*", m[3]):
+                    continue
+                if len(names) == len(gap):
+                    need = names[q]
+                elif names and q == 0:
+                    need = names[0]
+                elif names and q == len(gap) - 1:
+                    need = names[-1]
+                else:
+                    need = names[min(len(names) - 1, q * len(names) // len(gap))] if names else None
+                if need is None:
+                    dropped.append((path, "a λ", it))
+                    continue
+                kept.append(("need", [f"inline-{need} : tie.Need-{need}", f"inline-{need} {m[1]} = {m[3]}"], f"inline-{need} : tie.Need-{need}"))
+                given[f"inline-{need}"] = f.needs[need]
 
     # what the invariants name
     named = {}
@@ -505,11 +648,12 @@ def convert(crate, path, old_text, text, row, module):
             if len(args) != len(vs) + len(changed):
                 raise Left(f"loop {m[2]}: {len(args)} arguments, {vs} {changed}")
             to = {}
-            for a, v, b in zip(args, vs, ch):
-                to[a] = f"l.initial.{v}" if b else f"l.{v}"
-            for a, v in zip(args[len(vs) :], changed):
-                to[a] = f"l.{v}"
             toks = TOKEN.findall(m[5])
+            l = "l" if "l" not in toks or "l" in args and not re.search(r"\(l :|λ l\.", m[5]) else "live"
+            for a, v, b in zip(args, vs, ch):
+                to[a] = f"{l}.initial.{v}" if b else f"{l}.{v}"
+            for a, v in zip(args[len(vs) :], changed):
+                to[a] = f"{l}.{v}"
             bodyparts = []
             for q, tk in enumerate(toks):
                 if tk in to and (q == 0 or toks[q - 1] != ".") and not re.match(r"\s*=\s", "".join(toks[q + 1 : q + 3])):
@@ -517,7 +661,7 @@ def convert(crate, path, old_text, text, row, module):
                 else:
                     bodyparts.append(tk)
             name = f"{what}-{loop[1]}"
-            inv_out.append("\n".join(cm + [f"abbrev pub {name} : goal.{name}", (m[3] + f"{name} l =" + "".join(bodyparts)).rstrip()]))
+            inv_out.append("\n".join(cm + [f"abbrev pub {name} : goal.{name}", (m[3] + f"{name} {l} =" + "".join(bodyparts)).rstrip()]))
         elif kind == "other" and k in wanted:
             t = text_of(d)
             t2, _ = turn(d)
@@ -615,7 +759,7 @@ def main():
         try:
             old = subprocess.run(["git", "show", f"{OLD}:{path}"], capture_output=True, text=True).stdout
             files = convert(crate, path, old, open(path).read(), rows[key], f"Rattle.{crate}.proofs.{rel}")
-        except Left as e:
+        except (Left, KeyError, ValueError) as e:
             print(f"left: {path}: {e}")
             left += 1
             continue

@@ -3,7 +3,7 @@
 use mathlib.Core.Path.{◌≡◌, refl, sym, ◌∙◌, subst}
 use mathlib.Core.List.{List}
 use Prim.Native.Nat.{ℕ, ◌+◌, ◌*◌, ◌≤◌, ◌<◌, ◌^◌}
-use native.Mathlib.Nat.{mul_comm, mul_le_mul_right, mul-le-mul_left}
+use native.Mathlib.Nat.{mul_comm, mul-le-mul_right, mul-le-mul_left}
 use native.Mathlib.Decide.{ℕ_discrete}
 use native.Mathlib.Omega.{arith}
 use lib.ListN.{length, get_or, set}
@@ -35,7 +35,7 @@ supplies-is {ws} {a} {t' = t'} {n = n} e f s = subst (λ (m : ℕ). Supplies ws 
 
 -- a supply fits 32 bits
 pub supply-fits : (v t : ℕ) → v ≤ most_total → t ≤ most_total → v * t < 2 ^ 32
-supply-fits v t h l = omega (arith, mul_le_mul_right t h, mul-le-mul_left most_total l)
+supply-fits v t h l = omega (arith, mul-le-mul_right t h, mul-le-mul_left most_total l)
 
 pub weight_le : (ws : List ℕ) (i : ℕ) → i < length ws → weight ws i ≤ total ws
 unfolding total

@@ -1,0 +1,14 @@
+-- `form::tables::entries_listed` meets its contract.
+-- Assumes nothing.
+use native.Mathlib.Omega.{arith}
+use borrow.Author.Rules.{rules}
+use Rattle.form.specs.Form.{entries_listed}
+use Rattle.form.proofs.TablesLaws.{form_room}
+use Rattle.form.proofs.tables.entries_listed.Goals as goal
+
+pub number-requires : goal.number-requires
+number-requires c = (form_room c.args.tables.now c.args.which c.requires.0, omega (arith, c.requires.0.few_transitions))
+
+pub returns : goal.returns
+unfolding entries_listed
+returns c = c.number.ensures

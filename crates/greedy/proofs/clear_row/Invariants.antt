@@ -1,0 +1,14 @@
+-- `clear_row` meets its contract. Assumes nothing.
+use mathlib.Core.Path.{◌≡◌, refl}
+use Prim.Native.Nat.{◌≤◌, ◌-◌}
+use native.Mathlib.Omega.{arith}
+use lib.ListN.{length, length-set}
+use Rattle.greedy.specs.Start.{RowCleared}
+use Rattle.greedy.proofs.StartLaws.{row-cleared-none, row-cleared-next, row-cleared-end}
+use Rattle.greedy.proofs.clear_row.Given as goal
+
+abbrev pub invariant-loop-j : goal.invariant-loop-j
+invariant-loop-j l = (l.j ≤ l.q) × (length l.amounts ≡ length l.initial.amounts) × RowCleared l.i l.j l.initial.amounts l.amounts
+
+abbrev pub decreases-loop-j : goal.decreases-loop-j
+decreases-loop-j l = l.q - l.j

@@ -1,0 +1,27 @@
+-- `fill_row` meets its contract: the flow, the set of the free columns and what is filled go on column by column. Assumes nothing.
+use mathlib.Core.Path.{◌≡◌, refl}
+use mathlib.Core.Bool.{not}
+use Prim.Native.Nat.{ℕ, ◌≤◌, ◌<◌, ◌-◌}
+use native.Mathlib.Omega.{arith}
+use lib.Dec.{eqb}
+use lib.ListN.{length, get_or}
+use Rattle.word.specs.Mask.{member, without_member, both}
+use Rattle.set.specs.Words.{words, after, rest, mask}
+use Rattle.set.proofs.Sets.{walk_begin, walk_into, walk_on, walk_done, both_of}
+use Rattle.matrix.specs.Flow.{Partial, partial, ImprovedIn}
+use Rattle.greedy.proofs.GreedyLaws.{stopped, going, UnderWay, under_way_none, under_way_next, under_way_end, cell-ready, cell-on}
+use Rattle.greedy.proofs.fill_row.Given as goal
+
+abbrev pub invariant-loop-left : goal.invariant-loop-left
+invariant-loop-left l =
+    (F : Partial) → UnderWay l.i l.rel F (partial l.initial.amounts l.initial.supply l.initial.demand l.initial.senders) (mask l.initial.still) (after l.w l.near) → UnderWay l.i l.rel F (partial l.amounts l.supply l.demand l.senders) (mask l.still) (rest l.w l.left l.near)
+
+abbrev pub decreases-loop-left : goal.decreases-loop-left
+decreases-loop-left l = l.left
+
+abbrev pub invariant-loop-w : goal.invariant-loop-w
+invariant-loop-w l =
+    (l.w ≤ words) × UnderWay l.i l.rel (partial l.initial.amounts l.initial.supply l.initial.demand l.initial.senders) (partial l.amounts l.supply l.demand l.senders) (mask l.still) (after l.w l.near)
+
+abbrev pub decreases-loop-w : goal.decreases-loop-w
+decreases-loop-w l = words - l.w
