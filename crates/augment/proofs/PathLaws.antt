@@ -145,8 +145,8 @@ module _ {p q : ℕ} {rel x a : List ℕ} {from via : ℕ → ℕ} {j d : ℕ} (
 
   pub movable : Small p q x a → {y : List ℕ} (k : ℕ) {r c : ℕ} → PathWalk p q rel x a from via j d y k r c → Movable from via d k r c y
   unfolding Movable
-  movable m zero s = (omega (arith, s.column), walk_last s m)
-  movable m (suc k) s = (omega (arith, s.column), walk_held s, λ y₁ t. (walk_room s m t, λ z u. movable m k (walk_step s t u)))
+  movable m {y = y} zero s = (omega (arith, s.column), walk_last s m)
+  movable m {y = y} (suc k) s = (omega (arith, s.column), walk_held s, λ y₁ t. (walk_room s m t, λ z u. movable m {y = z} k (walk_step s t u)))
 
   pub moved : {k r c : ℕ} {y senders y' senders' : List ℕ} → PathWalk p q rel x a from via j d y k r c → Used p q y senders
       → Moved from via d k r c y senders y' senders' → Extends p q rel x y' (root from via k r) j d × Used p q y' senders'

@@ -6,7 +6,7 @@ use mathlib.Core.List.{List}
 use mathlib.Core.Logic.{⊎_elim, ◌≢◌}
 use Prim.Native.Nat.{ℕ, ◌+◌, ◌^◌, ◌≤◌, ◌<◌}
 use native.Mathlib.Omega.{arith}
-use borrow.Author.Tests.{lt-ltb, ltb-false, not_true, not_false}
+use borrow.Author.Tests.{lt-ltb, ltb-false, not-true, not-false}
 use lib.Dec.{T}
 use lib.ListN.{length, get_or}
 use Rattle.simulation.specs.Limits.{most_states}
@@ -30,13 +30,13 @@ outside-member to some d h n e =
     let r = some-member most_states d h n in
     let u = r.0 in
     let b = both_true (member to u) (not (member some u)) (sym (ap (λ (X : Test). X u) e) ∙ r.1) in
-    (u, b.0, not_true (member some u) b.1)
+    (u, b.0, not-true (member some u) b.1)
 
 -- where it is empty, the one has no member that the other lacks
 pub covered : (to every d : ℕ) → d ≡ 0 → member d ≡ except (member to) (member every) → (u : ℕ) → member to u ≡ true → member every u ≡ true
 covered to every d z e u t =
     let n : (member to u && not (member every u)) ≡ false = sym (ap (λ (X : Test). X u) e) ∙ ap (λ (x : ℕ). member x u) z ∙ member-none u in
-    not_false (member every u) (sym (ap (λ (b : Bool). b && not (member every u)) t) ∙ n)
+    not-false (member every u) (sym (ap (λ (b : Bool). b && not (member every u)) t) ∙ n)
 
 -- each of the first n targets is related to all of every, and to none outside some
 pub record BoundsSoFar (rows ms : List ℕ) (n some every : ℕ) : Type 0 where

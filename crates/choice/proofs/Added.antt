@@ -7,7 +7,7 @@ use mathlib.Core.Logic.{⊎_elim}
 use Prim.Native.Nat.{ℕ, ◌+◌, ◌-◌, ◌*◌, ◌≤◌, ◌<◌, pred}
 use native.Mathlib.Nat.{not-suc-le-zero}
 use native.Mathlib.Omega.{arith}
-use borrow.Author.Tests.{not_false}
+use borrow.Author.Tests.{not-false}
 use lib.Dec.{T, eqb, eqb→eq}
 use lib.ListN.{length, get_or}
 use mir.Val.{bool_byte}
@@ -98,7 +98,7 @@ module _ (R : Relation) (m : Transition) (t : ℕ) where
         none : T (eqb apart 0) → T (all_related R m t)
         none h =
             all_related_by R m t 0 (λ k b.
-            true_T (not_false (related R (target_at m k) t)
+            true_T (not-false (related R (target_at m k) t)
             (one_same (unrelated k) false
             (omega (arith, eqb→eq apart 0 h, w.count, sum_term i (λ i. when (unrelated i) 1) k (omega (arith, weights-length m)))))))
 

@@ -4,7 +4,7 @@ use mathlib.Core.Path.{◌≡◌, ap, ap₂, ◌∙◌, subst}
 use mathlib.Core.Bool.{Bool, not}
 use mathlib.Core.List.{List}
 use Prim.Native.Nat.{ℕ, suc, ◌+◌, ◌-◌, ◌*◌, ◌≤◌, ◌<◌, pred}
-use native.Mathlib.Nat.{suc-mul, mul_le_mul_right}
+use native.Mathlib.Nat.{suc-mul, mul-le-mul_right}
 use native.Mathlib.Omega.{arith}
 use lib.Dec.{T}
 use lib.ListN.{length, get_or}
@@ -36,7 +36,7 @@ module _ (tables : List ℕ) (l : Loaded (first_form tables)) (s t j : ℕ) (in_
 module _ {tables ranks : List ℕ} (g : RanksRight tables ranks) {s t : ℕ} (a : s < states_of (first_table tables)) (b : t < states_of (contract_table tables)) where
   pub pair_place : s * states_of (contract_table tables) + t < length ranks
   pair_place =
-      let row : suc s * states_of (contract_table tables) ≤ states_of (first_table tables) * states_of (contract_table tables) = mul_le_mul_right (states_of (contract_table tables)) a in
+      let row : suc s * states_of (contract_table tables) ≤ states_of (first_table tables) * states_of (contract_table tables) = mul-le-mul_right (states_of (contract_table tables)) a in
       omega (arith, row, suc-mul s (states_of (contract_table tables)), g.enough)
 
 -- 1 if the round before round r does not relate two states, by their rank

@@ -4,7 +4,7 @@ use mathlib.Core.Path.{◌≡◌, refl, sym, ap, ap₂, ◌∙◌, subst}
 use mathlib.Core.Bool.{Bool, true, false, not, ◌&&◌, and-true, and-false}
 use mathlib.Core.List.{List}
 use Prim.Native.Nat.{ℕ, zero, suc, ◌+◌, ◌*◌, ◌^◌, ◌≤◌, ◌<◌, zero-le}
-use native.Mathlib.Nat.{mul-le-mul_left, mul_le_mul_right}
+use native.Mathlib.Nat.{mul-le-mul_left, mul-le-mul_right}
 use native.Mathlib.Omega.{arith}
 use native.Mathlib.Decide.{ℕ_discrete}
 use lib.Dec.{T, eqb}
@@ -160,7 +160,7 @@ module _ {targets sets : List ℕ} {width c : ℕ} {counts₀ counts : List ℕ}
           g.small i t lt b,
           l.added.at (get_or targets i 0) t b,
           sum_bound i c (λ k. when (child targets sets (get_or targets i 0) t k) c) (λ k _. when-most (child targets sets (get_or targets i 0) t k) c),
-          mul_le_mul_right c (let h : i + 1 ≤ most_states = omega (arith, g.few) in h),
+          mul-le-mul_right c (let h : i + 1 ≤ most_states = omega (arith, g.few) in h),
         );
       }
 
@@ -236,7 +236,7 @@ module _ {tables : List ℕ} {s t j : ℕ} {sets counts : List ℕ} {bytes : ℕ
         omega (
           arith,
           few-targets hand_choice et,
-          mul_le_mul_right (head_length + 4 * length ts) (let h : due ≤ longest = omega (arith, due_small) in h),
+          mul-le-mul_right (head_length + 4 * length ts) (let h : due ≤ longest = omega (arith, due_small) in h),
         )
 
     raised : bytes ≤ longest → CountsGiven ts sets (states_of N) due cleared

@@ -5,7 +5,7 @@ use mathlib.Core.Bool.{not, ◌&&◌, and-true}
 use mathlib.Core.List.{List}
 use mathlib.Core.Logic.{◌≢◌}
 use Prim.Native.Nat.{ℕ, suc, ◌+◌, ◌*◌, ◌/◌, ◌%◌, ◌≤◌, ◌<◌}
-use native.Mathlib.Nat.{suc-mul, mul_le_mul_right, div-add-mod'}
+use native.Mathlib.Nat.{suc-mul, mul-le-mul_right, div-add-mod'}
 use native.Mathlib.Omega.{arith}
 use lib.Arith.{digits_div, digits_mod}
 use lib.Dec.{T}
@@ -33,7 +33,7 @@ same_pair s t u v n a b e = (
 
 -- a pair's number is below the number of pairs
 pub place-below : (s t m n : ℕ) → s < m → t < n → s * n + t < m * n
-place-below s t m n a b = let row : suc s * n ≤ m * n = mul_le_mul_right n a in omega (arith, suc-mul s n)
+place-below s t m n a b = let row : suc s * n ≤ m * n = mul-le-mul_right n a in omega (arith, suc-mul s n)
 
 module _ (tables : List ℕ) (P : ℕ → ℕ → Type 0) (s t : ℕ) where
   -- what holds at a pair holds at its number's row and column

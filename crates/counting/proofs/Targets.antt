@@ -3,7 +3,7 @@
 use mathlib.Core.Path.{◌≡◌, sym, ap, ap₂, ◌∙◌, subst}
 use mathlib.Core.List.{List}
 use Prim.Native.Nat.{ℕ, ◌+◌, ◌*◌, ◌≤◌, ◌<◌}
-use native.Mathlib.Nat.{mul_le_mul_right, suc-mul}
+use native.Mathlib.Nat.{mul-le-mul_right, suc-mul}
 use native.Mathlib.Omega.{arith}
 use lib.Dec.{T}
 use lib.ListN.{length, get_or}
@@ -64,7 +64,7 @@ module _ {tables : List ℕ} {s t j : ℕ} (g : ChoiceGiven tables s t j) where
     state-low = target_small (first_form tables) j g.loaded.first step-number ts et
 
     pub state-row : (i : ℕ) → i < length ts → get_or ts i 0 * states_of N + states_of N ≤ pairs M N
-    state-row i b = omega (arith, mul_le_mul_right (states_of N) (state-at i b), suc-mul (get_or ts i 0) (states_of N))
+    state-row i b = omega (arith, mul-le-mul_right (states_of N) (state-at i b), suc-mul (get_or ts i 0) (states_of N))
 
     module _ {sets : List ℕ} (z : SetsChosen tables s t sets) where
       -- the mask at a target's place holds its set

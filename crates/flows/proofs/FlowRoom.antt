@@ -3,7 +3,7 @@
 use mathlib.Core.Path.{◌≡◌, refl, ap}
 use mathlib.Core.List.{List}
 use Prim.Native.Nat.{ℕ, zero, suc, ◌+◌, ◌*◌, ◌≤◌, ◌<◌}
-use native.Mathlib.Nat.{mul-le-mul, mul-le-mul_left, mul_le_mul_right}
+use native.Mathlib.Nat.{mul-le-mul, mul-le-mul_left, mul-le-mul_right}
 use native.Mathlib.Omega.{arith}
 use lib.ListN.{length}
 use Rattle.simulation.specs.Sum.{sum}
@@ -38,7 +38,7 @@ module _ (q : ℕ) (e : ℕ → ℕ) where
   pub room_mono : (n : ℕ) (d : ℕ → ℕ) → ((k : ℕ) → k < n → d k ≤ e k) → room_for q n d ≤ room_for q n e
   unfolding room_for
   room_mono n d h =
-      omega (arith, sum_mono n (λ k. step_room q (d k)) (λ k. step_room q (e k)) (λ k l. omega (arith, mul_le_mul_right q (mul-le-mul_left 6 (h k l)))))
+      omega (arith, sum_mono n (λ k. step_room q (d k)) (λ k. step_room q (e k)) (λ k l. omega (arith, mul-le-mul_right q (mul-le-mul_left 6 (h k l)))))
 
   together : (n : ℕ) → sum n (λ k. step_room q (e k)) ≡ 3 * n + 6 * sum n e * q
   unfolding sum

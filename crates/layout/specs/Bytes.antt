@@ -122,7 +122,7 @@ module _ (w : ℕ) (s : List ℕ) where
   -- 4. Entries
   unfoldable pub entries_start : ℕ
   unfolding transitions_start transitions
-  entries_at = transitions_start + 2 + (w + 1) * transitions
+  entries_start = transitions_start + 2 + (w + 1) * transitions
 
   unfoldable pub entries : ℕ
   unfolding entries_start

@@ -5,7 +5,7 @@ use mathlib.Core.Bool.{Bool, true, false, ◌&&◌}
 use mathlib.Core.List.{List}
 use mathlib.Core.Logic.{◌≢◌}
 use Prim.Native.Nat.{ℕ, zero, suc, ◌+◌, ◌-◌, ◌*◌, ◌/◌, ◌%◌, ◌≤◌, ◌<◌, min, zero-le}
-use native.Mathlib.Nat.{le_refl, mul_le_mul_right, div-add-mod'}
+use native.Mathlib.Nat.{le_refl, mul-le-mul_right, div-add-mod'}
 use native.Mathlib.Omega.{arith}
 use native.Mathlib.Decide.{ℕ_discrete}
 use lib.Dec.{T, eqb, eqb→eq, ltb, ltb→lt, lt→ltb}
@@ -44,7 +44,7 @@ set-small width lengths s X w h =
     omega (
       arith,
       sum_bound width most (λ t. when (X t) (get_or lengths (s * width + t) 0)) (λ t _. omega (arith, when-most (X t) (get_or lengths (s * width + t) 0), h (s * width + t))),
-      mul_le_mul_right most w,
+      mul-le-mul_right most w,
     )
 
 -- the length of the children before i
@@ -68,7 +68,7 @@ module _ {tables lengths targets sets : List ℕ} (g : ChildrenGiven tables leng
       omega (
         arith,
         sum_bound n (4 + most_states * most) (λ i. 4 + set_length width lengths (get_or targets i 0) (member (row_of sets i))) (λ i _. omega (arith, node_small i)),
-        mul_le_mul_right (4 + most_states * most) h,
+        mul-le-mul_right (4 + most_states * most) h,
       )
 
   module _ {len i : ℕ} (l : LengthLoop tables lengths targets sets len i) where

@@ -5,7 +5,7 @@ use mathlib.Core.Bool.{◌&&◌}
 use mathlib.Core.List.{List}
 use mathlib.Core.Logic.{inl, inr, ⊎_elim}
 use Prim.Native.Nat.{ℕ, suc, ◌+◌, ◌-◌, ◌*◌, ◌<◌, ◌≤◌, min}
-use native.Mathlib.Nat.{not-suc-le-zero, suc-mul, mul_le_mul_right}
+use native.Mathlib.Nat.{not-suc-le-zero, suc-mul, mul-le-mul_right}
 use native.Mathlib.Decide.{ℕ_discrete}
 use native.Mathlib.Omega.{arith}
 use lib.Dec.{eqb, leb, eqb→eq, leb→le, le→leb}
@@ -79,7 +79,7 @@ module _ (M N : Table) (ranks : List ℕ) (right : (s t : ℕ) → s < states_of
   pub indexed : pairs M N ≤ length ranks → (s : ℕ) (nt : List ℕ) → s < states_of M → ((j : ℕ) → j < length nt → get_or nt j 0 < states_of N)
       → Indexed ranks (states_of N) s nt
   indexed room s nt a b j lt =
-      let row : suc s * states_of N ≤ states_of M * states_of N = mul_le_mul_right (states_of N) a in
+      let row : suc s * states_of N ≤ states_of M * states_of N = mul-le-mul_right (states_of N) a in
       omega (arith, row, suc-mul s (states_of N), b j lt)
 
   module _ (mt nt rel rel' : List ℕ) (a : (i : ℕ) → i < length mt → get_or mt i 0 < states_of M) (b : (j : ℕ) → j < length nt → get_or nt j 0 < states_of N) where

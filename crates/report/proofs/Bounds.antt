@@ -4,7 +4,7 @@ use mathlib.Core.Bool.{Bool, true, false, cond}
 use mathlib.Core.Path.{◌≡◌}
 use mathlib.Core.List.{List, [], ◌∷◌, ◌++◌}
 use Prim.Native.Nat.{ℕ, zero, suc, ◌+◌, ◌*◌, ◌^◌, ◌≤◌, ◌<◌, max, zero-le}
-use native.Mathlib.Nat.{suc-mul, mul-le-mul, mul_le_mul_right}
+use native.Mathlib.Nat.{suc-mul, mul-le-mul, mul-le-mul_right}
 use native.Mathlib.Omega.{arith}
 use lib.Dec.{eqb}
 use lib.ListN.{length, take, get_or, length-append}
@@ -88,7 +88,7 @@ report_short p q ranks long tree lp lq e small =
       length-append a b,
       pair_short word_tables p q 2 (omega arith) (omega arith),
       rows_short ranks small p q lp,
-      summary_short (maximum ranks) (zeros ranks) (yes? ranks) (omega (arith, maximum-short ranks (2 ^ 16) (omega arith) small)) (omega (arith, zeros-most ranks, mul_le_mul_right q lp)),
+      summary_short (maximum ranks) (zeros ranks) (yes? ranks) (omega (arith, maximum-short ranks (2 ^ 16) (omega arith) small)) (omega (arith, zeros-most ranks, mul-le-mul_right q lp)),
       tree_short (yes? ranks) long tree,
     )
 

@@ -5,7 +5,7 @@ use mathlib.Core.Bool.{Bool, true, false, cond, not, ◌&&◌, and-true, and-fal
 use mathlib.Core.List.{List}
 use mathlib.Core.Logic.{◌≢◌}
 use Prim.Native.Nat.{ℕ, suc, ◌+◌, ◌-◌, ◌*◌, ◌≤◌, ◌<◌}
-use native.Mathlib.Nat.{mul_le_mul_right, suc-mul}
+use native.Mathlib.Nat.{mul-le-mul_right, suc-mul}
 use native.Mathlib.Omega.{arith}
 use native.Mathlib.Decide.{ℕ_discrete, dec_le}
 use borrow.Author.Tests.{le-leb, lt-leb}
@@ -25,15 +25,15 @@ use Rattle.links.proofs.Walks.{left_self, left_other}
 
 -- rows of q places each lie one after the other
 pub row-place : (s n q t : ℕ) → s < n → t < q → s * q + t < n * q
-row-place s n q t a b = let m : suc s * q ≤ n * q = mul_le_mul_right q a in omega (arith, suc-mul s q)
+row-place s n q t a b = let m : suc s * q ≤ n * q = mul-le-mul_right q a in omega (arith, suc-mul s q)
 
 -- places of two rows differ
 apart : (s n q t u : ℕ) → t < q → u < q → s ≢ n → s * q + t ≢ n * q + u
 apart s n q t u a b d e = go (dec_le s n)
   where
     go : Dec (s ≤ n) → ⊥
-    go (yes c) = let m : suc s * q ≤ n * q = mul_le_mul_right q (let f : s < n = omega arith in f) in omega (arith, suc-mul s q)
-    go (no c) = let m : suc n * q ≤ s * q = mul_le_mul_right q (let f : n < s = omega arith in f) in omega (arith, suc-mul n q)
+    go (yes c) = let m : suc s * q ≤ n * q = mul-le-mul_right q (let f : s < n = omega arith in f) in omega (arith, suc-mul s q)
+    go (no c) = let m : suc n * q ≤ s * q = mul-le-mul_right q (let f : n < s = omega arith in f) in omega (arith, suc-mul n q)
 
 module _ (X : Test) (base k : ℕ) (l : List ℕ) where
   marked-at : (t : ℕ) → marked X base k l (base + t) ≡ cond (X t) k (get_or l (base + t) 0)

@@ -3,7 +3,7 @@
 use mathlib.Core.Path.{◌≡◌, sym, ap, ap₂, ◌∙◌, subst}
 use mathlib.Core.List.{List, [], ◌++◌}
 use Prim.Native.Nat.{ℕ, zero, suc, ◌+◌, ◌-◌, ◌*◌, ◌/◌, ◌^◌, ◌≤◌, ◌<◌}
-use native.Mathlib.Nat.{pow-zero, pow-suc, suc-mul, mul_le_mul_right}
+use native.Mathlib.Nat.{pow-zero, pow-suc, suc-mul, mul-le-mul_right}
 use native.Mathlib.Omega.{arith}
 use lib.Dec.{T}
 use lib.ListN.{length, get_or, take, drop, length-append, length-drop, get_or-append}
@@ -318,7 +318,7 @@ module _ {tables ranks choices lengths : List ℕ} {step : Step} {j n : ℕ} {am
           loaded = g.given.ranked.loaded;
           low = omega (arith, child-state, (limits (first_form tables) g.given.ranked.loaded.first).states-few);
           inside = λ v h. (child-lost v h).0;
-          room = let row : suc w * states_of N ≤ states_of M * states_of N = mul_le_mul_right (states_of N) child-state in omega (arith, row, suc-mul w (states_of N), g.given.enough);
+          room = let row : suc w * states_of N ≤ states_of M * states_of N = mul-le-mul_right (states_of N) child-state in omega (arith, row, suc-mul w (states_of N), g.given.enough);
           small = omega (arith, node_sum, node_room, l.loop.small);
         }
 

@@ -1,7 +1,7 @@
 -- `decision::decide` meets its contract: a target of m that is related to none of n is a misfit. Assumes nothing.
 use mathlib.Core.Path.{sym, subst}
 use borrow.Author.Rules.{rules}
-use borrow.Author.Tests.{not_true}
+use borrow.Author.Tests.{not-true}
 use Rattle.relation.specs.Rows.{height}
 use Rattle.gather.specs.Places.{Places}
 use Rattle.decision.proofs.Fitting.{first_places, row_misfits}
@@ -29,7 +29,7 @@ returns-2 : tie.Need-returns-2
 returns-2 c =
     let t = c.before.before.before in
     let d = t.before.before.before.before in
-    row_misfits d.requires.0 d.requires.1 t.targets.ensures (c.before.meets.ensures (not_true _ c.if2.true))
+    row_misfits d.requires.0 d.requires.1 t.targets.ensures (c.before.meets.ensures (not-true _ c.if2.true))
 
 by-excess-requires : tie.Need-by-excess-requires
 by-excess-requires c κs = search rules

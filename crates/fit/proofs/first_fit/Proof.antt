@@ -4,7 +4,7 @@ use mathlib.Core.Path.{◌≡◌, refl, ◌∙◌}
 use mathlib.Core.Bool.{true}
 use Prim.Native.Nat.{◌+◌, ◌-◌, ◌≤◌, ◌<◌}
 use native.Mathlib.Omega.{arith}
-use borrow.Author.Tests.{not_true, not_false}
+use borrow.Author.Tests.{not-true, not-false}
 use lib.Dec.{eqb}
 use lib.ListN.{length}
 use Rattle.form.specs.Form.{start_of}
@@ -96,7 +96,7 @@ loop-again c =
       omega (arith, l.loop.invariant.0, n.from),
       c.before.before.before.amounts.given ∙ l.loop.invariant.1,
       unfitted_coded a.tables.now a.rows.now a.j a.t l.before.before.code.ensures n
-          (unfitted_next a.tables.now a.rows.now a.j a.t l.loop.invariant.2 (fits flow) (not_true flow.by-flow.result c.before.if1.true)),
+          (unfitted_next a.tables.now a.rows.now a.j a.t l.loop.invariant.2 (fits flow) (not-true flow.by-flow.result c.before.if1.true)),
       n.found,
     )
 
@@ -111,7 +111,7 @@ returns c =
     let flow = c.before.before.before in
     let l = flow.before.before in
     seek_found (called l).requires l.loop.invariant.0 l.loop.invariant.2 l.before.before.before.before.start_of.ensures (fits flow) flow.by-flow.ensures
-    (not_false flow.by-flow.result c.if1.false)
+    (not-false flow.by-flow.result c.if1.false)
 
 pub first-fit_spec : {M : Type 1} → statement M
 first-fit_spec =

@@ -4,7 +4,7 @@ use mathlib.Core.Path.{◌≡◌, sym, ap, ◌∙◌}
 use mathlib.Core.Bool.{false}
 use Prim.Native.Nat.{ℕ, ◌-◌, ◌≤◌, ◌<◌}
 use native.Mathlib.Omega.{arith}
-use borrow.Author.Tests.{not_true, not_false}
+use borrow.Author.Tests.{not-true, not-false}
 use lib.Dec.{eqb}
 use Rattle.form.specs.Tables.{second_step}
 use Rattle.fit.proofs.Steps.{upto_next}
@@ -36,7 +36,7 @@ loop-again c =
       omega (arith, l.loop.invariant.0),
       omega (arith, c.before.before.loop-test.true),
       upto_next (λ k. eqb a.code (second_step a.tables.now k).code) false a.l l.loop.next l.loop.invariant.2 (ap (eqb a.code) c.before.code.ensures)
-          (not_true _ c.if1.true),
+          (not-true _ c.if1.true),
     )
 
 returns : tie.Need-returns invariant_loop decreases_loop
@@ -47,7 +47,7 @@ returns c =
       from = l.loop.invariant.0;
       to = l.loop.invariant.1;
       passed = l.loop.invariant.2;
-      found = λ b. sym (ap (eqb a.code) c.before.code.ensures) ∙ not_false _ c.if1.false;
+      found = λ b. sym (ap (eqb a.code) c.before.code.ensures) ∙ not-false _ c.if1.false;
     }
 
 returns-2 : tie.Need-returns-2 invariant_loop decreases_loop

@@ -5,7 +5,7 @@ use mathlib.Core.Logic.{⊎_elim}
 use Prim.Native.Nat.{ℕ, pred, ◌+◌, ◌-◌, ◌≤◌, ◌<◌}
 use native.Mathlib.Omega.{arith}
 use borrow.Author.Rules.{rules}
-use borrow.Author.Tests.{not_false}
+use borrow.Author.Tests.{not-false}
 use Rattle.simulation.proofs.Complete.Codes.{lists-same}
 use Rattle.set.specs.Words.{mask}
 use Rattle.set.specs.declared.Set.{Set}
@@ -85,7 +85,7 @@ loop-again c =
           (λ w. subst (λ (x : Set). Lacked f N start (l.loop.j + 1) (mask x)) (sym w.4)
           (lacked-next f N (mask w.2.result) i.0 w.1.ensures w.2.ensures w.3.ensures i.2))
           (λ w.
-          let again = c.before.repeats.ensures (not_false c.before.repeats.result w.0.left) in
+          let again = c.before.repeats.ensures (not-false c.before.repeats.result w.0.left) in
           subst (λ (x : Set). Lacked f N start (l.loop.j + 1) (mask x)) (sym w.1)
           (lacked_again f N (pred l.loop.j) (omega (arith, again.0)) (omega (arith, again.0)) again.1 i.2))
           c.if1.branch,

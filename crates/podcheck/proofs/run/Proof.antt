@@ -1,5 +1,5 @@
 -- `podcheck::run` meets its contract: the program's two ways to print have what they ask for. Assumes nothing.
-use native.Mathlib.Nat.{mul_le_mul_right}
+use native.Mathlib.Nat.{mul-le-mul_right}
 use native.Mathlib.Omega.{arith}
 use Rattle.printout.specs.Printed.{Counted}
 use Rattle.printout.proofs.Printing.{counted}
@@ -28,7 +28,7 @@ mul-if1 : tie.Need-overflow-mul-if1
 mul-if1 c =
     let q = c.states-of2 in
     let p = c.before.before.states-of in
-    omega (arith, p.ensures.few, q.ensures.few, mul_le_mul_right q.result p.ensures.few)
+    omega (arith, p.ensures.few, q.ensures.few, mul-le-mul_right q.result p.ensures.few)
 
 print-short-requires : tie.Need-print-short-requires
 print-short-requires c κs = (sizes c.before, omega arith)

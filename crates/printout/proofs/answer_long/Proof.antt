@@ -1,5 +1,5 @@
 -- `printout::answer_long` meets its contract: the largest buffers are never too short. Assumes nothing.
-use native.Mathlib.Nat.{le_refl, mul_le_mul_right}
+use native.Mathlib.Nat.{le_refl, mul-le-mul_right}
 use native.Mathlib.Omega.{arith}
 use Rattle.simulation.specs.Limits.{most_tree_bytes}
 use Rattle.report.proofs.Bounds.{bound-longest}
@@ -20,7 +20,7 @@ answer-requires c κs =
     let n = k.requires.0 in
     let tree = slice-aggregate-answer-2 c.before in (
       n,
-      omega (arith, n.second_states.few, mul_le_mul_right k.args.q n.first_states.few, slice-aggregate-answer c.before.before),
+      omega (arith, n.second_states.few, mul-le-mul_right k.args.q n.first_states.few, slice-aggregate-answer c.before.before),
       omega (arith, k.requires.1, tree, bound-longest k.args.p k.args.q most_tree_bytes n.first_states.few n.second_states.few (le_refl most_tree_bytes)),
     )
 

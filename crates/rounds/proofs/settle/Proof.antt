@@ -2,7 +2,7 @@
 use mathlib.Core.Path.{◌≡◌, refl, sym, ap, ◌∙◌, subst}
 use Prim.Native.Nat.{ℕ, ◌+◌, ◌*◌, ◌≤◌, ◌<◌, ◌-◌}
 use mathlib.Core.List.{List}
-use native.Mathlib.Nat.{mul_le_mul_right}
+use native.Mathlib.Nat.{mul-le-mul_right}
 use native.Mathlib.Omega.{arith}
 use lib.ListN.{length, get_or}
 use Rattle.simulation.specs.Limits.{most_states}
@@ -73,7 +73,7 @@ mul-mark-row : tie.Need-overflow-mul-mark-row invariant_loop2 decreases_loop2 in
 mul-mark-row c =
     let s = c.before.before in
     let d = s.before.before.before.before.before.before.before.before.before in
-    let m : s.lowest.result * d.args.q ≤ most_states * d.args.q = mul_le_mul_right d.args.q (omega (arith, s.lowest.ensures.0)) in
+    let m : s.lowest.result * d.args.q ≤ most_states * d.args.q = mul-le-mul_right d.args.q (omega (arith, s.lowest.ensures.0)) in
     omega (arith, m, d.requires.2)
 
 mark-row-requires : tie.Need-mark-row-requires invariant_loop2 decreases_loop2 invariant_loop decreases_loop

@@ -1,6 +1,6 @@
 -- `report::text::put_rows` meets its contract: the rows of the first s states are in place. Assumes nothing.
 use Prim.Native.Nat.{◌≤◌, ◌-◌, zero-le}
-use native.Mathlib.Nat.{mul_le_mul_right, suc-mul}
+use native.Mathlib.Nat.{mul-le-mul_right, suc-mul}
 use native.Mathlib.Omega.{arith}
 use Rattle.digits.specs.Writes.{Writes, pieces}
 use Rattle.report.specs.Text.{row_line, rows_text}
@@ -25,7 +25,7 @@ put-row-requires c κs =
     let k = test.before.before.before.before in
     let a = k.args in
     let lt = test.loop-test.true in
-    (omega (arith, k.requires.0, suc-mul l.s a.q, mul_le_mul_right a.q lt), pieces_room (row_line a.ranks.now a.q) l.s a.p lt k.requires.1 l.invariant.1)
+    (omega (arith, k.requires.0, suc-mul l.s a.q, mul-le-mul_right a.q lt), pieces_room (row_line a.ranks.now a.q) l.s a.p lt k.requires.1 l.invariant.1)
 
 add-s : tie.Need-overflow-add-s invariant_loop decreases_loop
 add-s c = omega arith

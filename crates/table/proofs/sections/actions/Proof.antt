@@ -3,7 +3,7 @@
 use Prim.Native.Nat.{ℕ, pred, ◌*◌}
 use mathlib.Core.Path.{◌≡◌, sym, ◌∙◌, ap, ap₂}
 use mathlib.Core.List.{List}
-use native.Mathlib.Nat.{zero-add, mul_le_mul_right}
+use native.Mathlib.Nat.{zero-add, mul-le-mul_right}
 use native.Mathlib.Omega.{arith}
 use lib.Dec.{leb}
 use lib.ListN.{length}
@@ -96,7 +96,7 @@ returns-2 c =
 mul-part : tie.Need-overflow-mul-part
 mul-part c =
     let d = at_count c in
-    let few = mul_le_mul_right d.n.given.0.0 (at-start d).before.before.pre.1 in
+    let few = mul-le-mul_right d.n.given.0.0 (at-start d).before.before.pre.1 in
     omega arith
 
 part-requires : tie.Need-part-requires

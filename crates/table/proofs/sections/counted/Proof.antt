@@ -4,7 +4,7 @@ use Prim.Native.Nat.{ℕ, suc, pred, ◌+◌, ◌*◌}
 use mathlib.Core.Path.{◌≡◌, refl, sym, ◌∙◌, ap}
 use mathlib.Core.Bool.{Bool, true, false, ◌&&◌}
 use mathlib.Core.List.{List}
-use native.Mathlib.Nat.{mul_le_mul_right}
+use native.Mathlib.Nat.{mul-le-mul_right}
 use native.Mathlib.Omega.{arith}
 use lib.Dec.{leb, eqb}
 use lib.ListN.{length}
@@ -93,7 +93,7 @@ returns-3 c =
 mul-part : tie.Need-overflow-mul-part
 mul-part c =
     let d = start_of c in
-    let few = mul_le_mul_right (at_count (at_limit c)).n.given.0.0 d.pre.1 in
+    let few = mul-le-mul_right (at_count (at_limit c)).n.given.0.0 d.pre.1 in
     omega arith
 
 part-requires : tie.Need-part-requires
