@@ -110,8 +110,15 @@ class Turn:
             if t in self.helpers and (i == 0 or self.toks[i - 1] != ".") and not self.need:
                 j = self.skip_space(i + 1)
                 got = self.chain(j) if j > i + 1 else None
-                if got and not got[2] and got[1] != self.roots.get(got[0]):
+                if got and not got[2] and self.takes.get(t, got[1]) != self.roots.get(got[0]):
                     out.append(self.inlined(t, got[0], got[1]))
+                    i = got[3]
+                    continue
+            if t in self.takes and (i == 0 or self.toks[i - 1] != "."):
+                j = self.skip_space(i + 1)
+                got = self.chain(j) if j > i + 1 else None
+                if got and not got[2]:
+                    out.append(t + " " + self.shown(got[0], self.takes[t], []))
                     i = got[3]
                     continue
             got = self.chain(i)
@@ -274,7 +281,22 @@ class Turn:
                     word = self.own[int(m[1]) - 1]
                 rest = [word] + rest[1:]
             return ".".join([root, head] + rest)
-        # a step that is not this place's: leave it to the reader
+        # the chain has other steps than it had: the nearest step of that name
+        found, p, depth = [], rootplace, 0
+        aim = 0
+        q = rootplace
+        while q is not None and q != place:
+            q = f.parent(q)
+            aim += 1
+        while p is not None:
+            if f.places[p][2][0] and norm(f.places[p][2][0]) == norm(head):
+                found.append((abs(depth - aim), p))
+            p = f.parent(p)
+            depth += 1
+        if found:
+            return self.shown(root, min(found)[1], fields)
+        if head == "given" and len(found) == 0:
+            return ".".join([root, "given"] + rest)
         return ".".join([root] + [f"?{head}@{place}?"] + rest)
 
     def by_parameter(self, callee, rest):
@@ -452,6 +474,7 @@ def convert(crate, path, old_text, text, row, module):
         tr = Turn(f, need)
         tr.answers = given
         tr.helpers = helpers
+        tr.takes = takes
         tr.aliases, tr.oldnames, tr.roots, tr.goal_c, tr.own = aliases, oldnames, {}, None, own
         comments = [l for l in t.split("\n") if l.startswith("--")]
         code = "\n".join(l for l in t.split("\n") if not l.startswith("--"))
@@ -524,11 +547,17 @@ def convert(crate, path, old_text, text, row, module):
         return (cm + "\n" if cm else "") + out, tr.imports
 
     # helpers over a place, of one clause: the type without the place, the name of it, the other arguments, the body
-    helpers = {}
+    helpers, takes = {}, {}
     for kind, d, first in kept:
         if kind != "other" or first.startswith(("module", "record", "pub record")):
             continue
         t = "\n".join(l for l in d if not l.startswith("--")).rstrip()
+        m = re.match(rf"(?:abbrev )?(?:pub )?({NAME}) : (.*?)\n(?:unfolding [^\n]*\n)?\1 ", t, re.S)
+        if m:
+            bs = binders(m[2])
+            q = PLACE.match(bs[0][1].strip()) if bs else None
+            if q and f.find(oldnames.get(q[1], q[1])):
+                takes[m[1]] = f.find(oldnames.get(q[1], q[1]))
         m = re.match(rf"(abbrev )?(?:pub )?({NAME}) : (.*?)\n(unfolding [^\n]*\n)?\2 ({NAME})((?: (?!=){NAME})*?) =(?=\s)(.*)$", t, re.S)
         if not m or re.search(rf"(?m)^{re.escape(m[2])} ", m[7]):
             continue
@@ -655,8 +684,21 @@ def convert(crate, path, old_text, text, row, module):
             for a, v in zip(args[len(vs) :], changed):
                 to[a] = f"{l}.{v}"
             bodyparts = []
+            depth, shadows, q0 = 0, [], 0
             for q, tk in enumerate(toks):
-                if tk in to and (q == 0 or toks[q - 1] != ".") and not re.match(r"\s*=\s", "".join(toks[q + 1 : q + 3])):
+                if tk == "(":
+                    mm = re.match(rf"\(((?:{NAME} )+): ", "".join(toks[q : q + 12]))
+                    if mm:
+                        shadows += [(n, depth) for n in mm[1].split()]
+                    depth += 1
+                elif tk == ")":
+                    depth -= 1
+                    shadows = [s for s in shadows if s[1] <= depth]
+                elif tk == "λ":
+                    mm = re.match(rf"λ ((?:{NAME} )*{NAME})\.", "".join(toks[q : q + 12]))
+                    if mm:
+                        shadows += [(n, depth) for n in mm[1].split()]
+                if tk in to and tk not in {s[0] for s in shadows} and (q == 0 or toks[q - 1] != ".") and not re.match(r"\s*=\s", "".join(toks[q + 1 : q + 3])):
                     bodyparts.append(to[tk])
                 else:
                     bodyparts.append(tk)
