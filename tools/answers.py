@@ -40,6 +40,7 @@ class Function:
         self.needs = {a: b for a, b in row["needs"]}
         self.asked = {a[0]: b for a, b in zip(row["needs"], [x[0] for x in row["asked_at"]])}
         self.settled = set(row["settled"])
+        self.typed = {p[0] for p, ty in zip(row["places"], row["typed"]) if ty}
         self.loops = [(n[0], n[1], vs, ch) for (n, vs), ch in zip(row["loops"], row["changed"])]
         self.params = row["params"]
 
@@ -110,7 +111,7 @@ class Turn:
             if t in self.helpers and (i == 0 or self.toks[i - 1] != ".") and not self.need:
                 j = self.skip_space(i + 1)
                 got = self.chain(j) if j > i + 1 else None
-                if got and not got[2] and self.takes.get(t, got[1]) != self.roots.get(got[0]):
+                if got and not got[2] and not self.near(got[0], self.takes.get(t, got[1])):
                     out.append(self.inlined(t, got[0], got[1]))
                     i = got[3]
                     continue
@@ -134,11 +135,22 @@ class Turn:
                     out.append(j[0])
                     i = j[1]
                     continue
-            if t in self.answers and (i == 0 or self.toks[i - 1] != "."):
+            if t in self.answers and (i == 0 or self.toks[i - 1] != ".") and self.toks[self.skip_space(i + 1) : self.skip_space(i + 1) + 1] != ["="]:
                 t = self.answers[t]
             out.append(t)
             i += 1
         return "".join(out)
+
+    def near(self, root, place):
+        """Says whether steps back lead from the root to the place."""
+        p = self.roots.get(root)
+        if p == place:
+            return True
+        if p in self.f.typed or place in self.f.typed:
+            return False
+        while p is not None and p != place:
+            p = self.f.parent(p)
+        return p is not None
 
     def inlined(self, name, root, place):
         """What a helper says of an earlier place, over the place at hand, which has all its fields."""
@@ -219,7 +231,7 @@ class Turn:
             fields.append(self.toks[j + 1])
             j += 2
         while fields and fields[0] == "before" and place is not None:
-            place = self.f.parent(place)
+            place = self.f.parent(place) or place
             fields = fields[1:]
         return root, place, fields, j
 

@@ -7,7 +7,7 @@ import sys
 crate, log = sys.argv[1:3]
 text = open(log, encoding="utf-8", errors="replace").read()
 ERROR = re.compile(
-    r"^\./(proofs/\S+\.antt):(\d+):(\d+): error: `[^`]*`: record `[^`]*` has no field `([^`]*)`(?: — |\n  )the fields that can be named here are ([^\n]*)", re.M
+    r"^\./(proofs/\S+\.antt):(\d+):(\d+): error: `[^`]*`: record `[^`]*` has no field `([^`]*)`(?: — |\n  )(?:the fields that can be named here|its fields) are ([^\n]*)", re.M
 )
 edits = collections.defaultdict(list)
 for m in ERROR.finditer(text):

@@ -26,8 +26,8 @@ pub fn codes_refusal(s: &[u8], width: usize, n: usize) -> u8
 
 // Whether a code is one of the n of section 1. They ascend, so each turn halves where it can stand.
 pub fn listed(s: &[u8], width: usize, n: usize, c: usize) -> bool
-    requires code_width { CodeWidth width × (width + width * n ≤ length s.now) }
-    requires s_value { first 0 (pred n) (code_refusal width s.now) ≡ 0 }
+    requires room { CodeWidth width × (width + width * n ≤ length s.now) }
+    requires ascending { first 0 (pred n) (code_refusal width s.now) ≡ 0 }
     ensures { result ≡ any n (λ i. eqb (code width s.now i) c) }
 {
     let mut low: usize = 0;
@@ -49,8 +49,8 @@ pub fn listed(s: &[u8], width: usize, n: usize, c: usize) -> bool
 
 // The sum of n bytes, from a place on, each step bytes after the one before.
 pub fn sum_of(s: &[u8], from: usize, step: usize, n: usize) -> usize
-    requires n_le_most_transitions { n ≤ most_transitions }
-    requires by_index { (i : ℕ) → i < n → from + step * i < length s.now }
+    requires few { n ≤ most_transitions }
+    requires within { (i : ℕ) → i < n → from + step * i < length s.now }
     ensures { result ≡ sum n (λ i. byte s.now (from + step * i)) }
 {
     let mut total: usize = 0;
@@ -78,8 +78,8 @@ fn first_of(a: u8, b: u8) -> u8
 
 // Section 3: the transition at a place, where section 1 has n codes.
 fn transition_refusal(s: &[u8], width: usize, n: usize, p: usize) -> u8
-    requires code_width { CodeWidth width × (n ≡ actions width s.now) × (width + width * n ≤ length s.now) × (p + width < length s.now) }
-    requires s_value { first 0 (pred n) (code_refusal width s.now) ≡ 0 }
+    requires room { CodeWidth width × (n ≡ actions width s.now) × (width + width * n ≤ length s.now) × (p + width < length s.now) }
+    requires ascending { first 0 (pred n) (code_refusal width s.now) ≡ 0 }
     ensures { result ≡ transition_refusal width s.now p }
 {
     let known = listed(s, width, n, field_at(s, width, p));
@@ -89,8 +89,8 @@ fn transition_refusal(s: &[u8], width: usize, n: usize, p: usize) -> u8
 
 // The m transitions from a place on.
 pub fn transitions_refusal(s: &[u8], width: usize, n: usize, at: usize, m: usize) -> u8
-    requires code_width { CodeWidth width × (n ≡ actions width s.now) × (width + width * n ≤ length s.now) × (at + (width + 1) * m ≤ length s.now) }
-    requires s_value { first 0 (pred n) (code_refusal width s.now) ≡ 0 }
+    requires room { CodeWidth width × (n ≡ actions width s.now) × (width + width * n ≤ length s.now) × (at + (width + 1) * m ≤ length s.now) }
+    requires ascending { first 0 (pred n) (code_refusal width s.now) ≡ 0 }
     ensures { result ≡ first 0 m (λ j. transition_refusal width s.now (at + (width + 1) * j)) }
 {
     let mut j: usize = 0;
@@ -143,8 +143,8 @@ pub fn distribution_refusal(s: &[u8], n: usize, at: usize, size: usize) -> u8
 
 // The entries of m transitions, whose sizes stand after their codes, the first at the place sizes: the first refusal among them.
 pub fn entries_refusal(s: &[u8], width: usize, n: usize, sizes: usize, m: usize, at: usize) -> u8
-    requires code_width { CodeWidth width × (m ≤ most_transitions) × (sizes + (width + 1) * m ≤ length s.now + width) }
-    requires sizes_in_bounds { at + 3 * sum m (size_from width s.now sizes) ≤ length s.now }
+    requires room { CodeWidth width × (m ≤ most_transitions) × (sizes + (width + 1) * m ≤ length s.now + width) }
+    requires within { at + 3 * sum m (size_from width s.now sizes) ≤ length s.now }
     ensures { result ≡ first 0 m (run_refusal width s.now n sizes at) }
 {
     let mut start: usize = 0;

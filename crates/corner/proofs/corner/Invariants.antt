@@ -1,0 +1,19 @@
+-- `corner::corner` meets its contract: the loop's turns are those of `Turn`, over the lists and sums of the code. Assumes nothing.
+use mathlib.Core.Path.{◌≡◌, ap}
+use mathlib.Core.Bool.{Bool}
+use Prim.Native.Nat.{ℕ, ◌+◌, ◌-◌, ◌*◌, ◌<◌, ◌^◌}
+use native.Mathlib.Omega.{arith}
+use lib.Bits.{bit_and}
+use lib.Dec.{eqb→eq}
+use lib.ListN.{length}
+use Rattle.simulation.specs.Fit.{weight, total}
+use Rattle.simulation.proofs.Finite.Tests.{true_T}
+use Rattle.matrix.specs.Problem.{joins}
+use Rattle.corner.proofs.Turn.{RuleAt, Turn, start, all-passed, row_fits, column_fits, turn, both-done, row_done, column-done}
+use Rattle.corner.proofs.corner.Given as goal
+
+abbrev pub invariant-loop-i : goal.invariant-loop-i
+invariant-loop-i l = RuleAt (joins l.rows l.from l.to) l.m l.n l.i l.j l.a l.b l.related
+
+abbrev pub decreases-loop-i : goal.decreases-loop-i
+decreases-loop-i l = (length l.m - l.i) + (length l.n - l.j)

@@ -1,0 +1,48 @@
+-- `between::rows` meets its contract. The loop's invariant: the rows passed are written. Assumes nothing.
+use mathlib.Core.Path.{subst, sym}
+use Prim.Native.Nat.{◌≤◌, ◌-◌, ◌+◌}
+use native.Mathlib.Omega.{arith}
+use lib.ListN.{length}
+use Rattle.relate.proofs.Laws.{Done, done-start, done_next, done-rows}
+use Rattle.relate.proofs.between.rows.Goals as goal
+
+pub loop-i-init : goal.loop-i-init
+loop-i-init c = let a = c.args in
+    (omega arith, done-start a.ranks.now a.width a.r a.mt.now a.nt.now a.rel.now)
+
+pub offset_bounds-mt-i : goal.offset_bounds-mt-i
+offset_bounds-mt-i c = omega arith
+
+pub bounds-mt-i : goal.bounds-mt-i
+bounds-mt-i c = omega arith
+
+pub overflow_cast-s : goal.overflow_cast-s
+overflow_cast-s c = omega (arith, c.shared_slice_known-in-loop-i-1.given c.loop-i.i)
+
+pub row-requires : goal.row-requires
+row-requires c = let p = c.requires in
+    (p.0, p.2 c.loop-i.i (omega arith))
+
+pub put-requires : goal.put-requires
+put-requires c = omega (arith, c.loop-i.invariant.1.size)
+
+pub overflow_step-i : goal.overflow_step-i
+overflow_step-i c = omega arith
+
+pub loop-i-smaller : goal.loop-i-smaller
+loop-i-smaller c = omega arith
+
+pub loop-i-preserved : goal.loop-i-preserved
+loop-i-preserved c = let a = c.args in (
+      omega arith,
+      subst (Done a.ranks.now a.width a.r a.mt.now a.nt.now a.rel.now (c.loop-i.i + 1)) (sym c.put.ensures)
+          (done_next a.ranks.now a.width a.r a.mt.now a.nt.now a.rel.now c.loop-i.i c.row.result c.loop-i.rel (omega arith) c.loop-i.invariant.1 c.row.ensures),
+    )
+
+pub shape_of-rel : goal.shape_of-rel
+shape_of-rel c = c.loop-i.invariant.1.size
+
+pub returns : goal.returns
+returns c = let a = c.args in
+    done-rows a.ranks.now a.width a.r a.mt.now a.nt.now a.rel.now c.loop-i.rel
+    (subst (λ n. Done a.ranks.now a.width a.r a.mt.now a.nt.now a.rel.now n c.loop-i.rel) (omega arith) c.loop-i.invariant.1)
