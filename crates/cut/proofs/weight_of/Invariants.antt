@@ -1,0 +1,20 @@
+-- `cut::weight_of` meets its contract: the members passed are weighed. Assumes nothing.
+use mathlib.Core.Path.{refl}
+use Prim.Native.Nat.{ℕ, ◌≤◌, ◌-◌}
+use native.Mathlib.Omega.{arith}
+use Rattle.set.specs.Words.{words, mask, after, rest}
+use Rattle.set.proofs.Sets.{walk_begin, walk_into, walk_on, walk_done}
+use Rattle.cut.proofs.Weighing.{Weighed, weighed_none, weighed_place, weighed_small, weighed_next, weighed_all}
+use Rattle.cut.proofs.weight_of.Given as goal
+
+abbrev pub invariant-loop-left : goal.invariant-loop-left
+invariant-loop-left l = Weighed l.weights (mask l.named) l.sum (rest l.k l.left l.named)
+
+abbrev pub decreases-loop-left : goal.decreases-loop-left
+decreases-loop-left l = l.left
+
+abbrev pub invariant-loop-k : goal.invariant-loop-k
+invariant-loop-k l = (l.k ≤ words) × Weighed l.weights (mask l.named) l.sum (after l.k l.named)
+
+abbrev pub decreases-loop-k : goal.decreases-loop-k
+decreases-loop-k l = words - l.k
