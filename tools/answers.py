@@ -554,6 +554,16 @@ def convert(crate, path, old_text, text, row, module):
                 if pl:
                     tr.env[mm[1]] = (mm[1], pl)
                     tr.roots[mm[1]] = pl
+            # a place with a name of its own within the module
+            def named_place(m):
+                tr.toks = [x[0] for x in TOKEN.finditer(m[4])]
+                got = tr.chain(0)
+                if not got or got[2]:
+                    return m[0]
+                tr.env[m[2]] = (got[0], got[1])
+                return ""
+
+            code = re.sub(rf"(?m)^( +)(?:abbrev )?(?:pub )?({NAME}) : tie\.({NAME})[^\n]*\n\1\2 = ([^\n]*)\n\n?", named_place, code)
             out = tr.run(code)
         cm = "\n".join(comments)
         return (cm + "\n" if cm else "") + out, tr.imports
