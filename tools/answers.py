@@ -663,7 +663,10 @@ def convert(crate, path, old_text, text, row, module):
     for k, (kind, d, first) in enumerate(kept):
         if kind == "other":
             t = "\n".join(l for l in d if not l.startswith("--"))
-            for n in re.findall(rf"(?m)^\s*(?:(?:abbrev|pub|unfoldable|record|data) )*({NAME}) (?::|\(|\{{)", t):
+            for n in re.findall(rf"(?m)^(?:  )?(?:(?:abbrev|pub|unfoldable) )*({NAME}) :|^(?:pub )?(?:record|data) ({NAME})", t):
+                n = n[0] or n[1]
+                if len(n) < 2:
+                    continue
                 named.setdefault(n, k)
     wanted, todo = set(), []
     for kind, d, first in kept:
@@ -793,6 +796,8 @@ def convert(crate, path, old_text, text, row, module):
         if pubs:
             u.append(f"use {mod}.Invariants.{{{', '.join(dict.fromkeys(pubs))}}}")
         u.append(f"use {mod}.Goals as goal")
+        if not any("λ κs" in a or "c κs" in a for a in ans_out):
+            ans_out = [re.sub(r" κs(?![\w'])", "", a) for a in ans_out]
         used = sorted(p for p in imports if any(re.search(rf"(?<![\w.-]){re.escape(p)}(?![\w-])", a) for a in ans_out))
         if used:
             u.append(f"use {mod}.Goals.{{{', '.join(used)}}}")
