@@ -1,4 +1,6 @@
 // Bytes, words and numbers into a buffer from a place on. Each function returns the place after what it wrote.
+#![tactic(auto)]
+
 ghost use Rattle.std.specs.Prelude.{[], ◌∷◌, ◌+◌, ◌<◌, ◌≡◌};
 ghost use Rattle.digits.specs.Digits.{decimal, hex, hex_digit, labelled};
 ghost use Rattle.digits.specs.Writes.{RoomFor, Writes};

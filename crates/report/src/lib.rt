@@ -1,4 +1,6 @@
 // What the program podcheck does between reading and writing: the tables in its input, and the text that it prints.
+#![tactic(auto)]
+
 mod count;
 mod input;
 mod text;
