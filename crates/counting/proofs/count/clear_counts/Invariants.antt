@@ -1,0 +1,11 @@
+-- `count::clear_counts` meets its contract. Assumes nothing.
+use Prim.Native.Nat.{◌-◌}
+use native.Mathlib.Omega.{arith}
+use Rattle.counting.proofs.Counting.{Emptied, emptied_start, emptied_next}
+use Rattle.counting.proofs.count.clear_counts.Given as goal
+
+abbrev pub invariant-loop-i : goal.invariant-loop-i
+invariant-loop-i l = Emptied l.n l.initial.counts l.counts l.i
+
+abbrev pub decreases-loop-i : goal.decreases-loop-i
+decreases-loop-i l = l.n - l.i
