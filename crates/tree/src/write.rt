@@ -136,7 +136,7 @@ fn join(rest: Rest, hole: Rest, start: usize) -> Rest
 }
 
 // The node, in a buffer of its length, but for a transition that is longer than half: that is what is left.
-#[cycle(write_around_write_node_write_transition)]
+#[cycle(writing)]
 fn write_node(
     tables: &[u16],
     ranks: &[u16],
@@ -175,7 +175,7 @@ fn write_node(
 
 // The transition, in a buffer of its length, which is at most the limit, but for a part that is longer than half the limit: that is what is
 // left. The sets of its children take the first words of the stack.
-#[cycle(write_around_write_node_write_transition)]
+#[cycle(writing)]
 fn write_around(
     tables: &[u16],
     ranks: &[u16],
@@ -216,7 +216,7 @@ fn write_around(
 
 // The transition, in a buffer of its length, if that is not above the limit; a longer one is what is left.
 // The loop goes down to the part that each turn leaves.
-#[cycle(write_around_write_node_write_transition)]
+#[cycle(writing)]
 fn write_transition(
     tables: &[u16],
     ranks: &[u16],
