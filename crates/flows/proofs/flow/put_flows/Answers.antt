@@ -27,6 +27,7 @@ counted d = count-is (record { chosen = d.requires.0; from = d.start_of-start.en
 turn : {k m n : ℕ} → k < m → m ≡ n → k < n
 turn lt e = omega arith
 
+-- the buffer has room for all of them, also after its first byte is stored
 room : (d : After-start_of) →
     let a = d.args in
     flow_room (first_table a.tables.now) (second_table a.tables.now) a.s ≤ length (set a.buf.now 0 (d.start_of.result - d.start_of-start.result))
