@@ -1,7 +1,6 @@
 -- What the proofs of several functions use.
 -- Assumes nothing.
 pub mod Pieces
-pub mod Again
 pub mod RecordBytes
 pub mod FlowBytes
 pub mod FlowRow
