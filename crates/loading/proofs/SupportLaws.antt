@@ -9,7 +9,7 @@ use native.Mathlib.Decide.{dec_lt}
 use native.Mathlib.Omega.{arith}
 use lib.ListN.{length, set, length-set, length-append}
 use lib.Seq.{get_or-set_same, get_or-set_other}
-use Rattle.simulation.specs.Sum.{sum, below}
+use Rattle.simulation.specs.Sum.{below}
 use Rattle.simulation.specs.Limits.{wide, most_transitions, most_entries}
 use Rattle.simulation.specs.Table.{Entry}
 use Rattle.simulation.specs.Support.{support_entries}

@@ -1,4 +1,6 @@
 // Loads the table of bytes into its decoded form: a column at a time, and the entries of each transition without those of weight 0.
+#![tactic(auto)]
+
 ghost use Rattle.std.specs.Prelude.{◌≡◌, [], ◌∷◌, ◌+◌, ◌*◌, ◌≤◌, ◌<◌, length};
 ghost use Rattle.simulation.specs.Sum.{sum};
 ghost use Rattle.simulation.specs.Limits.{wide, most_transitions, most_entries};

@@ -1,4 +1,6 @@
 // Reads a table, section by section (01, "A table in bytes").
+#![tactic(auto)]
+
 pub mod parts;
 mod reader;
 mod sections;

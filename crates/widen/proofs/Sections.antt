@@ -6,7 +6,7 @@ use Prim.Native.Nat.{ℕ, ◌+◌, ◌*◌, ◌-◌, ◌≤◌}
 use native.Mathlib.Omega.{arith}
 use lib.ListN.{length, length-append}
 use Rattle.simulation.specs.Limits.{narrow}
-use Rattle.layout.specs.Bytes.{actions, states_start, states, transitions, entries_start, entries}
+use Rattle.layout.specs.Bytes.{actions, states_start, states, entries_start, entries}
 use Rattle.table.specs.declared.parts.Layout.{Layout}
 use Rattle.table.proofs.PartLaws.{Parts}
 use Rattle.buffer.specs.Buffer.{Filled}

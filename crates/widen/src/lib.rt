@@ -1,4 +1,6 @@
 // Widens a table of the old layout, in which a code takes one byte: the same table with codes of two.
+#![tactic(auto)]
+
 ghost use Rattle.std.specs.Prelude.{◌≡◌, ◌+◌, ◌*◌, ◌≤◌, length};
 ghost use Rattle.simulation.specs.Limits.{narrow};
 ghost use Rattle.layout.specs.Bytes.{refusal};
