@@ -5,11 +5,7 @@ use native.Mathlib.Omega.{arith}
 use Rattle.simulation.specs.Limits.{most_states, most_transitions}
 use Rattle.set.specs.Words.{words}
 use Rattle.ranking.proofs.Zeros.{zeros_of}
-use Rattle.ranking.proofs.no_sets.Statement.{statement}
-use Rattle.ranking.proofs.no_sets.Tie as tie
+use Rattle.ranking.proofs.no_sets.Goals as goal
 
-returns : tie.Need-returns
+pub returns : goal.returns
 returns c = let z = zeros_of ((2 * most_states + most_transitions) * words) in (omega (arith, z.0), z.1)
-
-pub no_sets_spec : {M : Type 1} → statement M
-no_sets_spec = tie.close (tie.spec returns)

@@ -3,11 +3,7 @@
 use Prim.Native.Nat.{◌+◌, ◌*◌}
 use Rattle.simulation.specs.Limits.{most_states, most_transitions}
 use Rattle.ranking.proofs.Zeros.{zeros_of}
-use Rattle.ranking.proofs.none_tried.Statement.{statement}
-use Rattle.ranking.proofs.none_tried.Tie as tie
+use Rattle.ranking.proofs.none_tried.Goals as goal
 
-returns : tie.Need-returns
+pub returns : goal.returns
 returns c = zeros_of ((most_transitions + 1) * most_states)
-
-pub none-tried_spec : {M : Type 1} → statement M
-none-tried_spec = tie.close (tie.spec returns)
