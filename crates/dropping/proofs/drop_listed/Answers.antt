@@ -18,9 +18,6 @@ targets-requires c = (c.requires.0.loaded.first, c.requires.2)
 pub bounds_of-known-requires : goal.bounds_of-known-requires
 bounds_of-known-requires c = target_places c.args.j c.requires.0 c.requires.2 c.targets.ensures
 
-pub empty-fallen-requires : goal.empty-fallen-requires
-empty-fallen-requires c = tt
-
 pub loop-w-init : goal.loop-w-init
 loop-w-init c =
     let a = c.args in
@@ -32,20 +29,11 @@ loop-w-init c =
       c.requires.1,
     )
 
-pub offset_bounds-near-w : goal.offset_bounds-near-w
-offset_bounds-near-w c = omega arith
-
-pub bounds-near-w : goal.bounds-near-w
-bounds-near-w c = omega arith
-
 pub loop-left-init : goal.loop-left-init
 loop-left-init c =
     let a = c.args in
     let o = c.loop-w in
     (refl, refl, walk_into a.near (Gone a.tables.now a.rows.now a.j a.near o.fallen) o.w o.invariant.3, o.invariant.4)
-
-pub lowest-t-requires : goal.lowest-t-requires
-lowest-t-requires c = (omega arith, omega arith)
 
 pub fits_some-fits-requires : goal.fits_some-fits-requires
 fits_some-fits-requires c =
@@ -72,18 +60,12 @@ pub loop-left-preserved : goal.loop-left-preserved
 loop-left-preserved c =
     let t = c.lowest-t in
     let o = c.loop-left in (
-      c.tried-1.given ∙ o.invariant.0,
-      c.amounts-1.given ∙ o.invariant.1,
+      omega arith,
+      omega arith,
       picked_next t.ensures.1 (c.without_lowest-left.ensures.0 t.result t.ensures.1)
           (judged_is c.fits_some-fits.ensures.answer c.join_unless-fallen.ensures) o.invariant.2,
       c.fits_some-fits.ensures.known,
     )
-
-pub overflow_step-w : goal.overflow_step-w
-overflow_step-w c = omega arith
-
-pub loop-w-smaller : goal.loop-w-smaller
-loop-w-smaller c = omega arith
 
 pub loop-w-preserved : goal.loop-w-preserved
 loop-w-preserved c =

@@ -1,5 +1,5 @@
 -- `dropping::drop_row` meets its contract: those are left that answer each of the transitions passed. Assumes nothing.
-use mathlib.Core.Path.{◌≡◌, refl, sym, ◌∙◌, subst}
+use mathlib.Core.Path.{◌≡◌, refl, sym, subst}
 use Prim.Native.Nat.{ℕ, ◌+◌}
 use native.Mathlib.Omega.{arith}
 use Rattle.word.specs.Mask.{member}
@@ -16,9 +16,6 @@ use Rattle.dropping.proofs.drop_row.Goals as goal
 pub get-requires : goal.get-requires
 get-requires c =
     omega (arith, c.requires.0.rows_room, c.requires.2, (limits (first_form c.args.tables.now) c.requires.0.loaded.first).states-few)
-
-pub intersection-near-requires : goal.intersection-near-requires
-intersection-near-requires c = tt
 
 pub overflow_add-s : goal.overflow_add-s
 overflow_add-s c =
@@ -46,9 +43,6 @@ drop_step-fallen-requires c =
       kept-columns (contract_table a.tables.now) (row_of a.rows.now a.s) (mask a.doubt) c.requires.4 e c.loop-j.invariant.5,
     )
 
-pub difference-left-requires : goal.difference-left-requires
-difference-left-requires c = tt
-
 pub overflow_add-j : goal.overflow_add-j
 overflow_add-j c = omega (arith, c.loop-j-test.true)
 
@@ -59,14 +53,11 @@ pub loop-j-preserved : goal.loop-j-preserved
 loop-j-preserved c = (
   omega (arith, c.loop-j.invariant.0),
   omega (arith, c.loop-j-test.true, c.start_of-end.ensures),
-  c.tried-1.given ∙ c.loop-j.invariant.2,
-  c.amounts-1.given ∙ c.loop-j.invariant.3,
+  omega arith,
+  omega arith,
   c.drop_step-fallen.ensures.1,
   kept_next (mask c.drop_step-fallen.result) c.loop-j.invariant.0 c.drop_step-fallen.ensures.0 c.difference-left.ensures c.loop-j.invariant.5,
 )
-
-pub difference-requires : goal.difference-requires
-difference-requires c = tt
 
 pub shape_of-tried : goal.shape_of-tried
 shape_of-tried c = c.loop-j.invariant.2

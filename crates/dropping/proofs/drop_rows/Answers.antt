@@ -13,9 +13,6 @@ use Rattle.dropping.specs.Falling.{Doubtless}
 use Rattle.dropping.proofs.Dropping.{Waiting, waiting_start, waiting_next, waiting_end}
 use Rattle.dropping.proofs.drop_rows.Goals as goal
 
-pub empty-fell-requires : goal.empty-fell-requires
-empty-fell-requires c = tt
-
 pub loop-w-init : goal.loop-w-init
 loop-w-init c =
     let a = c.args in (
@@ -27,20 +24,11 @@ loop-w-init c =
       c.requires.2,
     )
 
-pub offset_bounds-doubtful-w : goal.offset_bounds-doubtful-w
-offset_bounds-doubtful-w c = omega arith
-
-pub bounds-doubtful-w : goal.bounds-doubtful-w
-bounds-doubtful-w c = omega arith
-
 pub loop-left-init : goal.loop-left-init
 loop-left-init c =
     let a = c.args in
     let o = c.loop-w in
     (refl, refl, refl, walk_into a.doubtful (λ (n : ℕ). Waiting a.tables.now a.rows.now n o.marks (mask o.fell)) o.w o.invariant.4, o.invariant.5)
-
-pub lowest-s-requires : goal.lowest-s-requires
-lowest-s-requires c = (omega arith, omega arith)
 
 pub overflow_add-s : goal.overflow_add-s
 overflow_add-s c = omega (arith, c.lowest-s.ensures.0)
@@ -70,9 +58,6 @@ drop_row-row-requires c =
 pub overflow_add-s-in-loop-left : goal.overflow_add-s-in-loop-left
 overflow_add-s-in-loop-left c = omega (arith, c.lowest-s.ensures.0)
 
-pub empty-requires : goal.empty-requires
-empty-requires c = tt
-
 pub put-requires : goal.put-requires
 put-requires c = omega (arith, c.lowest-s.ensures.0, c.loop-left.invariant.3.room)
 
@@ -80,7 +65,7 @@ pub overflow_add-s-in-loop-left-2 : goal.overflow_add-s-in-loop-left-2
 overflow_add-s-in-loop-left-2 c = omega (arith, c.lowest-s.ensures.0)
 
 pub put-requires-in-loop-left : goal.put-requires-in-loop-left
-put-requires-in-loop-left c = omega (arith, c.lowest-s.ensures.0, c.loop-left.invariant.3.room, c.marks-1.given)
+put-requires-in-loop-left c = omega (arith, c.lowest-s.ensures.0, c.loop-left.invariant.3.room)
 
 pub with_row-fell-requires : goal.with_row-fell-requires
 with_row-fell-requires c = c.lowest-s.ensures.0
@@ -95,19 +80,13 @@ loop-left-smaller c = c.without_lowest-left.ensures.1
 pub loop-left-preserved : goal.loop-left-preserved
 loop-left-preserved c =
     let u = c.loop-left in (
-      c.marks-in-loop-left-1.given ∙ c.marks-1.given ∙ u.invariant.0,
-      c.tried-1.given ∙ u.invariant.1,
-      c.amounts-1.given ∙ u.invariant.2,
+      omega arith,
+      omega arith,
+      omega arith,
       waiting_next c.empty.result c.drop_row-row.result c.with_row-fell.result c.lowest-s.ensures.0 c.put.ensures c.put-in-loop-left.ensures
           c.lowest-s.ensures.1.here (c.without_lowest-left.ensures.0 c.lowest-s.result c.lowest-s.ensures.1) c.drop_row-row.ensures.0 c.with_row-fell.ensures u.invariant.3,
       c.drop_row-row.ensures.1,
     )
-
-pub overflow_step-w : goal.overflow_step-w
-overflow_step-w c = omega arith
-
-pub loop-w-smaller : goal.loop-w-smaller
-loop-w-smaller c = omega arith
 
 pub loop-w-preserved : goal.loop-w-preserved
 loop-w-preserved c =

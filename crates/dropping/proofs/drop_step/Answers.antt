@@ -27,9 +27,6 @@ returns-then-lists c =
 pub common-requires : goal.common-requires
 common-requires c = target_places c.args.j c.requires.0 c.requires.2 c.targets-from.ensures
 
-pub difference-requires : goal.difference-requires
-difference-requires c = tt
-
 pub returns : goal.returns
 returns c =
     let a = c.args in (

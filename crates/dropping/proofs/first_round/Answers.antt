@@ -17,9 +17,6 @@ use Rattle.dropping.proofs.first_round.Goals.{In-loop-s}
 pub states-p-requires : goal.states-p-requires
 states-p-requires c = c.requires.0.first
 
-pub empty-fell-requires : goal.empty-fell-requires
-empty-fell-requires c = tt
-
 pub loop-s-init : goal.loop-s-init
 loop-s-init c = (omega arith, refl, finding_start c.empty-fell.ensures c.requires.2 (λ s t a m. absurd (true≢false (sym (le-leb 0 s zero-le) ∙ m))))
 
@@ -53,7 +50,7 @@ loop-s-preserved c =
     let s = c.loop-s.s in
     let a : s < states_of (first_table tables) = omega (arith, c.loop-s-test.true, c.states-p.ensures) in (
       omega (arith, c.loop-s-test.true),
-      c.marks-1.given ∙ c.loop-s.invariant.1,
+      omega arith,
       finding_marks c.loop-s.marks r.result c.with_row-fell.result a (few (goal.at.loop-s-preserved c).In-loop-s) (omega (arith, c.loop-s.invariant.1, c.requires.1)) c.put.ensures (from_next s)
           (r.ensures ∙ first-falls (first_table tables) (contract_table tables) (sound (first_form tables) c.requires.0.first) (contract_sound tables c.requires.0) s a)
           c.with_row-fell.ensures c.loop-s.invariant.2,

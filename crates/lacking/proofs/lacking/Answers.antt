@@ -18,9 +18,6 @@ loop-w-init c = let a = c.args in (omega arith, by_start (lacks (second_table a.
 pub lacking_word-requires : goal.lacking_word-requires
 lacking_word-requires c = (c.requires, search rules)
 
-pub loop-w-smaller : goal.loop-w-smaller
-loop-w-smaller c = omega arith
-
 pub loop-w-preserved : goal.loop-w-preserved
 loop-w-preserved c =
     let a = c.args in

@@ -17,9 +17,6 @@ use Rattle.lacking.proofs.lacking_one.Goals.{else-not-repeats, then-not-repeats,
 pub overflow_add-s : goal.overflow_add-s
 overflow_add-s c = omega (arith, c.requires.1, (limits (first_form c.args.tables.now) c.requires.0.first).states-few)
 
-pub empty-without-requires : goal.empty-without-requires
-empty-without-requires c = tt
-
 pub loop-j-init : goal.loop-j-init
 loop-j-init c =
     let tables = c.args.tables.now in (
@@ -43,9 +40,6 @@ pub unanswered-requires : goal.unanswered-requires
 unanswered-requires c =
     let f = first_form c.args.tables.now in
     (c.requires.0, lists-same (table_of f).codes c.code-code.ensures (own_code f c.requires.0.first c.loop-j.j (own (goal.at.unanswered-requires c).In-loop-j)))
-
-pub union-without-requires : goal.union-without-requires
-union-without-requires c = tt
 
 pub overflow_add-j : goal.overflow_add-j
 overflow_add-j c = omega (arith, c.loop-j-test.true)

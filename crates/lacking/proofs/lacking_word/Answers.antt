@@ -40,9 +40,6 @@ pub has_code-has-requires : goal.has_code-has-requires
 has_code-has-requires c =
     (c.requires.0, omega (arith, c.loop-u-test.true, c.start.ensures, c.start-start.ensures, c.states-q.ensures))
 
-pub overflow_cast-has : goal.overflow_cast-has
-overflow_cast-has c = tt
-
 pub with_bit-without-requires : goal.with_bit-without-requires
 with_bit-without-requires c =
     (omega (arith, c.loop-u-test.true, c.start.ensures, c.start-start.ensures), flag_few (not c.has_code-has.result))

@@ -12,9 +12,6 @@ returns-then-lists c =
     let a = c.args in
     c.lacking.ensures ∙ lacks-listed a.tables.now a.code (sym c.lists.ensures ∙ c.if-lists.true)
 
-pub empty-requires : goal.empty-requires
-empty-requires c = tt
-
 pub returns : goal.returns
 returns c =
     ap member c.empty.ensures ∙ lacks-added c.args.tables.now c.args.code c.requires.0 c.requires.1 (sym c.lists.ensures ∙ c.if-lists.false)

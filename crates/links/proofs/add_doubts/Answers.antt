@@ -9,38 +9,11 @@ use Rattle.links.proofs.add_doubts.Goals as goal
 pub loop-w-init : goal.loop-w-init
 loop-w-init c = let a = c.args in (omega arith, more-none, passed_none a.set (InDoubt (mask a.more) a.marks.now))
 
-pub offset_bounds-set-w : goal.offset_bounds-set-w
-offset_bounds-set-w c = omega arith
-
-pub bounds-set-w : goal.bounds-set-w
-bounds-set-w c = omega arith
-
 pub loop-left-init : goal.loop-left-init
 loop-left-init c =
     let a = c.args in
     let o = c.loop-w in
     (more-none, passed_into a.set (InDoubt (mask a.more) o.marks) o.w o.invariant.2)
-
-pub lowest-s-requires : goal.lowest-s-requires
-lowest-s-requires c = (omega arith, omega arith)
-
-pub overflow_add-s : goal.overflow_add-s
-overflow_add-s c = omega arith
-
-pub get-doubt-requires : goal.get-doubt-requires
-get-doubt-requires c = omega arith
-
-pub overflow_add-s-in-loop-left : goal.overflow_add-s-in-loop-left
-overflow_add-s-in-loop-left c = omega arith
-
-pub union-requires : goal.union-requires
-union-requires c = tt
-
-pub put-requires : goal.put-requires
-put-requires c = omega arith
-
-pub without_lowest-left-requires : goal.without_lowest-left-requires
-without_lowest-left-requires c = (omega arith, omega arith)
 
 pub loop-left-smaller : goal.loop-left-smaller
 loop-left-smaller c = c.without_lowest-left.ensures.1
@@ -53,12 +26,6 @@ loop-left-preserved c =
     more-next c.loop-left.marks (mask c.args.more) old.result c.union.result room s.ensures.0 old.ensures c.union.ensures
     c.put.ensures c.args.set (rest c.loop-w.w c.loop-left.left c.args.set)
     (rest c.loop-w.w c.without_lowest-left.result c.args.set) (c.without_lowest-left.ensures.0 s.result s.ensures.1) c.loop-left.invariant
-
-pub overflow_step-w : goal.overflow_step-w
-overflow_step-w c = omega arith
-
-pub loop-w-smaller : goal.loop-w-smaller
-loop-w-smaller c = omega arith
 
 pub loop-w-preserved : goal.loop-w-preserved
 loop-w-preserved c =

@@ -13,17 +13,8 @@ use Rattle.links.proofs.Growing.{union_left, union_right}
 use Rattle.links.proofs.behind_all.Invariants.{Taken}
 use Rattle.links.proofs.behind_all.Goals as goal
 
-pub empty-r-requires : goal.empty-r-requires
-empty-r-requires c = tt
-
 pub loop-w-init : goal.loop-w-init
 loop-w-init c = let a = c.args in (omega arith, passed_none a.set (Taken a.sets.now (mask c.empty-r.result)))
-
-pub offset_bounds-set-w : goal.offset_bounds-set-w
-offset_bounds-set-w c = omega arith
-
-pub bounds-set-w : goal.bounds-set-w
-bounds-set-w c = omega arith
 
 pub loop-left-init : goal.loop-left-init
 loop-left-init c =
@@ -31,20 +22,11 @@ loop-left-init c =
     let o = c.loop-w in
     passed_into a.set (Taken a.sets.now (mask o.r)) o.w o.invariant.1
 
-pub lowest-u-requires : goal.lowest-u-requires
-lowest-u-requires c = (omega arith, omega arith)
-
 pub overflow_add-u : goal.overflow_add-u
 overflow_add-u c = omega (arith, c.lowest-u.ensures.0)
 
 pub get-requires : goal.get-requires
 get-requires c = omega (arith, c.lowest-u.ensures.0)
-
-pub union-r-requires : goal.union-r-requires
-union-r-requires c = tt
-
-pub without_lowest-left-requires : goal.without_lowest-left-requires
-without_lowest-left-requires c = (omega arith, omega arith)
 
 pub loop-left-smaller : goal.loop-left-smaller
 loop-left-smaller c = c.without_lowest-left.ensures.1
@@ -62,12 +44,6 @@ loop-left-preserved c =
     (c.without_lowest-left.ensures.0 u.result u.ensures.1)
     (λ t h. union_right (mask c.loop-left.r) row (mask r'.result) t e h)
     (λ v m f t h. union_left (mask c.loop-left.r) row (mask r'.result) t e (c.loop-left.invariant v m f t h))
-
-pub overflow_step-w : goal.overflow_step-w
-overflow_step-w c = omega arith
-
-pub loop-w-smaller : goal.loop-w-smaller
-loop-w-smaller c = omega arith
 
 pub loop-w-preserved : goal.loop-w-preserved
 loop-w-preserved c =

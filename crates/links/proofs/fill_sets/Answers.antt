@@ -1,6 +1,7 @@
 -- `links::fill_sets` meets its contract: each kind of set is filled in its own part of the list.
 -- Assumes nothing.
 use mathlib.Core.Path.{sym, subst}
+use native.Mathlib.Omega.{arith}
 use borrow.Author.Rules.{rules}
 use Rattle.simulation.specs.Limits.{most_states}
 use Rattle.form.specs.Tables.{first_form, second_form}
@@ -17,14 +18,14 @@ link_contract-requires c =
     let sets = c.args.sets.now in (
       search rules,
       search rules,
-      subst Empty (sym (behind_still sets c.link.new.before c.requires.1 c.sets-1.given.0)) (empty-part most_states most_states sets c.requires.2),
+      subst Empty (sym (behind_still sets c.link.new.before c.requires.1 (omega arith))) (empty-part most_states most_states sets c.requires.2),
     )
 
 pub returns : goal.returns
 returns c =
     let first = first_form c.args.tables.now in
     let second = second_form c.args.tables.now in
-    let kinds = all-filled c.args.sets.now c.link.new.before c.requires.1 c.sets-1.given.0 c.link_contract.new.behind c.sets-2-1.given.0 c.target_sets.new.sets c.sets-3-1.given.0 in
+    let kinds = all-filled c.args.sets.now c.link.new.before c.requires.1 (omega arith) c.link_contract.new.behind (omega arith) c.target_sets.new.sets (omega arith) in
     record {
       room = kinds.room;
       first = subst (Linked first) (sym kinds.before-are) c.link.ensures;

@@ -20,12 +20,6 @@ loop-j-init c =
 pub also_listed-requires : goal.also_listed-requires
 also_listed-requires c = (c.requires, omega (arith, c.loop-j.invariant.1), c.loop-j.invariant.2)
 
-pub overflow_add-j : goal.overflow_add-j
-overflow_add-j c = omega arith
-
-pub loop-j-smaller : goal.loop-j-smaller
-loop-j-smaller c = omega arith
-
 pub loop-j-preserved : goal.loop-j-preserved
 loop-j-preserved c =
     (omega arith, c.loop-j.invariant.1, each_next _ c.loop-j.j c.loop-j.invariant.2 (c.also_listed.ensures c.if-also_listed.true))

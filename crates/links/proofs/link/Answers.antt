@@ -15,18 +15,12 @@ pub link_state-requires : goal.link_state-requires
 link_state-requires c =
     (c.requires.0, omega (arith, c.states-n.ensures), omega arith)
 
-pub overflow_add-s : goal.overflow_add-s
-overflow_add-s c = omega arith
-
-pub loop-s-smaller : goal.loop-s-smaller
-loop-s-smaller c = omega arith
-
 pub loop-s-preserved : goal.loop-s-preserved
 loop-s-preserved c =
     let l = c.loop-s in
     let e = c.link_state.ensures in (
       omega arith,
-      c.before-1.given ∙ l.invariant.1,
+      omega arith,
       each_next _ l.s (λ r b j i u v w. e.0.grown.still _ _ (l.invariant.2 r b j i u v w)) e.1,
       e.0.within _ (omega arith) l.invariant.3,
     )

@@ -17,7 +17,7 @@ pub returns-then-has_added : goal.returns-then-has_added
 returns-then-has_added c =
     let looped = c.link_loops.ensures in
     record {
-      listed = linked_looped c.states.ensures c.link.ensures looped c.behind-then-has_added-1.given;
+      listed = linked_looped c.states.ensures c.link.ensures looped (omega arith);
       loops = λ j t _ _ a. looped.own t (omega (arith, c.states.ensures));
     }
 

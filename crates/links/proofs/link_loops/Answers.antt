@@ -32,12 +32,6 @@ insert-requires c = omega (arith, c.requires.0)
 pub put-requires : goal.put-requires
 put-requires c = room (goal.at.put-requires c).In-loop-s
 
-pub overflow_add-s : goal.overflow_add-s
-overflow_add-s c = omega arith
-
-pub loop-s-smaller : goal.loop-s-smaller
-loop-s-smaller c = omega arith
-
 pub loop-s-preserved : goal.loop-s-preserved
 loop-s-preserved c =
     let o = c.loop-s in

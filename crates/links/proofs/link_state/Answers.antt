@@ -1,6 +1,6 @@
 -- `links::link_state` meets its contract. The loop's invariant: the targets of the transitions passed are linked.
 -- Assumes nothing.
-use mathlib.Core.Path.{refl, sym, ◌∙◌, subst}
+use mathlib.Core.Path.{refl, sym, subst}
 use mathlib.Core.List.{List}
 use Prim.Native.Nat.{ℕ, ◌+◌, ◌<◌}
 use native.Mathlib.Omega.{arith}
@@ -51,18 +51,12 @@ link_targets-requires c =
       omega (arith, c.requires.1, (limits f c.requires.0).states-few),
     )
 
-pub overflow_add-j : goal.overflow_add-j
-overflow_add-j c = omega arith
-
-pub loop-j-smaller : goal.loop-j-smaller
-loop-j-smaller c = omega arith
-
 pub loop-j-preserved : goal.loop-j-preserved
 loop-j-preserved c =
     let e = c.link_targets.ensures in (
       omega arith,
       omega arith,
-      c.before-1.given ∙ c.loop-j.invariant.2,
+      omega arith,
       joins-more c.loop-j.invariant.3 e.0,
       links-next (form_of (goal.at.loop-j-preserved c).Start) c.args.s _ c.loop-j.j e.0.grown c.targets.ensures e.1 c.loop-j.invariant.4,
     )

@@ -23,15 +23,6 @@ target_room c = omega (arith, c.requires.0.below c.loop-i.i (omega arith))
 pub loop-i-init : goal.loop-i-init
 loop-i-init c = (omega arith, refl, joins-none, λ k a. absurd (omega arith))
 
-pub offset_bounds-to-i : goal.offset_bounds-to-i
-offset_bounds-to-i c = omega arith
-
-pub bounds-to-i : goal.bounds-to-i
-bounds-to-i c = omega arith
-
-pub overflow_cast-t : goal.overflow_cast-t
-overflow_cast-t c = omega (arith, c.shared_slice_known-in-loop-i-1.given c.loop-i.i)
-
 pub get-requires : goal.get-requires
 get-requires c = target_room (goal.at.get-requires c).In-loop-i
 
@@ -40,12 +31,6 @@ insert-requires c = c.requires.1
 
 pub put-requires : goal.put-requires
 put-requires c = target_room (goal.at.put-requires c).In-loop-i
-
-pub overflow_add-i : goal.overflow_add-i
-overflow_add-i c = omega arith
-
-pub loop-i-smaller : goal.loop-i-smaller
-loop-i-smaller c = omega arith
 
 pub loop-i-preserved : goal.loop-i-preserved
 loop-i-preserved c =

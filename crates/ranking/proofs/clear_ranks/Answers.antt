@@ -9,18 +9,6 @@ use Rattle.ranking.proofs.clear_ranks.Goals as goal
 pub loop-i-init : goal.loop-i-init
 loop-i-init c = (omega arith, refl, zeroed_none)
 
-pub offset_bounds-ranks-i : goal.offset_bounds-ranks-i
-offset_bounds-ranks-i c = omega arith
-
-pub bounds-ranks-i : goal.bounds-ranks-i
-bounds-ranks-i c = omega arith
-
-pub overflow_add-i : goal.overflow_add-i
-overflow_add-i c = omega arith
-
-pub loop-i-smaller : goal.loop-i-smaller
-loop-i-smaller c = omega arith
-
 pub loop-i-preserved : goal.loop-i-preserved
 loop-i-preserved c =
     (omega arith, length-set c.loop-i.ranks c.loop-i.i 0 ∙ c.loop-i.invariant.1, zeroed_next (omega arith) c.loop-i.invariant.2)

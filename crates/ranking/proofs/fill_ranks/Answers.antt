@@ -39,9 +39,9 @@ refine-requires c =
     record {
       prepared = record {
         loaded = loaded;
-        ranks_room = omega (arith, c.requires.ranking.ranks_room, c.ranks-1.given);
+        ranks_room = omega (arith, c.requires.ranking.ranks_room);
         sets_known = c.fill_sets.ensures;
-        rows_room = omega (arith, full.room, c.rows-1.given);
+        rows_room = omega (arith, full.room);
         marks_room = c.requires.marks_room;
         amounts_room = c.requires.ranking.amounts_room;
         known = none_tried c.requires.tried_room c.requires.untried;

@@ -13,17 +13,11 @@ use Rattle.ranking.proofs.Writing.{rows_next, rows_left}
 use native.Mathlib.Omega.{arith}
 use Rattle.ranking.proofs.narrow.Goals as goal
 
-pub below-columns-requires : goal.below-columns-requires
-below-columns-requires c = omega arith
-
 pub loop-s-init : goal.loop-s-init
 loop-s-init c = (omega arith, refl, λ r t a. absurd (omega arith), λ r a. refl)
 
 pub get-requires : goal.get-requires
 get-requires c = omega (arith, c.loop-s.invariant.1)
-
-pub intersection-requires : goal.intersection-requires
-intersection-requires c = tt
 
 pub put-requires : goal.put-requires
 put-requires c = omega (arith, c.loop-s.invariant.1)

@@ -24,12 +24,6 @@ loop-w-init c =
       walk_begin a.set (λ (n : ℕ). (i : ℕ) → get_or ranks i 0 ≡ marked (except X (member n)) a.base a.k ranks i) (mark_start X a.base a.k ranks (mask a.set) refl),
     )
 
-pub offset_bounds-set-w : goal.offset_bounds-set-w
-offset_bounds-set-w c = omega arith
-
-pub bounds-set-w : goal.bounds-set-w
-bounds-set-w c = omega arith
-
 pub loop-left-init : goal.loop-left-init
 loop-left-init c =
     let a = c.args in
@@ -39,9 +33,6 @@ loop-left-init c =
       walk_into a.set (λ (n : ℕ). (t : ℕ) → member n t ≡ true → X t ≡ true) o.w o.invariant.2,
       λ l. walk_into a.set (λ (n : ℕ). (i : ℕ) → get_or o.ranks i 0 ≡ marked (except X (member n)) a.base a.k l i) o.w,
     )
-
-pub lowest-t-requires : goal.lowest-t-requires
-lowest-t-requires c = (omega arith, omega arith)
 
 -- the lowest member that is left is one of the set, so its rank has a place
 rank_room : (c : After-lowest-t) → c.args.base + c.lowest-t.result < length c.loop-left.ranks
@@ -57,9 +48,6 @@ overflow_add-ranks c = omega (arith, rank_room c)
 
 pub offset_bounds-ranks-base : goal.offset_bounds-ranks-base
 offset_bounds-ranks-base c = omega (arith, rank_room (goal.at.offset_bounds-ranks-base c).After-lowest-t)
-
-pub without_lowest-left-requires : goal.without_lowest-left-requires
-without_lowest-left-requires c = (omega arith, omega arith)
 
 pub loop-left-smaller : goal.loop-left-smaller
 loop-left-smaller c = c.without_lowest-left.ensures.1
@@ -78,12 +66,6 @@ loop-left-preserved c =
       (λ u m. i.invariant.1 u (left-member left next t e u m)),
       λ r h. mark_next (member (mask a.set)) a.base a.k r i.ranks left next t in-set e (rank_room (goal.at.loop-left-preserved c).After-lowest-t) (i.invariant.2 r h),
     )
-
-pub overflow_step-w : goal.overflow_step-w
-overflow_step-w c = omega arith
-
-pub loop-w-smaller : goal.loop-w-smaller
-loop-w-smaller c = omega arith
 
 pub loop-w-preserved : goal.loop-w-preserved
 loop-w-preserved c =

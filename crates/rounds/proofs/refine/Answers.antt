@@ -14,14 +14,11 @@ pub loop-ranks-init : goal.loop-ranks-init
 loop-ranks-init c =
     (refl, refl, refl, refl, refl, stands_first c.requires.after c.first_round-fell.ensures, c.requires.prepared.known, λ i a. refl)
 
-pub is_empty-requires : goal.is_empty-requires
-is_empty-requires c = tt
-
 pub turn-last-requires : goal.turn-last-requires
 turn-last-requires c =
     let i = c.loop-ranks.invariant in (
       record {
-        prepared = prepared-still c.requires.prepared i.0 i.1 (i.2 ∙ c.marks-1.given) i.4 i.6;
+        prepared = prepared-still c.requires.prepared i.0 i.1 (omega arith) i.4 i.6;
         standing = i.5;
       },
       not_some c.is_empty.ensures c.loop-ranks-test.true-raw,
@@ -36,11 +33,11 @@ pub loop-ranks-preserved : goal.loop-ranks-preserved
 loop-ranks-preserved c =
     let i = c.loop-ranks.invariant in
     let e = c.turn-last.ensures.1 in (
-      c.ranks-1.given ∙ i.0,
-      c.rows-1.given ∙ i.1,
-      c.marks-in-loop-ranks-1.given ∙ i.2,
-      c.tried-1.given ∙ i.3,
-      c.amounts-1.given ∙ i.4,
+      omega arith,
+      omega arith,
+      omega arith,
+      omega arith,
+      omega arith,
       e.standing,
       e.known,
       (λ j b. e.beyond j b ∙ i.7 j b),
@@ -53,7 +50,7 @@ pub shape_of-rows : goal.shape_of-rows
 shape_of-rows c = c.loop-ranks.invariant.1
 
 pub shape_of-marks : goal.shape_of-marks
-shape_of-marks c = c.loop-ranks.invariant.2 ∙ c.marks-1.given
+shape_of-marks c = omega arith
 
 pub shape_of-tried : goal.shape_of-tried
 shape_of-tried c = c.loop-ranks.invariant.3

@@ -32,20 +32,11 @@ loop-w-init c =
           (settled_none (lost_in a.marks.now) (mask a.fell) c.requires.3),
     )
 
-pub offset_bounds-fell-w : goal.offset_bounds-fell-w
-offset_bounds-fell-w c = omega arith
-
-pub bounds-fell-w : goal.bounds-fell-w
-bounds-fell-w c = omega arith
-
 pub loop-left-init : goal.loop-left-init
 loop-left-init c =
     let a = c.args in
     let o = c.loop-w in
     (refl, refl, λ r n. walk_into a.fell (λ (m : ℕ). Settled a.q a.k (passed (lost_in a.marks.now) m) r o.rows n o.ranks) o.w)
-
-pub lowest-s-requires : goal.lowest-s-requires
-lowest-s-requires c = (omega arith, omega arith)
 
 pub overflow_add-s : goal.overflow_add-s
 overflow_add-s c = omega (arith, c.lowest-s.ensures.0)
@@ -74,14 +65,8 @@ row_room c = omega (arith, c.lowest-s.ensures.0, c.loop-left.invariant.0, c.loop
 pub get-requires : goal.get-requires
 get-requires c = row_room (goal.at.get-requires c).After-lowest-s
 
-pub difference-requires : goal.difference-requires
-difference-requires c = tt
-
 pub put-requires : goal.put-requires
 put-requires c = row_room (goal.at.put-requires c).After-lowest-s
-
-pub without_lowest-left-requires : goal.without_lowest-left-requires
-without_lowest-left-requires c = (omega arith, omega arith)
 
 pub loop-left-smaller : goal.loop-left-smaller
 loop-left-smaller c = c.without_lowest-left.ensures.1
@@ -102,17 +87,11 @@ loop-left-preserved c =
     let e = except_of g.ensures (member (mask c.get-lost.result)) x.ensures ∙ ap (λ (n : ℕ). except (member (row_of c.loop-left.rows s)) (member n)) row in
     let n = subst (λ (n : ℕ). (i' : ℕ) → get_or ranks i' 0 ≡ marked (member n) (s * a.q) a.k c.loop-left.ranks i') row c.mark_row.ensures in (
       ap length c.put.ensures ∙ length_put c.loop-left.rows s x.result ∙ c.loop-left.invariant.0,
-      c.ranks-1.given ∙ c.loop-left.invariant.1,
+      omega arith,
       λ r n' h. subst (λ (l : List ℕ). Settled a.q a.k (passed lost next) r l n' ranks) (sym c.put.ensures)
           (settled_next lost left next ranks x.result room c.lowest-s.ensures.1.here
           (c.without_lowest-left.ensures.0 s c.lowest-s.ensures.1) (λ t y. (c.requires.4 s t y).0) n e (c.loop-left.invariant.2 r n' h)),
     )
-
-pub overflow_step-w : goal.overflow_step-w
-overflow_step-w c = omega arith
-
-pub loop-w-smaller : goal.loop-w-smaller
-loop-w-smaller c = omega arith
 
 pub loop-w-preserved : goal.loop-w-preserved
 loop-w-preserved c =

@@ -39,8 +39,8 @@ drop_rows-next-requires c =
       p.loaded,
       record {
         target_sets = p.sets_known.targets;
-        rows_room = omega (arith, p.rows_room, c.rows-1.given);
-        marks_room = omega (arith, p.marks_room, c.marks-1.given);
+        rows_room = omega (arith, p.rows_room);
+        marks_room = omega (arith, p.marks_room);
         ready = sure t (moved t.standing c.requires.1 c.width.ensures c.settle.ensures) w;
         none_lost = w.empty;
       },
