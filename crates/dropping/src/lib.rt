@@ -1,4 +1,6 @@
 // The pairs that a round drops: the first round by codes alone, a later one by the fits of the pairs in doubt.
+#![tactic(auto)]
+
 ghost use Rattle.std.specs.Prelude.{◌≡◌, not, ◌&&◌, ℕ, ◌<◌, ◌≤◌, eqb, length};
 ghost use Rattle.simulation.specs.Limits.{most_pairs, most_states};
 ghost use Rattle.simulation.specs.Table.{states_of};

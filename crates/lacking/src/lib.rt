@@ -1,4 +1,6 @@
 // The states of the contract that lack a code.
+#![tactic(auto)]
+
 ghost use Rattle.std.specs.Prelude.{◌≡◌, ◌+◌, ◌*◌, ◌<◌, T};
 ghost use Rattle.simulation.specs.Table.{states_of};
 ghost use Rattle.simulation.specs.Complete.{lists};

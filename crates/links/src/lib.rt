@@ -1,4 +1,6 @@
 // Which states lead to which, and the doubts that lost pairs raise.
+#![tactic(auto)]
+
 ghost use Rattle.std.specs.Prelude.{◌≡◌, true, false, ℕ, ◌<◌, ◌≤◌, T, length, get_or};
 ghost use Rattle.simulation.specs.Limits.{most_states};
 ghost use Rattle.simulation.specs.Table.{states_of};

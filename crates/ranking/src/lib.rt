@@ -1,4 +1,6 @@
 // The ranks of all pairs of states of two tables, round by round.
+#![tactic(auto)]
+
 ghost use Rattle.std.specs.Prelude.{◌≡◌, ℕ, ◌+◌, ◌*◌, ◌<◌, ◌≤◌, length, get_or};
 ghost use Rattle.simulation.specs.Limits.{most_states, most_transitions};
 ghost use Rattle.word.specs.Mask.{both, up_to};

@@ -1,4 +1,6 @@
 // The rounds: pairs that fall get their rank and raise doubts, until none falls.
+#![tactic(auto)]
+
 ghost use Rattle.std.specs.Prelude.{◌≡◌, true, ◌≢◌, ℕ, ◌+◌, ◌*◌, ◌<◌, ◌≤◌, length, get_or};
 ghost use Rattle.simulation.specs.Limits.{most_states};
 ghost use Rattle.word.specs.Mask.{member};
