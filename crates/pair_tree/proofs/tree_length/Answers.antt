@@ -1,0 +1,24 @@
+-- `pair_tree::tree_length` meets its contract: there is room for all pairs.
+-- Assumes nothing.
+use native.Mathlib.Omega.{arith}
+use borrow.Author.Rules.{rules}
+use Rattle.form.proofs.Contract.{contract-pairs}
+use Rattle.pair_tree.proofs.Putting.{count-is, count_small}
+use Rattle.pair_tree.proofs.tree_length.Goals as goal
+
+pub overflow_mul-states : goal.overflow_mul-states
+overflow_mul-states c = omega (arith, count_small c.requires.0.loaded c.states.ensures c.width.ensures)
+
+pub tree_length-requires : goal.tree_length-requires
+tree_length-requires c =
+    let p = c.requires in
+    let n = count-is p.0.loaded c.states.ensures c.width.ensures in (
+      record { ranked = p.0; room = omega (arith, n, c.if-states-width-le-FEW_PAIRS.true); notes = p.3; amounts_room = p.2 },
+      p.1,
+      p.4,
+    )
+
+pub tree_length-requires-2 : goal.tree_length-requires-2
+tree_length-requires-2 c =
+    let p = c.requires in
+    (record { ranked = p.0; room = omega (arith, contract-pairs _ p.0.loaded); notes = p.3; amounts_room = p.2 }, p.1, p.4)
