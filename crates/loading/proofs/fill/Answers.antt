@@ -4,9 +4,6 @@ use native.Mathlib.Omega.{arith}
 use Rattle.loading.proofs.LoadLaws.{loads}
 use Rattle.loading.proofs.fill.Goals as goal
 
-pub put_counts-requires : goal.put_counts-requires
-put_counts-requires c = c.requires
-
 pub put_columns-requires : goal.put_columns-requires
 put_columns-requires c =
     (c.requires.0, c.requires.1, omega (arith, c.put_counts.ensures.1.long))

@@ -28,21 +28,9 @@ pub overflow_cast-form : goal.overflow_cast-form
 overflow_cast-form c =
     omega (arith, c.type_inv.s (c.args.from + c.args.step * c.loop-i.i))
 
-pub overflow_add-form-in-loop-i : goal.overflow_add-form-in-loop-i
-overflow_add-form-in-loop-i c = omega (arith, c.requires.room)
-
-pub offset_bounds-form-to : goal.offset_bounds-form-to
-offset_bounds-form-to c = omega (arith, c.requires.room, c.loop-i.invariant.1.long)
-
-pub bounds-form-to : goal.bounds-form-to
-bounds-form-to c = omega (arith, c.requires.room, c.loop-i.invariant.1.long)
-
 pub loop-i-preserved : goal.loop-i-preserved
 loop-i-preserved c =
     (omega arith, filled_more c.args.form.now c.args.to c.loop-i.i _ _ c.loop-i.invariant.1 (omega (arith, c.requires.room)) refl)
-
-pub shape_of-form : goal.shape_of-form
-shape_of-form c = c.loop-i.invariant.1.long
 
 pub returns : goal.returns
 returns c =

@@ -19,9 +19,6 @@ loop-k-preserved c =
     let a = c.args in
     (omega arith, support-more a.s.now a.p c.loop-k.k c.loop-k.invariant.1 c.put_entry-next.ensures)
 
-pub shape_of-form : goal.shape_of-form
-shape_of-form c = c.loop-k.invariant.1.elsewhere.long
-
 pub returns : goal.returns
 returns c =
     let e : c.loop-k.k ≡ c.args.size = omega arith in

@@ -25,18 +25,9 @@ overflow_add-from c = omega (arith, there c)
 pub half_at-requires : goal.half_at-requires
 half_at-requires c = there c
 
-pub overflow_cast-form : goal.overflow_cast-form
-overflow_cast-form c = omega (arith, c.half_at.ensures.small)
-
-pub bounds-form-to : goal.bounds-form-to
-bounds-form-to c = omega (arith, c.loop-i.invariant.1.long)
-
 pub loop-i-preserved : goal.loop-i-preserved
 loop-i-preserved c =
     (omega arith, filled_more c.args.form.now c.args.to c.loop-i.i _ _ c.loop-i.invariant.1 (omega (arith, c.requires.room)) c.half_at.ensures.is)
-
-pub shape_of-form : goal.shape_of-form
-shape_of-form c = c.loop-i.invariant.1.long
 
 pub returns : goal.returns
 returns c =

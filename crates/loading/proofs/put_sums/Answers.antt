@@ -16,12 +16,6 @@ there c = c.requires.0.bytes c.loop-i.i c.loop-i-test.true
 pub loop-i-init : goal.loop-i-init
 loop-i-init c = (omega arith, sum-none _, omega arith, filled_none c.args.form.now c.args.to _)
 
-pub offset_bounds-form-to : goal.offset_bounds-form-to
-offset_bounds-form-to c = omega (arith, c.loop-i.invariant.3.long)
-
-pub bounds-form-to : goal.bounds-form-to
-bounds-form-to c = omega (arith, c.loop-i.invariant.3.long)
-
 pub overflow_mul-sum : goal.overflow_mul-sum
 overflow_mul-sum c = omega (arith, there c)
 
@@ -44,12 +38,6 @@ loop-i-preserved c = (
   omega (arith, c.type_inv.s (c.args.from + c.args.step * c.loop-i.i)),
   filled_more c.args.form.now c.args.to c.loop-i.i _ _ c.loop-i.invariant.3 (omega arith) c.loop-i.invariant.1,
 )
-
-pub offset_bounds-form-to-2 : goal.offset_bounds-form-to-2
-offset_bounds-form-to-2 c = omega (arith, c.loop-i.invariant.3.long)
-
-pub bounds-form-to-2 : goal.bounds-form-to-2
-bounds-form-to-2 c = omega (arith, c.loop-i.invariant.3.long)
 
 pub shape_of-form : goal.shape_of-form
 shape_of-form c = simp length-set c.loop-i.invariant.3.long

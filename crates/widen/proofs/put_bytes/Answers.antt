@@ -19,9 +19,6 @@ loop-i-preserved c =
     let lt = c.loop-i-test.true in
     storing_on lt (omega arith) (store (storing_next c.loop-i.invariant lt))
 
-pub shape_of-out : goal.shape_of-out
-shape_of-out c = c.loop-i.invariant.written.kept
-
 pub returns : goal.returns
 returns c =
     let s = c.args in

@@ -20,9 +20,6 @@ loop-i-preserved c =
     let lt = c.loop-i-test.true in
     storing_on lt (omega arith) (store (store (storing_next c.loop-i.invariant lt)))
 
-pub shape_of-out : goal.shape_of-out
-shape_of-out c = c.loop-i.invariant.written.kept
-
 pub returns : goal.returns
 unfolding wide_codes
 returns c = storing_end c.loop-i.invariant c.loop-i-test.false (omega arith) refl

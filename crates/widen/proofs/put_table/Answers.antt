@@ -31,15 +31,6 @@ module _ (s : List ℕ) (t : Layout) (out : List ℕ) where
   entries_put : {now : List ℕ} {at : ℕ} → Leaves (entries-left s t) now at → {r : ℕ} {part : List ℕ} → Filled (entries-part s t) r (part-from at now) part → Leaves [] (back at now part) (at + r)
   entries_put u w = lend (entries-part s t) _ u w.bytes _ _ w.count refl
 
-pub overflow_sub-states_at : goal.overflow_sub-states_at
-overflow_sub-states_at c = let p = parts-known narrow c.args.s.now c.args.t c.requires.0 c.requires.1 in omega arith
-
-pub overflow_sub-entries_at : goal.overflow_sub-entries_at
-overflow_sub-entries_at c = let p = parts-known narrow c.args.s.now c.args.t c.requires.0 c.requires.1 in omega arith
-
-pub overflow_add-t : goal.overflow_add-t
-overflow_add-t c = let p = parts-known narrow c.args.s.now c.args.t c.requires.0 c.requires.1 in omega arith
-
 pub put_codes-at-requires : goal.put_codes-at-requires
 put_codes-at-requires c =
     let p = parts-known narrow c.args.s.now c.args.t c.requires.0 c.requires.1 in

@@ -25,9 +25,6 @@ loop-i-preserved c =
     let third = placed {to = 3 * c.loop-i.i + 2} (omega arith) (store (store (storing_next c.loop-i.invariant lt))) in
     storing_on lt (omega arith) (store third)
 
-pub shape_of-out : goal.shape_of-out
-shape_of-out c = c.loop-i.invariant.written.kept
-
 pub returns : goal.returns
 unfolding wide_transitions
 returns c = storing_end c.loop-i.invariant c.loop-i-test.false (omega arith) refl
