@@ -2,7 +2,7 @@
 use mathlib.Core.Path.{refl, ◌∙◌}
 use native.Mathlib.Omega.{arith}
 use Rattle.set.specs.Words.{mask}
-use Rattle.set.proofs.Sets.{not_none, not_some}
+use Rattle.set.proofs.Sets.{is_none, is_some}
 use Rattle.rounds.proofs.Turning.{stands_first, bounded, refined, prepared-still}
 use Rattle.rounds.proofs.refine.Goals as goal
 
@@ -21,13 +21,13 @@ turn-last-requires c =
         prepared = prepared-still c.requires.prepared i.0 i.1 (omega arith) i.4 i.6;
         standing = i.5;
       },
-      not_some c.is_empty.ensures c.loop-ranks-test.true-raw,
+      is_some c.is_empty.ensures c.loop-ranks-test.true,
     )
 
 pub loop-ranks-smaller : goal.loop-ranks-smaller
 loop-ranks-smaller c =
     let l = c.loop-ranks in
-    omega (arith, bounded l.invariant.5 (not_some {m = mask l.last.fell} c.is_empty.ensures c.loop-ranks-test.true-raw), c.turn-last.ensures.0)
+    omega (arith, bounded l.invariant.5 (is_some {m = mask l.last.fell} c.is_empty.ensures c.loop-ranks-test.true), c.turn-last.ensures.0)
 
 pub loop-ranks-preserved : goal.loop-ranks-preserved
 loop-ranks-preserved c =
@@ -59,4 +59,4 @@ pub shape_of-amounts : goal.shape_of-amounts
 shape_of-amounts c = c.loop-ranks.invariant.4
 
 pub returns : goal.returns
-returns c = let i = c.loop-ranks.invariant in refined i.5 _ (not_none c.is_empty.ensures c.loop-ranks-test.false-raw) i.7
+returns c = let i = c.loop-ranks.invariant in refined i.5 _ (is_none c.is_empty.ensures c.loop-ranks-test.false) i.7
