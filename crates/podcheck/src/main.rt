@@ -1,14 +1,15 @@
 // Reads two tables from standard input, each after its length, and prints what the check finds for their start states.
 // Short inputs, few pairs and short trees have short buffers: most of the work of a small check would else be to clear the largest.
+#![tactic(auto)]
+
 ghost use Rattle.std.specs.Prelude.{◌≡◌, ◌*◌, ◌≤◌, length, take};
-ghost use Rattle.io.specs.Counts.{IsPrefixLen};
+ghost use Rattle.std.specs.Io.{ReadsAtMost};
 ghost use Rattle.printout.specs.Printed.{Counted};
 ghost use Rattle.simulation.specs.Limits.{few_pairs};
 ghost use Rattle.report.specs.Input.{most_input};
 
-use bytes;
-use libc::{STDIN_FILENO, STDOUT_FILENO};
 use simulation::{Table, Width};
+use std::io::{self, Read, Write};
 
 // Two tables of at most 65,535 bytes, each after two bytes of length.
 const INPUT: usize = 2 * (2 + 65_535);
@@ -26,62 +27,79 @@ const TABLE: usize = Width::WIDE * (1 + Table::CODES)
 const SHORT_INPUT: usize = 2 * (2 + TABLE) + 1;
 
 // Prints the answer and returns true, or nothing and false where it takes long buffers.
-fn print_short(input: &[u8], p: usize, q: usize) -> bool
+fn print_short(out: &mut impl Write, input: &[u8], p: usize, q: usize) -> io::Result<bool>
     requires { Counted input.now p q × (p * q ≤ few_pairs) }
 {
     let mut text = [0u8; report::SHORT_TEXT];
     let len = printout::answer_short(input, p, q, &mut text);
-    io::write_all(STDOUT_FILENO, &text[..len]);
-    len != 0
+    out.write_all(&text[..len])?;
+    Ok(len != 0)
 }
 
 // Prints the answer.
-fn print_long(input: &[u8], p: usize, q: usize)
+fn print_long(out: &mut impl Write, input: &[u8], p: usize, q: usize) -> io::Result<()>
     requires { Counted input.now p q }
 {
     let mut text = [0u8; report::TEXT];
     let len = printout::answer_long(input, p, q, &mut text);
-    io::write_all(STDOUT_FILENO, &text[..len]);
+    out.write_all(&text[..len])
 }
 
 // Prints the answer for an input that was read.
-fn run(input: &[u8]) {
+fn run(out: &mut impl Write, input: &[u8]) -> io::Result<()> {
     let p = pod::states_of(report::first_table(input));
     let q = pod::states_of(report::second_table(input));
     if p * q <= Table::FEW_PAIRS {
-        if print_short(input, p, q) {
-            return;
+        if print_short(out, input, p, q)? {
+            return Ok(());
         }
     }
-    print_long(input, p, q);
+    print_long(out, input, p, q)
+}
+
+// Reads until the buffer is full or the input ends. Returns how many bytes it put at the start of the buffer.
+fn read_full(reader: &mut impl Read, buf: &mut [u8]) -> io::Result<usize>
+    ensures { ReadsAtMost result buf.new }
+{
+    let mut done = 0;
+    while done < buf.len() {
+        let n = reader.read(&mut buf[done..])?;
+        if n == 0 {
+            break;
+        }
+        done += n;
+    }
+    Ok(done)
 }
 
 // Reads on: the start of the input, which was read, and what follows it. Returns the length of both.
-fn read_on(start: &[u8], input: &mut [u8]) -> usize
+fn read_on(start: &[u8], reader: &mut impl Read, input: &mut [u8]) -> io::Result<usize>
     requires { length start.now ≤ length input.old }
     ensures input_after { take (length start.now) input.new ≡ start.now }
-    ensures prefix_len { IsPrefixLen result input.new }
+    ensures prefix_len { ReadsAtMost result input.new }
 {
-    let k = bytes::copy(start, input);
-    let n = io::read_full(STDIN_FILENO, &mut input[k..]);
-    k + n
+    let k = start.len();
+    input[..k].copy_from_slice(start);
+    let n = read_full(reader, &mut input[k..])?;
+    Ok(k + n)
 }
 
 // The same for an input of which only the start was read.
-fn run_long(start: &[u8])
+fn run_long(reader: &mut impl Read, out: &mut impl Write, start: &[u8]) -> io::Result<()>
     requires { length start.now ≤ most_input }
 {
     let mut input = [0u8; INPUT];
-    let n = read_on(start, &mut input);
-    run(&input[..n]);
+    let n = read_on(start, reader, &mut input)?;
+    run(out, &input[..n])
 }
 
-fn main() {
+fn main(rt: HostRuntime) -> io::Result<()> {
+    let mut reader = rt.stdin();
+    let mut out = rt.stdout();
     let mut input = [0u8; SHORT_INPUT];
-    let n = io::read_full(STDIN_FILENO, &mut input);
+    let n = read_full(&mut reader, &mut input)?;
     if n < SHORT_INPUT {
-        run(&input[..n]);
-        return;
+        return run(&mut out, &input[..n]);
     }
-    run_long(&input);
+    run_long(&mut reader, &mut out, &input)
 }

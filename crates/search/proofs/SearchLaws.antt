@@ -366,8 +366,8 @@ pub unreached_most : (S : ℕ) → unreached S ≤ most_states
 unfolding unreached
 unreached_most S = members_most most_states (λ i. not (member S i))
 
-not_not : (b : Bool) → b ≡ true → T (not (not b))
-not_not b e = subst (λ c. T (not (not c))) (sym e) tt
+not-not : (b : Bool) → b ≡ true → T (not (not b))
+not-not b e = subst (λ c. T (not (not c))) (sym e) tt
 
 fewer_terms : (S S' : ℕ) → ((i : ℕ) → member S i ≡ true → member S' i ≡ true) → (i : ℕ) → i < most_states → when (not (member S' i)) 1 ≤ when (not (member S i)) 1
 fewer_terms S S' k i l = when_not (member S i) (member S' i) 1 (λ t. true_T (k i (is_true (member S i) t)))
@@ -379,7 +379,7 @@ fewer S S' k = sum_mono most_states (λ i. when (not (member S' i)) 1) (λ i. wh
 one_fewer : (S S' : ℕ) → ((i : ℕ) → member S i ≡ true → member S' i ≡ true) → (i : ℕ) → i < most_states → member S i ≡ false → member S' i ≡ true → unreached S' < unreached S
 unfolding unreached
 one_fewer S S' k i l m m' = sum_strict most_states (λ i. when (not (member S' i)) 1) (λ i. when (not (member S i)) 1) (fewer_terms S S' k) i l
-    (one_less (not (member S' i)) (not (member S i)) (not_not (member S' i) m') (false_T m))
+    (one_less (not (member S' i)) (not (member S i)) (not-not (member S' i) m') (false_T m))
 
 -- each level reaches a row more, or is the last
 pub unreached_falls : (S S' F' : ℕ) → F' < 2 ^ most_states → ((i : ℕ) → member S i ≡ true → member S' i ≡ true) → member F' ≡ except (member S') (member S) → unreached S' + min 1 F' ≤ unreached S

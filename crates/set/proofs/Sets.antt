@@ -344,12 +344,12 @@ un_not : (b : Bool) → not b ≡ false → b ≡ true
 un_not true e = refl
 un_not false e = absurd (true≢false e)
 
-un_not_not : (b : Bool) → not b ≡ true → b ≡ false
-un_not_not true e = absurd (true≢false (sym e))
-un_not_not false e = refl
+un_not-not : (b : Bool) → not b ≡ true → b ≡ false
+un_not-not true e = absurd (true≢false (sym e))
+un_not-not false e = refl
 
 pub not_none : {m : ℕ} {b : Bool} → b ≡ eqb m 0 → not b ≡ false → m ≡ 0
 not_none {m} {b} e f = is_none {m = m} {b = b} e (un_not b f)
 
 pub not_some : {m : ℕ} {b : Bool} → b ≡ eqb m 0 → not b ≡ true → m ≢ 0
-not_some {m} {b} e t = is_some {m = m} {b = b} e (un_not_not b t)
+not_some {m} {b} e t = is_some {m = m} {b = b} e (un_not-not b t)

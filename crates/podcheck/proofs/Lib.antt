@@ -1,3 +1,0 @@
--- Laws of bytes that are read.
--- Assumes nothing.
-pub mod Reading
