@@ -1,4 +1,4 @@
-//! Links the archive that `rt staticlib pod_c` writes.
+//! Links the archive that `rt lib pod_c` writes.
 
 use std::path::Path;
 
@@ -10,7 +10,7 @@ fn main() {
     let here = std::env::var("CARGO_MANIFEST_DIR").unwrap();
     let folder = std::env::var("POD_ARCHIVE")
         .map(Into::into)
-        .unwrap_or_else(|_| Path::new(&here).join("../target/staticlib"));
+        .unwrap_or_else(|_| Path::new(&here).join("../crates/pod_c/out"));
     println!(
         "cargo:rerun-if-changed={}",
         folder.join("libpod_c.a").display()

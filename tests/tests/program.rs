@@ -19,7 +19,7 @@ fn program() -> PathBuf {
     let here = PathBuf::from(env!("CARGO_MANIFEST_DIR"));
     match std::env::var_os("PODCHECK") {
         Some(path) => path.into(),
-        None => here.join("../target/bin/podcheck"),
+        None => here.join("../crates/podcheck/out/podcheck"),
     }
 }
 
