@@ -1,5 +1,7 @@
 // Relations between the states of two tables, a set of states to a row. Whether a pair is related is a number,
 // 1 or 0, so that no caller has to branch on it.
+#![tactic(auto)]
+
 pub mod ranks;
 pub mod rows;
 

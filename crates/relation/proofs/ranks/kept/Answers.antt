@@ -1,5 +1,4 @@
 -- `relation::ranks::kept` meets its contract. Assumes nothing.
-use borrow.Author.Rules.{rules}
 use Rattle.relation.proofs.Lasting.{kept_digit}
 use Rattle.relation.proofs.ranks.kept.Goals as goal
 

@@ -1,5 +1,4 @@
 -- `relation::ranks::lasts` meets its contract. Assumes nothing.
-use borrow.Author.Rules.{rules}
 use Rattle.relation.proofs.Lasting.{lasts_digit}
 use Rattle.relation.proofs.ranks.lasts.Goals as goal
 

@@ -3,7 +3,6 @@ use mathlib.Core.Path.{◌∙◌, ap}
 use native.Mathlib.Omega.{arith}
 use Rattle.simulation.specs.Sum.{when}
 use Rattle.relation.proofs.RowLaws.{row-bit}
-use borrow.Author.Rules.{rules}
 use Rattle.relation.proofs.rows.bit.Goals as goal
 
 pub returns : goal.returns

@@ -1,7 +1,7 @@
 -- `relation::rows::clear` meets its contract: the rows passed are empty. Assumes nothing.
 use mathlib.Core.Path.{sym, subst}
 use mathlib.Core.List.{List}
-use Prim.Native.Nat.{ℕ, ◌+◌, ◌-◌}
+use Prim.Native.Nat.{ℕ, ◌+◌}
 use native.Mathlib.Omega.{arith}
 use Rattle.relation.proofs.Clearing.{Clearing, clearing_start, clearing_next}
 use Rattle.relation.proofs.rows.clear.Goals as goal

@@ -1,13 +1,7 @@
 -- `relation::rows::count` meets its contract. The loop's invariant: the pairs of the rows passed are counted. Assumes nothing.
-use mathlib.Core.Path.{◌≡◌, sym, ◌∙◌, ap, ap₂}
-use Prim.Native.Nat.{ℕ, ◌≤◌, ◌-◌, ◌+◌}
-use native.Mathlib.Omega.{arith}
-use borrow.Author.Rules.{rules}
-use Rattle.simulation.specs.Limits.{most_states}
-use Rattle.simulation.specs.Sum.{sum}
-use Rattle.word.specs.Mask.{member, size}
+use mathlib.Core.Path.{◌≡◌}
+use Prim.Native.Nat.{◌≤◌, ◌-◌}
 use Rattle.relation.specs.Related.{holds, pairs_of}
-use Rattle.relation.proofs.Relations.{pairs_next, pairs-most}
 use Rattle.relation.proofs.rows.count.Given as goal
 
 abbrev pub invariant-loop-s : goal.invariant-loop-s

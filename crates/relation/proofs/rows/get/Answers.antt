@@ -1,6 +1,5 @@
 -- `relation::rows::get` meets its contract. Assumes nothing.
 use Rattle.relation.proofs.RowLaws.{row_get}
-use borrow.Author.Rules.{rules}
 use Rattle.relation.proofs.rows.get.Goals as goal
 
 pub returns : goal.returns

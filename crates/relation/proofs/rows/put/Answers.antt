@@ -6,7 +6,6 @@ use lib.ListN.{set, length-set}
 use Rattle.set.specs.Words.{words, word_of}
 use Rattle.relation.specs.Rows.{put_row}
 use Rattle.set.proofs.Words.{equation}
-use borrow.Author.Rules.{rules}
 use Rattle.relation.proofs.rows.put.Goals as goal
 
 pub bounds-rows-at-2 : goal.bounds-rows-at-2
