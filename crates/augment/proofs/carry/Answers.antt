@@ -4,8 +4,8 @@ use native.Mathlib.Nat.{zero-add}
 use native.Mathlib.Omega.{arith}
 use mir.Facts.{Fits-widen}
 use Rattle.simulation.specs.Limits.{most_states}
-use Rattle.search.specs.Links.{from, via}
-use Rattle.augment.proofs.StepLaws.{Carrying, carrying_start, carrying_column, carrying_next, carrying_end}
+use Rattle.search.specs.Links.{via}
+use Rattle.augment.proofs.StepLaws.{carrying_start, carrying_column, carrying_next, carrying_end}
 use Rattle.augment.proofs.carry.Goals as goal
 use Rattle.augment.proofs.carry.Goals.{In-loop-k}
 

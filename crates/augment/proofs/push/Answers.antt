@@ -1,6 +1,5 @@
 -- `augment::push` meets its contract: what is moved is what the path can carry. Assumes nothing.
 use Prim.Native.Nat.{◌<◌}
-use borrow.Author.Rules.{rules}
 use native.Mathlib.Omega.{arith}
 use lib.ListN.{length}
 use Rattle.word.specs.Mask.{member}

@@ -1,7 +1,4 @@
 -- `cut::short_rows` meets its contract: the rows passed are gathered. Assumes nothing.
-use Prim.Native.Nat.{◌≤◌, ◌-◌}
-use Rattle.set.specs.Words.{mask}
-use Rattle.cut.specs.Quick.{Lacking}
 use Rattle.cut.proofs.QuickLaws.{lacking_start, lacking_is}
 use native.Mathlib.Omega.{arith}
 use Rattle.cut.proofs.short_rows.Goals as goal

@@ -1,9 +1,7 @@
 -- `clear_row` meets its contract. Assumes nothing.
-use mathlib.Core.Path.{◌≡◌, refl}
-use Prim.Native.Nat.{◌≤◌, ◌-◌}
+use mathlib.Core.Path.{refl}
 use native.Mathlib.Omega.{arith}
-use lib.ListN.{length, length-set}
-use Rattle.greedy.specs.Start.{RowCleared}
+use lib.ListN.{length-set}
 use Rattle.greedy.proofs.StartLaws.{row-cleared-none, row-cleared-next, row-cleared-end}
 use Rattle.greedy.proofs.clear_row.Goals as goal
 

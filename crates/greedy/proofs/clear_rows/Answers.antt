@@ -1,9 +1,6 @@
 -- `clear_rows` meets its contract. Assumes nothing.
-use mathlib.Core.Path.{◌≡◌, refl, ◌∙◌}
-use Prim.Native.Nat.{◌≤◌, ◌-◌}
+use mathlib.Core.Path.{refl, ◌∙◌}
 use native.Mathlib.Omega.{arith}
-use lib.ListN.{length}
-use Rattle.greedy.specs.Start.{Cleared}
 use Rattle.greedy.proofs.StartLaws.{cleared-none, cleared-next, cleared-end}
 use Rattle.greedy.proofs.clear_rows.Goals as goal
 

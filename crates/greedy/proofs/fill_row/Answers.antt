@@ -1,12 +1,12 @@
 -- `fill_row` meets its contract: the flow, the set of the free columns and what is filled go on column by column. Assumes nothing.
 use mathlib.Core.Path.{◌≡◌, refl}
 use mathlib.Core.Bool.{not}
-use Prim.Native.Nat.{ℕ, ◌≤◌, ◌<◌, ◌-◌}
+use Prim.Native.Nat.{ℕ, ◌<◌}
 use native.Mathlib.Omega.{arith}
 use lib.Dec.{eqb}
 use lib.ListN.{length, get_or}
 use Rattle.word.specs.Mask.{member, without_member, both}
-use Rattle.set.specs.Words.{words, after, rest, mask}
+use Rattle.set.specs.Words.{after, rest, mask}
 use Rattle.set.proofs.Sets.{walk_begin, walk_into, walk_on, walk_done, both_of}
 use Rattle.matrix.specs.Flow.{Partial, partial, ImprovedIn}
 use Rattle.greedy.proofs.GreedyLaws.{stopped, going, UnderWay, under_way_none, under_way_next, under_way_end, cell-ready, cell-on}
@@ -45,8 +45,13 @@ next : (m : After-marked-still) → let a = m.args in
 next m F f left e =
     let s = m.fill_cell.auto in
     let g = m.loop-left.invariant F f in
-    let row : m.args.i < length F.supply = omega (arith, m.requires.1, ((let it : let a = m.args in
-    UnderWay a.i a.rel.now ((let a = m.args in partial a.amounts.now a.supply.now a.demand.now a.senders.now)) ((let u = m.loop-left in partial u.amounts u.supply u.demand u.senders)) (mask m.loop-left.still) (rest m.loop-w.w m.loop-left.left m.intersection-near.result) = m.loop-left.invariant _ m.loop-w.invariant.1 in it)).improves.same_a, g.improves.same_a) in
+    let row : m.args.i < length F.supply = omega (
+      arith,
+      m.requires.1,
+      ((let it : let a = m.args in
+          UnderWay a.i a.rel.now ((let a = m.args in partial a.amounts.now a.supply.now a.demand.now a.senders.now)) ((let u = m.loop-left in partial u.amounts u.supply u.demand u.senders)) (mask m.loop-left.still) (rest m.loop-w.w m.loop-left.left m.intersection-near.result) = m.loop-left.invariant _ m.loop-w.invariant.1 in it)).improves.same_a,
+      g.improves.same_a,
+    ) in
     under_way_next g row m.lowest-j.ensures.1 s.amounts s.supply s.demand s.senders m.fill_cell.ensures (mask m.marked-still.result) m.marked-still.ensures e
 
 pub get-requires : goal.get-requires

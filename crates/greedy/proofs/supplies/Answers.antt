@@ -1,9 +1,7 @@
 -- `supplies` meets its contract. Assumes nothing.
-use mathlib.Core.Path.{◌≡◌, refl}
-use Prim.Native.Nat.{◌≤◌, ◌-◌}
+use mathlib.Core.Path.{refl}
 use native.Mathlib.Omega.{arith}
-use lib.ListN.{length, length-set}
-use Rattle.greedy.specs.Start.{Supplies}
+use lib.ListN.{length-set}
 use Rattle.greedy.proofs.StartLaws.{supplies-none, supplies-next, supplies-is, supply-fits, weight_le}
 use Rattle.greedy.proofs.supplies.Goals as goal
 

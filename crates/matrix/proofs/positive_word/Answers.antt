@@ -1,9 +1,9 @@
 -- `positive_word` meets its contract: the word has the places passed. Assumes nothing.
-use mathlib.Core.Path.{◌≡◌, ap, ◌∙◌}
-use Prim.Native.Nat.{ℕ, ◌-◌, ◌≤◌}
-use lib.ListN.{length, get_or}
+use mathlib.Core.Path.{ap, ◌∙◌}
+use Prim.Native.Nat.{ℕ}
+use lib.ListN.{get_or}
 use Rattle.simulation.proofs.Finite.Sums.{one-most}
-use Rattle.word.specs.Mask.{member, part}
+use Rattle.word.specs.Mask.{part}
 use Rattle.word.proofs.Mask.{part-start, part-bit, flag_is}
 use Rattle.matrix.specs.Masks.{nonzero}
 use mir.Val.{bool_byte}

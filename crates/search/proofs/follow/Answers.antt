@@ -1,14 +1,9 @@
 -- `search::follow` meets its contract: the senders of the columns passed are reached. Assumes nothing.
-use mathlib.Core.Path.{◌≡◌, refl, ◌∙◌}
-use mathlib.Core.List.{List}
-use Prim.Native.Nat.{ℕ, ◌≤◌, ◌-◌}
-use lib.ListN.{length}
-use Rattle.set.specs.declared.Set.{Set}
+use mathlib.Core.Path.{refl, ◌∙◌}
 use Rattle.word.specs.Mask.{member}
-use Rattle.set.specs.Words.{words, after, rest, mask}
+use Rattle.set.specs.Words.{mask}
 use Rattle.set.proofs.Sets.{mask_lt, walk_begin, walk_into, walk_on, walk_done, except_of}
-use Rattle.search.specs.Links.{from, via}
-use Rattle.search.proofs.SearchLaws.{Following, following_none, following_next, following_end}
+use Rattle.search.proofs.SearchLaws.{following_none, following_next, following_end}
 use native.Mathlib.Omega.{arith}
 use Rattle.search.proofs.follow.Invariants.{Passed}
 use Rattle.search.proofs.follow.Goals as goal

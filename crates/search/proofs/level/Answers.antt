@@ -1,14 +1,9 @@
 -- `search::level` meets its contract: the rows passed have gone to all their columns. Assumes nothing.
-use mathlib.Core.Path.{◌≡◌, refl, ◌∙◌}
-use mathlib.Core.List.{List}
-use Prim.Native.Nat.{ℕ, ◌≤◌, ◌-◌}
-use lib.ListN.{length}
-use Rattle.set.specs.declared.Set.{Set}
+use mathlib.Core.Path.{refl, ◌∙◌}
 use Rattle.word.specs.Mask.{member}
-use Rattle.set.specs.Words.{words, after, rest, mask}
+use Rattle.set.specs.Words.{mask}
 use Rattle.set.proofs.Sets.{walk_begin, walk_into, walk_on, walk_done, except_of}
-use Rattle.search.specs.Links.{from, via}
-use Rattle.search.proofs.SearchLaws.{Levelling, levelling_none, levelling_next, levelling_end}
+use Rattle.search.proofs.SearchLaws.{levelling_none, levelling_next, levelling_end}
 use native.Mathlib.Omega.{arith}
 use Rattle.search.proofs.level.Invariants.{Passed}
 use Rattle.search.proofs.level.Goals as goal

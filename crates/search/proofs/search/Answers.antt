@@ -1,12 +1,10 @@
 -- `search::search` meets its contract: level by level, and each level but the last reaches a row more. Assumes nothing.
-use mathlib.Core.Path.{◌≡◌, refl, sym, ◌∙◌, subst}
-use Prim.Native.Nat.{ℕ, ◌+◌, ◌≤◌, min}
-use lib.ListN.{length}
-use Rattle.simulation.specs.Limits.{most_states}
+use mathlib.Core.Path.{refl, sym, ◌∙◌, subst}
+use Prim.Native.Nat.{ℕ}
 use Rattle.set.specs.Words.{mask}
 use Rattle.set.proofs.Sets.{mask_lt, not_none, not_some}
 use Rattle.search.specs.Links.{from, via}
-use Rattle.search.proofs.SearchLaws.{Frontier, frontier_none, frontier_next, frontier_found, frontier_end, frontier_rows, unreached, unreached_most, unreached_falls}
+use Rattle.search.proofs.SearchLaws.{Frontier, frontier_none, frontier_next, frontier_found, frontier_end, frontier_rows, unreached_most, unreached_falls}
 use native.Mathlib.Omega.{arith}
 use Rattle.search.proofs.search.Goals as goal
 

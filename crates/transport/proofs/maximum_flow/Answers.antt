@@ -3,14 +3,11 @@ use mathlib.Core.Path.{◌≡◌, sym, ap, ◌∙◌}
 use mathlib.Core.List.{List, ◌++◌}
 use Prim.Native.Nat.{ℕ, ◌≤◌}
 use native.Mathlib.Omega.{arith}
-use borrow.Author.Rules.{rules}
 use lib.ListN.{length, take, length-append}
 use lib.Seq.{length-take-le, take_at}
 use Rattle.set.specs.Words.{mask}
 use Rattle.set.proofs.Sets.{mask_lt}
 use Rattle.matrix.specs.Flow.{Partial, partial}
-use Rattle.transport.specs.Answer.{MaximumFlow}
-use Rattle.transport.specs.Paths.{Counts}
 use Rattle.transport.proofs.Lending.{GreedyFrom, begun_part, fill_ready, rows_left, columns-left, improve_ready, answers}
 use Rattle.transport.proofs.maximum_flow.Goals as goal
 use Rattle.transport.proofs.maximum_flow.Goals.{After-begin, After-fill-free, After-improve}
