@@ -10,12 +10,6 @@ loop-i-init c = (omega arith, refl, cleared-none _)
 pub clear_row-requires : goal.clear_row-requires
 clear_row-requires c = (omega arith, omega arith, omega arith)
 
-pub overflow_add-i : goal.overflow_add-i
-overflow_add-i c = omega arith
-
-pub loop-i-smaller : goal.loop-i-smaller
-loop-i-smaller c = omega arith
-
 pub loop-i-preserved : goal.loop-i-preserved
 loop-i-preserved c =
     let w = c.clear_row in

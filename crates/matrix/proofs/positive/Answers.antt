@@ -14,9 +14,6 @@ loop-w-init c = (omega arith, places_start nonzero c.args.numbers.now (search ru
 pub positive_word-requires : goal.positive_word-requires
 positive_word-requires c = simp (length-take, length-drop) (omega arith)
 
-pub loop-w-smaller : goal.loop-w-smaller
-loop-w-smaller c = omega arith
-
 pub loop-w-preserved : goal.loop-w-preserved
 loop-w-preserved c =
     let a = c.args.numbers.now in

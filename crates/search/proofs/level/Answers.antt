@@ -14,12 +14,6 @@ loop-w-init c =
     let b = a.covered in
     (omega arith, refl, walk_begin a.rows (Passed a.rel.now a.senders.now a.rows b.seen b.seen b.reached b.reached a.links.now a.links.now) (levelling_none c.requires.3))
 
-pub offset_bounds-rows-w : goal.offset_bounds-rows-w
-offset_bounds-rows-w c = omega arith
-
-pub bounds-rows-w : goal.bounds-rows-w
-bounds-rows-w c = omega arith
-
 pub loop-left-init : goal.loop-left-init
 loop-left-init c =
     let a = c.args in
@@ -32,14 +26,8 @@ pub get-requires : goal.get-requires
 get-requires c =
     c.requires.2 _ ((c.loop-left.invariant.1 _ _ c.args.links.now c.loop-w.invariant.2).part _ c.lowest-r.ensures.1.here)
 
-pub difference-columns-requires : goal.difference-columns-requires
-difference-columns-requires c = tt
-
 pub follow-all-requires : goal.follow-all-requires
 follow-all-requires c = (omega arith, omega arith, omega arith)
-
-pub union-gone-requires : goal.union-gone-requires
-union-gone-requires c = tt
 
 pub without_lowest-left-requires : goal.without_lowest-left-requires
 without_lowest-left-requires c = (omega arith, omega arith)
@@ -55,12 +43,6 @@ loop-left-preserved c =
       λ g s f h. levelling_next (mask c.difference-columns.result) (u.invariant.1 g s f h) l (c.without_lowest-left.ensures.0 _ l)
           (except_of c.get.ensures (member (mask u.gone)) c.difference-columns.ensures) c.follow-all.ensures c.union-gone.ensures,
     )
-
-pub overflow_step-w : goal.overflow_step-w
-overflow_step-w c = omega arith
-
-pub loop-w-smaller : goal.loop-w-smaller
-loop-w-smaller c = omega arith
 
 pub loop-w-preserved : goal.loop-w-preserved
 loop-w-preserved c =
