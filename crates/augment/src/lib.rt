@@ -1,4 +1,6 @@
 // A path that the search found: the most that it can carry, and a move along it.
+#![tactic(auto)]
+
 ghost use Rattle.std.specs.Prelude.{◌≡◌, ◌≤◌, length};
 ghost use Rattle.simulation.specs.Limits.{most_pairs, most_states};
 ghost use Rattle.word.specs.Mask.{member};

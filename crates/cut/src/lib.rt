@@ -1,4 +1,6 @@
 // The cut of two distributions, mostly without a flow: where the rows that lack a column have the same columns.
+#![tactic(auto)]
+
 ghost use Rattle.std.specs.Prelude.{◌≡◌, true, ℕ, ◌+◌, ◌≤◌, ◌<◌, length};
 ghost use Rattle.simulation.specs.Limits.{most_states, most_total};
 ghost use Rattle.simulation.specs.Fit.{Positive, total, weight_of};

@@ -1,4 +1,6 @@
 // What the flow starts from: what there is to send and to take, zeros, and the greedy flow over them.
+#![tactic(auto)]
+
 ghost use Rattle.std.specs.Prelude.{◌≡◌, ℕ, ◌+◌, ◌^◌, ◌≤◌, ◌<◌, length, get_or};
 ghost use Rattle.simulation.specs.Limits.{most_pairs, most_states, most_total};
 ghost use Rattle.simulation.specs.Fit.{total};

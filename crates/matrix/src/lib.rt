@@ -1,4 +1,6 @@
 // One cell of the matrix of amounts and the senders of its column: the rows that have an amount in it.
+#![tactic(auto)]
+
 ghost use Rattle.std.specs.Prelude.{◌≡◌, ◌+◌, ◌^◌, ◌≤◌, ◌<◌, min, length, get_or};
 ghost use Rattle.simulation.specs.Limits.{most_pairs, most_states};
 ghost use Rattle.word.specs.Mask.{member, part, word_bits};

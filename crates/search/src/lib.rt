@@ -1,4 +1,6 @@
 // The search for a path, level by level over sets, from the short rows to a row with a free column.
+#![tactic(auto)]
+
 ghost use Rattle.std.specs.Prelude.{◌≡◌, true, ℕ, ◌≤◌, ◌<◌};
 ghost use Rattle.simulation.specs.Limits.{most_states};
 ghost use Rattle.word.specs.Mask.{member};

@@ -1,4 +1,6 @@
 // Sets of numbers below Table::STATES as words: t is a member if bit t % 64 of word t / 64 is one.
+#![tactic(auto)]
+
 pub mod walk;
 
 ghost use Rattle.std.specs.Prelude.{◌≡◌, ℕ, ◌*◌, ◌<◌, ◌≤◌, min, eqb};

@@ -2,6 +2,8 @@
 // A position of the first is a row, a position of the second a column; the amount of row i and column j is at i * Table::STATES + j.
 // After a greedy start the flow grows along shortest paths, found level by level over sets. A row is short while it has
 // something left to send, a column free while it can take more.
+#![tactic(auto)]
+
 ghost use Rattle.std.specs.Prelude.{◌≡◌, ℕ, ◌^◌, ◌<◌, ◌*◌, length, get_or};
 ghost use Rattle.simulation.specs.Limits.{most_states};
 ghost use Rattle.set.specs.Words.{words, mask};

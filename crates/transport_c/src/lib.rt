@@ -1,4 +1,6 @@
 // The flow kernel for callers in C and Rust. A slice passes as a pointer and a length.
+#![tactic(auto)]
+
 ghost use Rattle.transport_c.specs.Flowed.{Accepts, FlowAnswered};
 
 use relation::rows;

@@ -1,4 +1,6 @@
 // Sets of numbers below 64 as a word: t is a member if bit t is one.
+#![tactic(auto)]
+
 ghost use Rattle.std.specs.Prelude.{◌≡◌, ℕ, ◌<◌, ◌≤◌};
 ghost use Rattle.word.specs.Mask.{member, «up_to», only, «with_member», «without_member», «with_bit», either, both, except, size, Lowest, bit, word_bits};
 

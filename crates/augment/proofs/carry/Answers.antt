@@ -2,10 +2,9 @@
 use Prim.Native.Nat.{◌<◌}
 use native.Mathlib.Nat.{zero-add}
 use native.Mathlib.Omega.{arith}
-use mir.Facts.{Fits-widen}
 use Rattle.simulation.specs.Limits.{most_states}
-use Rattle.search.specs.Links.{from, via}
-use Rattle.augment.proofs.StepLaws.{Carrying, carrying_start, carrying_column, carrying_next, carrying_end}
+use Rattle.search.specs.Links.{via}
+use Rattle.augment.proofs.StepLaws.{carrying_start, carrying_column, carrying_next, carrying_end}
 use Rattle.augment.proofs.carry.Goals as goal
 use Rattle.augment.proofs.carry.Goals.{In-loop-k}
 
@@ -15,18 +14,6 @@ column c = carrying_column c.loop-k.invariant (omega arith)
 pub loop-k-init : goal.loop-k-init
 loop-k-init c = carrying_start c.requires.2
 
-pub overflow_add-j : goal.overflow_add-j
-overflow_add-j c = omega arith
-
-pub bounds-links-i : goal.bounds-links-i
-bounds-links-i c = omega arith
-
-pub overflow_cast-j : goal.overflow_cast-j
-overflow_cast-j c = Fits-widen tt (c.shared_slice_known-in-loop-k-1.given _)
-
-pub overflow_mul-at : goal.overflow_mul-at
-overflow_mul-at c = omega arith
-
 pub overflow_add-at : goal.overflow_add-at
 overflow_add-at c = omega (arith, column (goal.at.overflow_add-at c).In-loop-k)
 
@@ -35,24 +22,6 @@ offset_bounds-amounts-at c = omega (arith, column (goal.at.offset_bounds-amounts
 
 pub bounds-amounts-at : goal.bounds-amounts-at
 bounds-amounts-at c = omega (arith, column (goal.at.bounds-amounts-at c).In-loop-k)
-
-pub smaller-amount-requires : goal.smaller-amount-requires
-smaller-amount-requires c = omega arith
-
-pub overflow_add-i : goal.overflow_add-i
-overflow_add-i c = omega arith
-
-pub bounds-links-i-in-loop-k : goal.bounds-links-i-in-loop-k
-bounds-links-i-in-loop-k c = omega arith
-
-pub overflow_cast-i : goal.overflow_cast-i
-overflow_cast-i c = Fits-widen tt (c.shared_slice_known-in-loop-k-3-1.given _)
-
-pub overflow_sub-k : goal.overflow_sub-k
-overflow_sub-k c = omega arith
-
-pub loop-k-smaller : goal.loop-k-smaller
-loop-k-smaller c = omega arith
 
 pub loop-k-preserved : goal.loop-k-preserved
 loop-k-preserved c = carrying_next c.loop-k.invariant (omega arith) (rw zero-add) c.smaller-amount.ensures

@@ -1,11 +1,6 @@
 -- `augment::carry` meets its contract: root and least amount of what is left of the path are those of the whole. Assumes nothing.
-use Prim.Native.Nat.{◌<◌}
-use native.Mathlib.Nat.{zero-add}
-use native.Mathlib.Omega.{arith}
-use mir.Facts.{Fits-widen}
-use Rattle.simulation.specs.Limits.{most_states}
 use Rattle.search.specs.Links.{from, via}
-use Rattle.augment.proofs.StepLaws.{Carrying, carrying_start, carrying_column, carrying_next, carrying_end}
+use Rattle.augment.proofs.StepLaws.{Carrying}
 use Rattle.augment.proofs.carry.Given as goal
 
 abbrev pub invariant-loop-k : goal.invariant-loop-k

@@ -1,21 +1,17 @@
 -- `augment::push` meets its contract: what is moved is what the path can carry. Assumes nothing.
 use Prim.Native.Nat.{◌<◌}
-use borrow.Author.Rules.{rules}
 use native.Mathlib.Omega.{arith}
 use lib.ListN.{length}
 use Rattle.word.specs.Mask.{member}
 use Rattle.set.specs.Words.{mask}
-use Rattle.matrix.specs.Flow.{Partial, partial}
+use Rattle.matrix.specs.Flow.{partial}
 use Rattle.search.specs.Links.{from, via}
 use Rattle.augment.proofs.PushLaws.{Column, Load, path_row, path_safe, path_root, path_some, path_column, path_load, load_movable, pushed}
 use Rattle.augment.proofs.push.Goals as goal
 use Rattle.augment.proofs.push.Goals.{After-carry-c, After-lowest-j, After-smaller-d, Start}
 
-abbrev flow : Start → Partial
-flow s = let a = s.args in partial a.amounts.now a.supply.now a.demand.now a.senders.now
-
 -- the column that was chosen
-column : (c : After-lowest-j) → Column c.args.rel.now ((let a = c.args in partial a.amounts.now a.supply.now a.demand.now a.senders.now)) (mask c.args.ends.free) c.args.path.row c.lowest-j.result
+column : (c : After-lowest-j) → Column c.args.rel.now (partial c.args.amounts.now c.args.supply.now c.args.demand.now c.args.senders.now) (mask c.args.ends.free) c.args.path.row c.lowest-j.result
 column c =
     let h = c.requires in
     path_column h.0 h.1 h.2 c.get.ensures c.intersection.ensures c.lowest-j.ensures.1
@@ -25,12 +21,11 @@ root-row c = let h = c.requires in path_root h.0 h.1 h.2 c.carry-c.ensures.0
 
 -- what is moved
 load : (c : After-smaller-d) → let a = c.args in
-    Load a.rel.now ((let a = c.args in partial a.amounts.now a.supply.now a.demand.now a.senders.now)) (mask a.ends.short) (mask a.ends.free) (from a.links.now) (via a.links.now)
+    Load a.rel.now (partial a.amounts.now a.supply.now a.demand.now a.senders.now) (mask a.ends.short) (mask a.ends.free) (from a.links.now) (via a.links.now)
     (member (mask a.path.reached)) a.path.row a.path.depth c.lowest-j.result c.carry-c.result.row c.smaller-d.result
 load c =
     let h = c.requires in
-    path_load h.0 h.1 h.2 ((let it : Column c.args.rel.now ((let a = c.args in partial a.amounts.now a.supply.now a.demand.now a.senders.now)) (mask c.args.ends.free) c.args.path.row c.lowest-j.result = let h = c.requires in
-    path_column h.0 h.1 h.2 c.get.ensures c.intersection.ensures c.lowest-j.ensures.1 in it)) c.carry-c.ensures.0 c.carry-c.ensures.1 c.smaller-d.ensures
+    path_load h.0 h.1 h.2 (path_column h.0 h.1 h.2 c.get.ensures c.intersection.ensures c.lowest-j.ensures.1) c.carry-c.ensures.0 c.carry-c.ensures.1 c.smaller-d.ensures
 
 pub get-requires : goal.get-requires
 get-requires c = let h = c.requires in omega (arith, path_row h.0 h.1 h.2)

@@ -1,24 +1,12 @@
 -- `augment::shift` meets its contract: a move along what is left of the path makes a move along the whole. Assumes nothing.
 use mathlib.Core.Path.{◌∙◌}
-use borrow.Author.Rules.{rules}
 use native.Mathlib.Nat.{zero-add}
 use native.Mathlib.Omega.{arith}
-use mir.Facts.{Fits-widen}
-use Rattle.search.specs.Links.{from, via}
-use Rattle.augment.proofs.StepLaws.{Shifting, shifting_start, shifting_via, shifting_held, shifting_room, shifting_next, shifting_last, shifting_end}
+use Rattle.augment.proofs.StepLaws.{shifting_start, shifting_via, shifting_held, shifting_room, shifting_next, shifting_last, shifting_end}
 use Rattle.augment.proofs.shift.Goals as goal
 
 pub loop-k-init : goal.loop-k-init
 loop-k-init c = let h = c.requires in shifting_start h.3 h.4
-
-pub overflow_add-e : goal.overflow_add-e
-overflow_add-e c = omega arith
-
-pub bounds-links-i : goal.bounds-links-i
-bounds-links-i c = omega arith
-
-pub overflow_cast-e : goal.overflow_cast-e
-overflow_cast-e c = Fits-widen tt (c.shared_slice_known-in-loop-k-1.given _)
 
 pub subtract-requires : goal.subtract-requires
 subtract-requires c =
@@ -29,21 +17,6 @@ pub add-requires : goal.add-requires
 add-requires c =
     let s = c.loop-k.invariant in
     (s.row, s.column, omega arith, omega arith, shifting_room s (omega arith) c.subtract.ensures.0)
-
-pub overflow_add-i : goal.overflow_add-i
-overflow_add-i c = omega arith
-
-pub bounds-links-i-in-loop-k : goal.bounds-links-i-in-loop-k
-bounds-links-i-in-loop-k c = omega arith
-
-pub overflow_cast-i : goal.overflow_cast-i
-overflow_cast-i c = Fits-widen tt (c.shared_slice_known-in-loop-k-2-1.given _)
-
-pub overflow_sub-k : goal.overflow_sub-k
-overflow_sub-k c = omega arith
-
-pub loop-k-smaller : goal.loop-k-smaller
-loop-k-smaller c = omega arith
 
 pub loop-k-preserved : goal.loop-k-preserved
 loop-k-preserved c =

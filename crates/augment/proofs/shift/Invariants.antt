@@ -1,11 +1,6 @@
 -- `augment::shift` meets its contract: a move along what is left of the path makes a move along the whole. Assumes nothing.
-use mathlib.Core.Path.{◌∙◌}
-use borrow.Author.Rules.{rules}
-use native.Mathlib.Nat.{zero-add}
-use native.Mathlib.Omega.{arith}
-use mir.Facts.{Fits-widen}
 use Rattle.search.specs.Links.{from, via}
-use Rattle.augment.proofs.StepLaws.{Shifting, shifting_start, shifting_via, shifting_held, shifting_room, shifting_next, shifting_last, shifting_end}
+use Rattle.augment.proofs.StepLaws.{Shifting}
 use Rattle.augment.proofs.shift.Given as goal
 
 abbrev pub invariant-loop-k : goal.invariant-loop-k

@@ -2,7 +2,6 @@
 use Rattle.word.specs.Mask.{member}
 use Rattle.set.specs.Words.{mask}
 use Rattle.cut.proofs.Weighing.{weights-small, heavier-rows, heavier-none}
-use borrow.Author.Rules.{rules}
 use Rattle.cut.proofs.by_weight.Goals as goal
 
 pub overflow_mul-weight_of : goal.overflow_mul-weight_of

@@ -3,7 +3,6 @@ use mathlib.Core.Path.{sym}
 use mathlib.Core.Bool.{true≢false}
 use Rattle.set.proofs.Sets.{is_none, not_none}
 use Rattle.cut.proofs.QuickLaws.{settled_none, settled_alike}
-use borrow.Author.Rules.{rules}
 use Rattle.cut.proofs.is_cut.Goals as goal
 
 pub returns-then-is_empty : goal.returns-then-is_empty

@@ -1,34 +1,13 @@
 -- `cut::short_rows` meets its contract: the rows passed are gathered. Assumes nothing.
-use Prim.Native.Nat.{◌≤◌, ◌-◌}
-use Rattle.set.specs.Words.{mask}
-use Rattle.cut.specs.Quick.{Lacking}
 use Rattle.cut.proofs.QuickLaws.{lacking_start, lacking_is}
 use native.Mathlib.Omega.{arith}
 use Rattle.cut.proofs.short_rows.Goals as goal
-
-pub below-all-requires : goal.below-all-requires
-below-all-requires c = omega arith
-
-pub empty-requires : goal.empty-requires
-empty-requires c = tt
-
-pub empty-requires-2 : goal.empty-requires-2
-empty-requires-2 c = tt
-
-pub empty-requires-3 : goal.empty-requires-3
-empty-requires-3 c = tt
 
 pub loop-i-init : goal.loop-i-init
 loop-i-init c = (omega arith, lacking_start _ _ c.empty.ensures c.empty-2.ensures c.empty-3.ensures)
 
 pub with_row-s-requires : goal.with_row-s-requires
 with_row-s-requires c = (omega arith, omega arith, c.below-all.ensures, c.loop-i.invariant.1)
-
-pub overflow_step-i : goal.overflow_step-i
-overflow_step-i c = omega arith
-
-pub loop-i-smaller : goal.loop-i-smaller
-loop-i-smaller c = omega arith
 
 pub loop-i-preserved : goal.loop-i-preserved
 loop-i-preserved c = (omega arith, c.with_row-s.ensures)

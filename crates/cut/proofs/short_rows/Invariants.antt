@@ -2,8 +2,6 @@
 use Prim.Native.Nat.{◌≤◌, ◌-◌}
 use Rattle.set.specs.Words.{mask}
 use Rattle.cut.specs.Quick.{Lacking}
-use Rattle.cut.proofs.QuickLaws.{lacking_start, lacking_is}
-use native.Mathlib.Omega.{arith}
 use Rattle.cut.proofs.short_rows.Given as goal
 
 abbrev pub invariant-loop-i : goal.invariant-loop-i

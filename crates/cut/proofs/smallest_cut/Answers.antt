@@ -1,5 +1,4 @@
 -- `cut::smallest_cut` meets its contract. Assumes nothing.
-use borrow.Author.Rules.{rules}
 use Rattle.set.proofs.Sets.{mask_lt, is_none}
 use Rattle.cut.proofs.QuickLaws.{cut_settled, cut-heavier}
 use Rattle.cut.proofs.smallest_cut.Goals as goal

@@ -1,8 +1,8 @@
 -- `cut::weight_of` meets its contract: the members passed are weighed. Assumes nothing.
 use mathlib.Core.Path.{refl}
-use Prim.Native.Nat.{ℕ, ◌≤◌, ◌-◌}
+use Prim.Native.Nat.{ℕ}
 use native.Mathlib.Omega.{arith}
-use Rattle.set.specs.Words.{words, mask, after, rest}
+use Rattle.set.specs.Words.{mask}
 use Rattle.set.proofs.Sets.{walk_begin, walk_into, walk_on, walk_done}
 use Rattle.cut.proofs.Weighing.{Weighed, weighed_none, weighed_place, weighed_small, weighed_next, weighed_all}
 use Rattle.cut.proofs.weight_of.Goals as goal
@@ -14,12 +14,6 @@ Left c sum left = Weighed c.args.weights.now (mask c.args.named) sum left
 
 pub loop-k-init : goal.loop-k-init
 loop-k-init c = (omega arith, walk_begin c.args.named (Left (goal.at.loop-k-init c).Start 0) (weighed_none c.requires.1))
-
-pub offset_bounds-named-k : goal.offset_bounds-named-k
-offset_bounds-named-k c = omega arith
-
-pub bounds-named-k : goal.bounds-named-k
-bounds-named-k c = omega arith
 
 pub loop-left-init : goal.loop-left-init
 loop-left-init c =
@@ -34,12 +28,9 @@ offset_bounds-weights-i c = omega (arith, c.lowest-i.ensures.0)
 pub bounds-weights-i : goal.bounds-weights-i
 bounds-weights-i c = weighed_place c.loop-left.invariant c.lowest-i.ensures.1
 
-pub overflow_cast-sum : goal.overflow_cast-sum
-overflow_cast-sum c = omega (arith, c.shared_slice_known-in-loop-left-1.given c.lowest-i.result)
-
 pub overflow_add-sum : goal.overflow_add-sum
 overflow_add-sum c =
-    record { fits = weighed_small c.loop-left.invariant c.lowest-i.ensures.1 c.requires.0 (λ i. omega (arith, c.shared_slice_known-in-loop-left-1.given i)) refl }
+    record { fits = weighed_small c.loop-left.invariant c.lowest-i.ensures.1 c.requires.0 (λ i. omega (arith, c.type_inv.weights i)) refl }
 
 pub without_lowest-left-requires : goal.without_lowest-left-requires
 without_lowest-left-requires c = (omega (arith, c.loop-k-test.true), omega (arith, c.loop-left-test.true))
@@ -49,12 +40,6 @@ loop-left-smaller c = c.without_lowest-left.ensures.1
 
 pub loop-left-preserved : goal.loop-left-preserved
 loop-left-preserved c = let low = c.lowest-i.ensures.1 in weighed_next c.loop-left.invariant low (c.without_lowest-left.ensures.0 _ low) refl
-
-pub overflow_step-k : goal.overflow_step-k
-overflow_step-k c = omega arith
-
-pub loop-k-smaller : goal.loop-k-smaller
-loop-k-smaller c = omega arith
 
 pub loop-k-preserved : goal.loop-k-preserved
 loop-k-preserved c =

@@ -1,10 +1,7 @@
 -- `cut::weight_of` meets its contract: the members passed are weighed. Assumes nothing.
-use mathlib.Core.Path.{refl}
-use Prim.Native.Nat.{ℕ, ◌≤◌, ◌-◌}
-use native.Mathlib.Omega.{arith}
+use Prim.Native.Nat.{◌≤◌, ◌-◌}
 use Rattle.set.specs.Words.{words, mask, after, rest}
-use Rattle.set.proofs.Sets.{walk_begin, walk_into, walk_on, walk_done}
-use Rattle.cut.proofs.Weighing.{Weighed, weighed_none, weighed_place, weighed_small, weighed_next, weighed_all}
+use Rattle.cut.proofs.Weighing.{Weighed}
 use Rattle.cut.proofs.weight_of.Given as goal
 
 abbrev pub invariant-loop-left : goal.invariant-loop-left

@@ -3,7 +3,6 @@ use Rattle.word.specs.Mask.{member}
 use Rattle.set.specs.Words.{mask}
 use Rattle.set.proofs.Sets.{mask_lt, both_by, except_by, is_none, is_some}
 use Rattle.cut.proofs.QuickLaws.{lacking_skip, lacking_next}
-use borrow.Author.Rules.{rules}
 use Rattle.cut.proofs.with_row.Goals as goal
 
 pub returns-then-is_empty : goal.returns-then-is_empty

@@ -1,7 +1,6 @@
 -- `begin` meets its contract. Assumes nothing.
 use mathlib.Core.Path.{refl}
 use Rattle.greedy.proofs.StartLaws.{supplies-is}
-use borrow.Author.Rules.{rules}
 use Rattle.greedy.proofs.begin.Goals as goal
 
 pub returns : goal.returns

@@ -1,10 +1,8 @@
 -- `clear_row` meets its contract. Assumes nothing.
-use mathlib.Core.Path.{◌≡◌, refl}
+use mathlib.Core.Path.{◌≡◌}
 use Prim.Native.Nat.{◌≤◌, ◌-◌}
-use native.Mathlib.Omega.{arith}
-use lib.ListN.{length, length-set}
+use lib.ListN.{length}
 use Rattle.greedy.specs.Start.{RowCleared}
-use Rattle.greedy.proofs.StartLaws.{row-cleared-none, row-cleared-next, row-cleared-end}
 use Rattle.greedy.proofs.clear_row.Given as goal
 
 abbrev pub invariant-loop-j : goal.invariant-loop-j

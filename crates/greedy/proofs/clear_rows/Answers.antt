@@ -1,9 +1,6 @@
 -- `clear_rows` meets its contract. Assumes nothing.
-use mathlib.Core.Path.{◌≡◌, refl, ◌∙◌}
-use Prim.Native.Nat.{◌≤◌, ◌-◌}
+use mathlib.Core.Path.{refl, ◌∙◌}
 use native.Mathlib.Omega.{arith}
-use lib.ListN.{length}
-use Rattle.greedy.specs.Start.{Cleared}
 use Rattle.greedy.proofs.StartLaws.{cleared-none, cleared-next, cleared-end}
 use Rattle.greedy.proofs.clear_rows.Goals as goal
 
@@ -12,12 +9,6 @@ loop-i-init c = (omega arith, refl, cleared-none _)
 
 pub clear_row-requires : goal.clear_row-requires
 clear_row-requires c = (omega arith, omega arith, omega arith)
-
-pub overflow_add-i : goal.overflow_add-i
-overflow_add-i c = omega arith
-
-pub loop-i-smaller : goal.loop-i-smaller
-loop-i-smaller c = omega arith
 
 pub loop-i-preserved : goal.loop-i-preserved
 loop-i-preserved c =

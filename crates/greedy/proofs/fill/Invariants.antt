@@ -1,11 +1,9 @@
 -- `fill` meets its contract: the flow and the set of the free columns go on row by row. Assumes nothing.
-use mathlib.Core.Path.{refl}
 use Prim.Native.Nat.{◌≤◌, ◌-◌}
-use native.Mathlib.Omega.{arith}
 use lib.ListN.{length}
 use Rattle.set.specs.Words.{mask}
 use Rattle.matrix.specs.Flow.{partial}
-use Rattle.greedy.proofs.GreedyLaws.{RowsFilled, rows_none, row-ready, rows_next, greedy-is}
+use Rattle.greedy.proofs.GreedyLaws.{RowsFilled}
 use Rattle.greedy.proofs.fill.Given as goal
 
 abbrev pub invariant-loop-i : goal.invariant-loop-i

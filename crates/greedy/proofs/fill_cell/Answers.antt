@@ -1,6 +1,5 @@
 -- `fill_cell` meets its contract. Assumes nothing.
 use Rattle.greedy.proofs.GreedyLaws.{cell-filled}
-use borrow.Author.Rules.{rules}
 use Rattle.greedy.proofs.fill_cell.Goals as goal
 
 pub returns : goal.returns

@@ -1,28 +1,25 @@
 -- `fill_row` meets its contract: the flow, the set of the free columns and what is filled go on column by column. Assumes nothing.
 use mathlib.Core.Path.{◌≡◌, refl}
 use mathlib.Core.Bool.{not}
-use Prim.Native.Nat.{ℕ, ◌≤◌, ◌<◌, ◌-◌}
+use Prim.Native.Nat.{ℕ, ◌<◌}
 use native.Mathlib.Omega.{arith}
 use lib.Dec.{eqb}
 use lib.ListN.{length, get_or}
 use Rattle.word.specs.Mask.{member, without_member, both}
-use Rattle.set.specs.Words.{words, after, rest, mask}
+use Rattle.set.specs.Words.{after, rest, mask}
 use Rattle.set.proofs.Sets.{walk_begin, walk_into, walk_on, walk_done, both_of}
 use Rattle.matrix.specs.Flow.{Partial, partial, ImprovedIn}
 use Rattle.greedy.proofs.GreedyLaws.{stopped, going, UnderWay, under_way_none, under_way_next, under_way_end, cell-ready, cell-on}
 use Rattle.greedy.proofs.fill_row.Goals as goal
 use Rattle.greedy.proofs.fill_row.Goals.{After-fill_cell, After-marked-still, At-loop-left, At-loop-w}
 
--- the flow as the function is called, and before a turn
-abbrev called : At-loop-w → Partial
-called o = let a = o.args in partial a.amounts.now a.supply.now a.demand.now a.senders.now
-
+-- the flow before a turn
 abbrev turning : At-loop-left → Partial
 turning l = let u = l.loop-left in partial u.amounts u.supply u.demand u.senders
 
 -- what is known within a turn
 on : (l : At-loop-left) → let a = l.args in
-    UnderWay a.i a.rel.now ((let a = l.args in partial a.amounts.now a.supply.now a.demand.now a.senders.now)) (turning l) (mask l.loop-left.still) (rest l.loop-w.w l.loop-left.left l.intersection-near.result)
+    UnderWay a.i a.rel.now (partial a.amounts.now a.supply.now a.demand.now a.senders.now) (turning l) (mask l.loop-left.still) (rest l.loop-w.w l.loop-left.left l.intersection-near.result)
 on l = l.loop-left.invariant _ l.loop-w.invariant.1
 
 -- the flow after a turn
@@ -30,41 +27,35 @@ abbrev turned : After-fill_cell → Partial
 turned k = let r = k.fill_cell.new in partial r.amounts r.supply r.demand r.senders
 
 -- the cell is filled: the flow is one of the same supplies and demands
-sent : (k : After-fill_cell) → ImprovedIn k.args.rel.now ((let a = k.args in partial a.amounts.now a.supply.now a.demand.now a.senders.now)) (turned k)
+sent : (k : After-fill_cell) → ImprovedIn k.args.rel.now (partial k.args.amounts.now k.args.supply.now k.args.demand.now k.args.senders.now) (turned k)
 sent k =
     let s = k.fill_cell.auto in
-    cell-on ((let it : let a = k.args in
-    UnderWay a.i a.rel.now ((let a = k.args in partial a.amounts.now a.supply.now a.demand.now a.senders.now)) ((let u = k.loop-left in partial u.amounts u.supply u.demand u.senders)) (mask k.loop-left.still) (rest k.loop-w.w k.loop-left.left k.intersection-near.result) = k.loop-left.invariant _ k.loop-w.invariant.1 in it)) k.requires.1 k.lowest-j.ensures.1 s.amounts s.supply s.demand s.senders k.fill_cell.ensures
+    cell-on (k.loop-left.invariant _ k.loop-w.invariant.1) k.requires.1 k.lowest-j.ensures.1 s.amounts s.supply s.demand s.senders k.fill_cell.ensures
 
 -- the turn from any flow that the row may have begun with
 next : (m : After-marked-still) → let a = m.args in
     let X = member (rest m.loop-w.w m.loop-left.left m.intersection-near.result) in
     (F : Partial) → UnderWay a.i a.rel.now F (partial m.loop-w.amounts m.loop-w.supply m.loop-w.demand m.loop-w.senders) (mask m.loop-w.still) (after m.loop-w.w m.intersection-near.result)
-    → (left : ℕ) → member left ≡ both (λ j. not (eqb (get_or ((let r = m.fill_cell.new in partial r.amounts r.supply r.demand r.senders)).supply a.i 0) 0)) (without_member m.lowest-j.result X)
-    → UnderWay a.i a.rel.now F ((let r = m.fill_cell.new in partial r.amounts r.supply r.demand r.senders)) (mask m.marked-still.result) left
+    → (left : ℕ) → member left ≡ both (λ j. not (eqb (get_or (partial m.fill_cell.new.amounts m.fill_cell.new.supply m.fill_cell.new.demand m.fill_cell.new.senders).supply a.i 0) 0)) (without_member m.lowest-j.result X)
+    → UnderWay a.i a.rel.now F (partial m.fill_cell.new.amounts m.fill_cell.new.supply m.fill_cell.new.demand m.fill_cell.new.senders) (mask m.marked-still.result) left
 next m F f left e =
     let s = m.fill_cell.auto in
     let g = m.loop-left.invariant F f in
-    let row : m.args.i < length F.supply = omega (arith, m.requires.1, ((let it : let a = m.args in
-    UnderWay a.i a.rel.now ((let a = m.args in partial a.amounts.now a.supply.now a.demand.now a.senders.now)) ((let u = m.loop-left in partial u.amounts u.supply u.demand u.senders)) (mask m.loop-left.still) (rest m.loop-w.w m.loop-left.left m.intersection-near.result) = m.loop-left.invariant _ m.loop-w.invariant.1 in it)).improves.same_a, g.improves.same_a) in
+    let row : m.args.i < length F.supply = omega (
+      arith,
+      m.requires.1,
+      (m.loop-left.invariant _ m.loop-w.invariant.1).improves.same_a,
+      g.improves.same_a,
+    ) in
     under_way_next g row m.lowest-j.ensures.1 s.amounts s.supply s.demand s.senders m.fill_cell.ensures (mask m.marked-still.result) m.marked-still.ensures e
 
 pub get-requires : goal.get-requires
 get-requires c = let h = c.requires in omega (arith, h.1, h.0.sized.masks)
 
-pub intersection-near-requires : goal.intersection-near-requires
-intersection-near-requires c = tt
-
 pub loop-w-init : goal.loop-w-init
 loop-w-init c =
     let h = c.requires in
     (omega arith, walk_begin c.intersection-near.result (UnderWay _ _ _ _ _) (under_way_none h.0 h.2 h.3 (both_of c.get.ensures (member (mask c.args.free)) c.intersection-near.ensures)))
-
-pub offset_bounds-near-w : goal.offset_bounds-near-w
-offset_bounds-near-w c = omega arith
-
-pub bounds-near-w : goal.bounds-near-w
-bounds-near-w c = omega arith
 
 pub loop-left-init : goal.loop-left-init
 loop-left-init c = λ F. walk_into c.intersection-near.result (UnderWay _ _ F _ _) c.loop-w.w
@@ -114,12 +105,6 @@ loop-left-smaller c = c.without_lowest-left.ensures.1
 
 pub loop-left-preserved : goal.loop-left-preserved
 loop-left-preserved c = λ F f. next (goal.at.loop-left-preserved c).After-marked-still F f _ (going _ c.if-supply-i-eq0.false (c.without_lowest-left.ensures.0 _ c.lowest-j.ensures.1))
-
-pub overflow_step-w : goal.overflow_step-w
-overflow_step-w c = omega arith
-
-pub loop-w-smaller : goal.loop-w-smaller
-loop-w-smaller c = omega arith
 
 pub loop-w-preserved : goal.loop-w-preserved
 loop-w-preserved c =

@@ -1,15 +1,8 @@
 -- `fill_row` meets its contract: the flow, the set of the free columns and what is filled go on column by column. Assumes nothing.
-use mathlib.Core.Path.{◌≡◌, refl}
-use mathlib.Core.Bool.{not}
-use Prim.Native.Nat.{ℕ, ◌≤◌, ◌<◌, ◌-◌}
-use native.Mathlib.Omega.{arith}
-use lib.Dec.{eqb}
-use lib.ListN.{length, get_or}
-use Rattle.word.specs.Mask.{member, without_member, both}
+use Prim.Native.Nat.{◌≤◌, ◌-◌}
 use Rattle.set.specs.Words.{words, after, rest, mask}
-use Rattle.set.proofs.Sets.{walk_begin, walk_into, walk_on, walk_done, both_of}
-use Rattle.matrix.specs.Flow.{Partial, partial, ImprovedIn}
-use Rattle.greedy.proofs.GreedyLaws.{stopped, going, UnderWay, under_way_none, under_way_next, under_way_end, cell-ready, cell-on}
+use Rattle.matrix.specs.Flow.{Partial, partial}
+use Rattle.greedy.proofs.GreedyLaws.{UnderWay}
 use Rattle.greedy.proofs.fill_row.Given as goal
 
 abbrev pub invariant-loop-left : goal.invariant-loop-left

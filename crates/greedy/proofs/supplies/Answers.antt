@@ -1,39 +1,19 @@
 -- `supplies` meets its contract. Assumes nothing.
-use mathlib.Core.Path.{◌≡◌, refl}
-use Prim.Native.Nat.{◌≤◌, ◌-◌}
+use mathlib.Core.Path.{refl}
 use native.Mathlib.Omega.{arith}
-use lib.ListN.{length, length-set}
-use Rattle.greedy.specs.Start.{Supplies}
+use lib.ListN.{length-set}
 use Rattle.greedy.proofs.StartLaws.{supplies-none, supplies-next, supplies-is, supply-fits, weight_le}
 use Rattle.greedy.proofs.supplies.Goals as goal
 
 pub loop-i-init : goal.loop-i-init
 loop-i-init c = (omega arith, refl, supplies-none)
 
-pub offset_bounds-weights-i : goal.offset_bounds-weights-i
-offset_bounds-weights-i c = omega arith
-
-pub bounds-weights-i : goal.bounds-weights-i
-bounds-weights-i c = omega arith
-
 pub overflow_cast-supply : goal.overflow_cast-supply
-overflow_cast-supply c = omega (arith, c.shared_slice_known-1.given c.loop-i.i)
+overflow_cast-supply c = omega (arith, c.type_inv.weights c.loop-i.i)
 
 pub overflow_mul-supply : goal.overflow_mul-supply
 overflow_mul-supply c =
     record { fits = supply-fits _ _ (omega (arith, c.requires.2, weight_le c.args.weights.now c.loop-i.i c.loop-i-test.true)) c.requires.1 }
-
-pub offset_bounds-supply-i : goal.offset_bounds-supply-i
-offset_bounds-supply-i c = omega arith
-
-pub bounds-supply-i : goal.bounds-supply-i
-bounds-supply-i c = omega arith
-
-pub overflow_add-i : goal.overflow_add-i
-overflow_add-i c = omega arith
-
-pub loop-i-smaller : goal.loop-i-smaller
-loop-i-smaller c = omega arith
 
 pub loop-i-preserved : goal.loop-i-preserved
 loop-i-preserved c = let v = c.loop-i.invariant in (omega arith, simp length-set v.1, supplies-next (omega arith) refl v.2)

@@ -1,10 +1,8 @@
 -- `supplies` meets its contract. Assumes nothing.
-use mathlib.Core.Path.{◌≡◌, refl}
+use mathlib.Core.Path.{◌≡◌}
 use Prim.Native.Nat.{◌≤◌, ◌-◌}
-use native.Mathlib.Omega.{arith}
-use lib.ListN.{length, length-set}
+use lib.ListN.{length}
 use Rattle.greedy.specs.Start.{Supplies}
-use Rattle.greedy.proofs.StartLaws.{supplies-none, supplies-next, supplies-is, supply-fits, weight_le}
 use Rattle.greedy.proofs.supplies.Given as goal
 
 abbrev pub invariant-loop-i : goal.invariant-loop-i

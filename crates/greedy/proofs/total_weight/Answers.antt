@@ -1,9 +1,8 @@
 -- `total_weight` meets its contract: a weight has 16 bits, so that most-states of them fit. Assumes nothing.
 use mathlib.Core.Path.{◌≡◌, refl, ap, ◌∙◌}
-use Prim.Native.Nat.{ℕ, ◌*◌, ◌≤◌, ◌-◌}
+use Prim.Native.Nat.{ℕ}
 use native.Mathlib.Omega.{arith}
 use lib.ListN.{length}
-use Rattle.simulation.specs.Limits.{most_total}
 use Rattle.simulation.specs.Sum.{sum}
 use Rattle.simulation.specs.Fit.{weight, total}
 use Rattle.simulation.proofs.Finite.Sums.{sum-none}
@@ -13,28 +12,16 @@ use Rattle.greedy.proofs.total_weight.Goals as goal
 pub loop-i-init : goal.loop-i-init
 loop-i-init c = (omega arith, sum-none (weight c.args.weights.now), omega arith)
 
-pub offset_bounds-weights-i : goal.offset_bounds-weights-i
-offset_bounds-weights-i c = omega arith
-
-pub bounds-weights-i : goal.bounds-weights-i
-bounds-weights-i c = omega arith
-
 pub overflow_cast-sum : goal.overflow_cast-sum
-overflow_cast-sum c = omega (arith, c.shared_slice_known-1.given c.loop-i.i)
+overflow_cast-sum c = omega (arith, c.type_inv.weights c.loop-i.i)
 
 pub overflow_add-sum : goal.overflow_add-sum
-overflow_add-sum c = let l = c.loop-i in omega (arith, l.invariant.2, c.shared_slice_known-1.given l.i)
-
-pub overflow_add-i : goal.overflow_add-i
-overflow_add-i c = omega arith
-
-pub loop-i-smaller : goal.loop-i-smaller
-loop-i-smaller c = omega arith
+overflow_add-sum c = let l = c.loop-i in omega (arith, l.invariant.2, c.type_inv.weights l.i)
 
 pub loop-i-preserved : goal.loop-i-preserved
 loop-i-preserved c =
     let l = c.loop-i in
-    (omega arith, running l.i (weight c.args.weights.now) l.invariant.1 refl, omega (arith, l.invariant.2, c.shared_slice_known-1.given l.i))
+    (omega arith, running l.i (weight c.args.weights.now) l.invariant.1 refl, omega (arith, l.invariant.2, c.type_inv.weights l.i))
 
 pub returns : goal.returns
 unfolding total

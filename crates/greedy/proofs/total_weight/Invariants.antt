@@ -1,13 +1,10 @@
 -- `total_weight` meets its contract: a weight has 16 bits, so that most-states of them fit. Assumes nothing.
-use mathlib.Core.Path.{◌≡◌, refl, ap, ◌∙◌}
-use Prim.Native.Nat.{ℕ, ◌*◌, ◌≤◌, ◌-◌}
-use native.Mathlib.Omega.{arith}
+use mathlib.Core.Path.{◌≡◌}
+use Prim.Native.Nat.{◌*◌, ◌≤◌, ◌-◌}
 use lib.ListN.{length}
 use Rattle.simulation.specs.Limits.{most_total}
 use Rattle.simulation.specs.Sum.{sum}
-use Rattle.simulation.specs.Fit.{weight, total}
-use Rattle.simulation.proofs.Finite.Sums.{sum-none}
-use Rattle.matrix.proofs.MatrixLaws.{running}
+use Rattle.simulation.specs.Fit.{weight}
 use Rattle.greedy.proofs.total_weight.Given as goal
 
 abbrev pub invariant-loop-i : goal.invariant-loop-i

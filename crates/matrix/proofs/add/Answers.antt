@@ -1,6 +1,5 @@
 -- `add` meets its contract. Assumes nothing.
 use Rattle.matrix.proofs.MatrixLaws.{put_adds}
-use borrow.Author.Rules.{rules}
 use native.Mathlib.Omega.{arith}
 use Rattle.matrix.proofs.add.Goals as goal
 

@@ -1,6 +1,5 @@
 -- `deduct` meets its contract. Assumes nothing.
 use Rattle.matrix.proofs.MatrixLaws.{set_takes_at}
-use borrow.Author.Rules.{rules}
 use native.Mathlib.Omega.{arith}
 use Rattle.matrix.proofs.deduct.Goals as goal
 

@@ -2,7 +2,6 @@
 use Rattle.word.specs.Mask.{member}
 use Rattle.set.specs.Words.{mask}
 use Rattle.matrix.proofs.MaskedLaws.{put_none, put_some}
-use borrow.Author.Rules.{rules}
 use Rattle.matrix.proofs.marked.Goals as goal
 
 pub returns-then-v-eq0 : goal.returns-then-v-eq0

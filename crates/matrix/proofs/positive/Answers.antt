@@ -1,10 +1,8 @@
 -- `positive` meets its contract: the words passed are filled. Assumes nothing.
 use mathlib.Core.Path.{◌∙◌}
-use Prim.Native.Nat.{◌-◌, ◌≤◌}
 use native.Mathlib.Omega.{arith}
 use lib.ListN.{length-take, length-drop}
-use Rattle.set.specs.Words.{words}
-use Rattle.set.proofs.Sets.{PlacesFilled, places_start, places_next, places_all, slice_passing}
+use Rattle.set.proofs.Sets.{places_start, places_next, places_all, slice_passing}
 use Rattle.matrix.specs.Masks.{nonzero}
 use Rattle.matrix.proofs.MaskedLaws.{mask_of_part}
 use borrow.Author.Rules.{rules}
@@ -15,9 +13,6 @@ loop-w-init c = (omega arith, places_start nonzero c.args.numbers.now (search ru
 
 pub positive_word-requires : goal.positive_word-requires
 positive_word-requires c = simp (length-take, length-drop) (omega arith)
-
-pub loop-w-smaller : goal.loop-w-smaller
-loop-w-smaller c = omega arith
 
 pub loop-w-preserved : goal.loop-w-preserved
 loop-w-preserved c =

@@ -1,13 +1,8 @@
 -- `positive` meets its contract: the words passed are filled. Assumes nothing.
-use mathlib.Core.Path.{◌∙◌}
 use Prim.Native.Nat.{◌-◌, ◌≤◌}
-use native.Mathlib.Omega.{arith}
-use lib.ListN.{length-take, length-drop}
 use Rattle.set.specs.Words.{words}
-use Rattle.set.proofs.Sets.{PlacesFilled, places_start, places_next, places_all, slice_passing}
+use Rattle.set.proofs.Sets.{PlacesFilled}
 use Rattle.matrix.specs.Masks.{nonzero}
-use Rattle.matrix.proofs.MaskedLaws.{mask_of_part}
-use borrow.Author.Rules.{rules}
 use Rattle.matrix.proofs.positive.Given as goal
 
 abbrev pub invariant-loop-w : goal.invariant-loop-w

@@ -1,9 +1,9 @@
 -- `positive_word` meets its contract: the word has the places passed. Assumes nothing.
-use mathlib.Core.Path.{◌≡◌, ap, ◌∙◌}
-use Prim.Native.Nat.{ℕ, ◌-◌, ◌≤◌}
-use lib.ListN.{length, get_or}
+use mathlib.Core.Path.{ap, ◌∙◌}
+use Prim.Native.Nat.{ℕ}
+use lib.ListN.{get_or}
 use Rattle.simulation.proofs.Finite.Sums.{one-most}
-use Rattle.word.specs.Mask.{member, part}
+use Rattle.word.specs.Mask.{part}
 use Rattle.word.proofs.Mask.{part-start, part-bit, flag_is}
 use Rattle.matrix.specs.Masks.{nonzero}
 use mir.Val.{bool_byte}
@@ -13,25 +13,10 @@ use Rattle.matrix.proofs.positive_word.Goals as goal
 pub loop-i-init : goal.loop-i-init
 loop-i-init c = (omega arith, part-start _)
 
-pub offset_bounds-numbers-i : goal.offset_bounds-numbers-i
-offset_bounds-numbers-i c = omega arith
-
-pub bounds-numbers-i : goal.bounds-numbers-i
-bounds-numbers-i c = omega arith
-
-pub overflow_cast-numbers : goal.overflow_cast-numbers
-overflow_cast-numbers c = tt
-
 pub with_bit-r-requires : goal.with_bit-r-requires
 with_bit-r-requires c =
     let some = nonzero (get_or c.args.numbers.now c.loop-i.i 0) in
     (omega (arith, c.requires), omega (arith, flag_is some, one-most some))
-
-pub overflow_add-i : goal.overflow_add-i
-overflow_add-i c = omega arith
-
-pub loop-i-smaller : goal.loop-i-smaller
-loop-i-smaller c = omega arith
 
 pub loop-i-preserved : goal.loop-i-preserved
 loop-i-preserved c =

@@ -1,7 +1,6 @@
 -- `put_cell` meets its contract. Assumes nothing.
 use Rattle.matrix.proofs.MatrixLaws.{put_set}
 use Rattle.matrix.proofs.MaskedLaws.{noted}
-use borrow.Author.Rules.{rules}
 use native.Mathlib.Omega.{arith}
 use Rattle.matrix.proofs.put_cell.Goals as goal
 

@@ -1,6 +1,5 @@
 -- `subtract` meets its contract. Assumes nothing.
 use Rattle.matrix.proofs.MatrixLaws.{put_takes}
-use borrow.Author.Rules.{rules}
 use native.Mathlib.Omega.{arith}
 use Rattle.matrix.proofs.subtract.Goals as goal
 

@@ -1,14 +1,9 @@
 -- `search::follow` meets its contract: the senders of the columns passed are reached. Assumes nothing.
-use mathlib.Core.Path.{◌≡◌, refl, ◌∙◌}
-use mathlib.Core.List.{List}
-use Prim.Native.Nat.{ℕ, ◌≤◌, ◌-◌}
-use lib.ListN.{length}
-use Rattle.set.specs.declared.Set.{Set}
+use mathlib.Core.Path.{refl, ◌∙◌}
 use Rattle.word.specs.Mask.{member}
-use Rattle.set.specs.Words.{words, after, rest, mask}
+use Rattle.set.specs.Words.{mask}
 use Rattle.set.proofs.Sets.{mask_lt, walk_begin, walk_into, walk_on, walk_done, except_of}
-use Rattle.search.specs.Links.{from, via}
-use Rattle.search.proofs.SearchLaws.{Following, following_none, following_next, following_end}
+use Rattle.search.proofs.SearchLaws.{following_none, following_next, following_end}
 use native.Mathlib.Omega.{arith}
 use Rattle.search.proofs.follow.Invariants.{Passed}
 use Rattle.search.proofs.follow.Goals as goal
@@ -17,12 +12,6 @@ pub loop-w-init : goal.loop-w-init
 loop-w-init c =
     let a = c.args in
     (omega arith, refl, walk_begin a.columns (Passed a.senders.now a.columns a.r a.reached a.reached a.links.now a.links.now) following_none)
-
-pub offset_bounds-columns-w : goal.offset_bounds-columns-w
-offset_bounds-columns-w c = omega arith
-
-pub bounds-columns-w : goal.bounds-columns-w
-bounds-columns-w c = omega arith
 
 pub loop-left-init : goal.loop-left-init
 loop-left-init c =
@@ -33,17 +22,8 @@ loop-left-init c =
 pub lowest-j-requires : goal.lowest-j-requires
 lowest-j-requires c = (omega arith, omega arith)
 
-pub get-requires : goal.get-requires
-get-requires c = omega arith
-
-pub difference-new-requires : goal.difference-new-requires
-difference-new-requires c = tt
-
 pub link_rows-requires : goal.link_rows-requires
 link_rows-requires c = (omega arith, omega arith, omega arith)
-
-pub union-all-requires : goal.union-all-requires
-union-all-requires c = tt
 
 pub without_lowest-left-requires : goal.without_lowest-left-requires
 without_lowest-left-requires c = (omega arith, omega arith)
@@ -59,12 +39,6 @@ loop-left-preserved c =
       λ s f h. following_next (mask c.difference-new.result) (mask_lt u.all) (u.invariant.1 s f h) l (c.without_lowest-left.ensures.0 _ l)
           (except_of c.get.ensures (member (mask u.all)) c.difference-new.ensures) c.link_rows.ensures c.union-all.ensures,
     )
-
-pub overflow_step-w : goal.overflow_step-w
-overflow_step-w c = omega arith
-
-pub loop-w-smaller : goal.loop-w-smaller
-loop-w-smaller c = omega arith
 
 pub loop-w-preserved : goal.loop-w-preserved
 loop-w-preserved c =

@@ -1,15 +1,12 @@
 -- `search::follow` meets its contract: the senders of the columns passed are reached. Assumes nothing.
-use mathlib.Core.Path.{◌≡◌, refl, ◌∙◌}
+use mathlib.Core.Path.{◌≡◌}
 use mathlib.Core.List.{List}
 use Prim.Native.Nat.{ℕ, ◌≤◌, ◌-◌}
 use lib.ListN.{length}
 use Rattle.set.specs.declared.Set.{Set}
-use Rattle.word.specs.Mask.{member}
 use Rattle.set.specs.Words.{words, after, rest, mask}
-use Rattle.set.proofs.Sets.{mask_lt, walk_begin, walk_into, walk_on, walk_done, except_of}
 use Rattle.search.specs.Links.{from, via}
-use Rattle.search.proofs.SearchLaws.{Following, following_none, following_next, following_end}
-use native.Mathlib.Omega.{arith}
+use Rattle.search.proofs.SearchLaws.{Following}
 use Rattle.search.proofs.follow.Given as goal
 
 -- the rows reached went from s to s' and the links from l to l', with the columns of the mask n to come

@@ -1,23 +1,14 @@
 -- `search::hit` meets its contract: the rows passed have no free column. Assumes nothing.
-use mathlib.Core.List.{List}
-use Prim.Native.Nat.{ℕ, ◌≤◌, ◌-◌}
-use Rattle.set.specs.declared.Set.{Set}
 use Rattle.word.specs.Mask.{member}
-use Rattle.set.specs.Words.{words, after, rest, mask}
+use Rattle.set.specs.Words.{mask}
 use Rattle.set.proofs.Sets.{mask_lt, walk_begin, walk_into, walk_on, walk_done, both_of, not_none, not_some}
-use Rattle.search.proofs.SearchLaws.{Hitting, hitting_none, hitting_next, hitting_found, hitting_end}
+use Rattle.search.proofs.SearchLaws.{hitting_none, hitting_next, hitting_found, hitting_end}
 use native.Mathlib.Omega.{arith}
 use Rattle.search.proofs.hit.Invariants.{Passed}
 use Rattle.search.proofs.hit.Goals as goal
 
 pub loop-w-init : goal.loop-w-init
 loop-w-init c = let a = c.args in (omega arith, walk_begin a.rows (Passed a.rel.now a.free a.rows) hitting_none)
-
-pub offset_bounds-rows-w : goal.offset_bounds-rows-w
-offset_bounds-rows-w c = omega arith
-
-pub bounds-rows-w : goal.bounds-rows-w
-bounds-rows-w c = omega arith
 
 pub loop-left-init : goal.loop-left-init
 loop-left-init c =
@@ -30,12 +21,6 @@ lowest-r-requires c = (omega arith, omega arith)
 pub get-requires : goal.get-requires
 get-requires c =
     c.requires _ (c.loop-left.invariant.part _ c.lowest-r.ensures.1.here)
-
-pub intersection-requires : goal.intersection-requires
-intersection-requires c = tt
-
-pub is_empty-requires : goal.is_empty-requires
-is_empty-requires c = tt
 
 pub returns-then-not-is_empty : goal.returns-then-not-is_empty
 returns-then-not-is_empty c =
@@ -53,12 +38,6 @@ pub loop-left-preserved : goal.loop-left-preserved
 loop-left-preserved c =
     let e = both_of c.get.ensures (member (mask c.args.free)) c.intersection.ensures in
     hitting_next (mask c.intersection.result) c.loop-left.invariant c.lowest-r.ensures.1 (c.without_lowest-left.ensures.0 _ c.lowest-r.ensures.1) e (not_none c.is_empty.ensures c.if-not-is_empty.false-raw)
-
-pub overflow_step-w : goal.overflow_step-w
-overflow_step-w c = omega arith
-
-pub loop-w-smaller : goal.loop-w-smaller
-loop-w-smaller c = omega arith
 
 pub loop-w-preserved : goal.loop-w-preserved
 loop-w-preserved c =

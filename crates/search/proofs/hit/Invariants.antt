@@ -2,11 +2,8 @@
 use mathlib.Core.List.{List}
 use Prim.Native.Nat.{ℕ, ◌≤◌, ◌-◌}
 use Rattle.set.specs.declared.Set.{Set}
-use Rattle.word.specs.Mask.{member}
 use Rattle.set.specs.Words.{words, after, rest, mask}
-use Rattle.set.proofs.Sets.{mask_lt, walk_begin, walk_into, walk_on, walk_done, both_of, not_none, not_some}
-use Rattle.search.proofs.SearchLaws.{Hitting, hitting_none, hitting_next, hitting_found, hitting_end}
-use native.Mathlib.Omega.{arith}
+use Rattle.search.proofs.SearchLaws.{Hitting}
 use Rattle.search.proofs.hit.Given as goal
 
 -- no row passed has a free column, with those of the mask n to come

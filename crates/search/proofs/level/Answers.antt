@@ -1,14 +1,9 @@
 -- `search::level` meets its contract: the rows passed have gone to all their columns. Assumes nothing.
-use mathlib.Core.Path.{◌≡◌, refl, ◌∙◌}
-use mathlib.Core.List.{List}
-use Prim.Native.Nat.{ℕ, ◌≤◌, ◌-◌}
-use lib.ListN.{length}
-use Rattle.set.specs.declared.Set.{Set}
+use mathlib.Core.Path.{refl, ◌∙◌}
 use Rattle.word.specs.Mask.{member}
-use Rattle.set.specs.Words.{words, after, rest, mask}
+use Rattle.set.specs.Words.{mask}
 use Rattle.set.proofs.Sets.{walk_begin, walk_into, walk_on, walk_done, except_of}
-use Rattle.search.specs.Links.{from, via}
-use Rattle.search.proofs.SearchLaws.{Levelling, levelling_none, levelling_next, levelling_end}
+use Rattle.search.proofs.SearchLaws.{levelling_none, levelling_next, levelling_end}
 use native.Mathlib.Omega.{arith}
 use Rattle.search.proofs.level.Invariants.{Passed}
 use Rattle.search.proofs.level.Goals as goal
@@ -18,12 +13,6 @@ loop-w-init c =
     let a = c.args in
     let b = a.covered in
     (omega arith, refl, walk_begin a.rows (Passed a.rel.now a.senders.now a.rows b.seen b.seen b.reached b.reached a.links.now a.links.now) (levelling_none c.requires.3))
-
-pub offset_bounds-rows-w : goal.offset_bounds-rows-w
-offset_bounds-rows-w c = omega arith
-
-pub bounds-rows-w : goal.bounds-rows-w
-bounds-rows-w c = omega arith
 
 pub loop-left-init : goal.loop-left-init
 loop-left-init c =
@@ -37,14 +26,8 @@ pub get-requires : goal.get-requires
 get-requires c =
     c.requires.2 _ ((c.loop-left.invariant.1 _ _ c.args.links.now c.loop-w.invariant.2).part _ c.lowest-r.ensures.1.here)
 
-pub difference-columns-requires : goal.difference-columns-requires
-difference-columns-requires c = tt
-
 pub follow-all-requires : goal.follow-all-requires
 follow-all-requires c = (omega arith, omega arith, omega arith)
-
-pub union-gone-requires : goal.union-gone-requires
-union-gone-requires c = tt
 
 pub without_lowest-left-requires : goal.without_lowest-left-requires
 without_lowest-left-requires c = (omega arith, omega arith)
@@ -60,12 +43,6 @@ loop-left-preserved c =
       λ g s f h. levelling_next (mask c.difference-columns.result) (u.invariant.1 g s f h) l (c.without_lowest-left.ensures.0 _ l)
           (except_of c.get.ensures (member (mask u.gone)) c.difference-columns.ensures) c.follow-all.ensures c.union-gone.ensures,
     )
-
-pub overflow_step-w : goal.overflow_step-w
-overflow_step-w c = omega arith
-
-pub loop-w-smaller : goal.loop-w-smaller
-loop-w-smaller c = omega arith
 
 pub loop-w-preserved : goal.loop-w-preserved
 loop-w-preserved c =

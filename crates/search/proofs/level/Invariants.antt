@@ -1,15 +1,12 @@
 -- `search::level` meets its contract: the rows passed have gone to all their columns. Assumes nothing.
-use mathlib.Core.Path.{◌≡◌, refl, ◌∙◌}
+use mathlib.Core.Path.{◌≡◌}
 use mathlib.Core.List.{List}
 use Prim.Native.Nat.{ℕ, ◌≤◌, ◌-◌}
 use lib.ListN.{length}
 use Rattle.set.specs.declared.Set.{Set}
-use Rattle.word.specs.Mask.{member}
 use Rattle.set.specs.Words.{words, after, rest, mask}
-use Rattle.set.proofs.Sets.{walk_begin, walk_into, walk_on, walk_done, except_of}
 use Rattle.search.specs.Links.{from, via}
-use Rattle.search.proofs.SearchLaws.{Levelling, levelling_none, levelling_next, levelling_end}
-use native.Mathlib.Omega.{arith}
+use Rattle.search.proofs.SearchLaws.{Levelling}
 use Rattle.search.proofs.level.Given as goal
 
 -- the columns gone to went from g to g', the rows reached from s to s' and the links from l to l', with the rows of the mask n to come

@@ -1,13 +1,8 @@
 -- `search::link_rows` meets its contract: the rows passed are linked. Assumes nothing.
-use mathlib.Core.Path.{◌≡◌, refl, ◌∙◌}
-use mathlib.Core.List.{List}
-use Prim.Native.Nat.{ℕ, ◌≤◌, ◌-◌}
-use lib.ListN.{length, length-set}
-use Rattle.set.specs.declared.Set.{Set}
-use Rattle.set.specs.Words.{words, after, rest, mask}
+use mathlib.Core.Path.{refl, ◌∙◌}
+use lib.ListN.{length-set}
 use Rattle.set.proofs.Sets.{mask_lt, walk_begin, walk_into, walk_on, walk_done}
-use Rattle.search.specs.Links.{from, via}
-use Rattle.search.proofs.SearchLaws.{Linking, linking_none, linking_next, linking_end}
+use Rattle.search.proofs.SearchLaws.{linking_none, linking_next, linking_end}
 use native.Mathlib.Nat.{zero-add}
 use native.Mathlib.Omega.{arith}
 use Rattle.search.proofs.link_rows.Invariants.{Passed}
@@ -15,12 +10,6 @@ use Rattle.search.proofs.link_rows.Goals as goal
 
 pub loop-w-init : goal.loop-w-init
 loop-w-init c = let a = c.args in (omega arith, refl, walk_begin a.rows (Passed a.rows a.r a.j a.links.now a.links.now) linking_none)
-
-pub offset_bounds-rows-w : goal.offset_bounds-rows-w
-offset_bounds-rows-w c = omega arith
-
-pub bounds-rows-w : goal.bounds-rows-w
-bounds-rows-w c = omega arith
 
 pub loop-left-init : goal.loop-left-init
 loop-left-init c =
@@ -30,21 +19,6 @@ loop-left-init c =
 
 pub lowest-i-requires : goal.lowest-i-requires
 lowest-i-requires c = (omega arith, omega arith)
-
-pub overflow_cast-links : goal.overflow_cast-links
-overflow_cast-links c = omega arith
-
-pub overflow_add-links : goal.overflow_add-links
-overflow_add-links c = omega arith
-
-pub bounds-links-i : goal.bounds-links-i
-bounds-links-i c = omega arith
-
-pub overflow_cast-links-in-loop-left : goal.overflow_cast-links-in-loop-left
-overflow_cast-links-in-loop-left c = omega arith
-
-pub overflow_add-links-in-loop-left : goal.overflow_add-links-in-loop-left
-overflow_add-links-in-loop-left c = omega arith
 
 pub bounds-links-i-in-loop-left : goal.bounds-links-i-in-loop-left
 bounds-links-i-in-loop-left c = simp length-set (omega arith)
@@ -60,12 +34,6 @@ loop-left-preserved c =
     let u = c.loop-left in
     let l = c.lowest-i.ensures in
     (simp length-set u.invariant.0, λ f h. rw zero-add (linking_next u.links (mask_lt _) (u.invariant.1 f h) (omega arith) l.0 l.1 (c.without_lowest-left.ensures.0 _ l.1)))
-
-pub overflow_step-w : goal.overflow_step-w
-overflow_step-w c = omega arith
-
-pub loop-w-smaller : goal.loop-w-smaller
-loop-w-smaller c = omega arith
 
 pub loop-w-preserved : goal.loop-w-preserved
 loop-w-preserved c =

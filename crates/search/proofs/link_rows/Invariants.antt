@@ -1,15 +1,12 @@
 -- `search::link_rows` meets its contract: the rows passed are linked. Assumes nothing.
-use mathlib.Core.Path.{◌≡◌, refl, ◌∙◌}
+use mathlib.Core.Path.{◌≡◌}
 use mathlib.Core.List.{List}
 use Prim.Native.Nat.{ℕ, ◌≤◌, ◌-◌}
-use lib.ListN.{length, length-set}
+use lib.ListN.{length}
 use Rattle.set.specs.declared.Set.{Set}
 use Rattle.set.specs.Words.{words, after, rest, mask}
-use Rattle.set.proofs.Sets.{mask_lt, walk_begin, walk_into, walk_on, walk_done}
 use Rattle.search.specs.Links.{from, via}
-use Rattle.search.proofs.SearchLaws.{Linking, linking_none, linking_next, linking_end}
-use native.Mathlib.Nat.{zero-add}
-use native.Mathlib.Omega.{arith}
+use Rattle.search.proofs.SearchLaws.{Linking}
 use Rattle.search.proofs.link_rows.Given as goal
 
 -- the links went from l to l', with the rows of the mask n to come

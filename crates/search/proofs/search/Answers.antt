@@ -1,17 +1,12 @@
 -- `search::search` meets its contract: level by level, and each level but the last reaches a row more. Assumes nothing.
-use mathlib.Core.Path.{◌≡◌, refl, sym, ◌∙◌, subst}
-use Prim.Native.Nat.{ℕ, ◌+◌, ◌≤◌, min}
-use lib.ListN.{length}
-use Rattle.simulation.specs.Limits.{most_states}
+use mathlib.Core.Path.{refl, sym, ◌∙◌, subst}
+use Prim.Native.Nat.{ℕ}
 use Rattle.set.specs.Words.{mask}
 use Rattle.set.proofs.Sets.{mask_lt, not_none, not_some}
 use Rattle.search.specs.Links.{from, via}
-use Rattle.search.proofs.SearchLaws.{Frontier, frontier_none, frontier_next, frontier_found, frontier_end, frontier_rows, unreached, unreached_most, unreached_falls}
+use Rattle.search.proofs.SearchLaws.{Frontier, frontier_none, frontier_next, frontier_found, frontier_end, frontier_rows, unreached_most, unreached_falls}
 use native.Mathlib.Omega.{arith}
 use Rattle.search.proofs.search.Goals as goal
-
-pub empty-seen-requires : goal.empty-seen-requires
-empty-seen-requires c = tt
 
 pub loop-free-init : goal.loop-free-init
 loop-free-init c =
@@ -19,9 +14,6 @@ loop-free-init c =
     let s = mask a.ends.short in
     let l = a.links.now in
     (refl, subst (λ (n : ℕ). Frontier a.rel.now a.senders.now s (mask a.ends.free) (from l) (via l) s s n 0) (sym c.empty-seen.ensures) frontier_none, omega (arith, unreached_most s))
-
-pub is_empty-requires : goal.is_empty-requires
-is_empty-requires c = tt
 
 pub hit-r-requires : goal.hit-r-requires
 hit-r-requires c =
@@ -38,9 +30,6 @@ level-next-requires c =
     let h = c.requires in
     let f = c.loop-free.invariant.1 in
     (h.columns, omega (arith, h.links_room, c.loop-free.invariant.0), frontier_rows h f, f.closed)
-
-pub difference-rows-requires : goal.difference-rows-requires
-difference-rows-requires c = tt
 
 pub overflow_add-depth : goal.overflow_add-depth
 overflow_add-depth c = omega (arith, c.loop-free.invariant.2)

@@ -1,13 +1,11 @@
 -- `search::search` meets its contract: level by level, and each level but the last reaches a row more. Assumes nothing.
-use mathlib.Core.Path.{◌≡◌, refl, sym, ◌∙◌, subst}
-use Prim.Native.Nat.{ℕ, ◌+◌, ◌≤◌, min}
+use mathlib.Core.Path.{◌≡◌}
+use Prim.Native.Nat.{◌+◌, ◌≤◌, min}
 use lib.ListN.{length}
 use Rattle.simulation.specs.Limits.{most_states}
 use Rattle.set.specs.Words.{mask}
-use Rattle.set.proofs.Sets.{mask_lt, not_none, not_some}
 use Rattle.search.specs.Links.{from, via}
-use Rattle.search.proofs.SearchLaws.{Frontier, frontier_none, frontier_next, frontier_found, frontier_end, frontier_rows, unreached, unreached_most, unreached_falls}
-use native.Mathlib.Omega.{arith}
+use Rattle.search.proofs.SearchLaws.{Frontier, unreached}
 use Rattle.search.proofs.search.Given as goal
 
 abbrev pub invariant-loop-free : goal.invariant-loop-free

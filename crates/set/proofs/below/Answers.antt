@@ -1,7 +1,6 @@
 -- `set::below` meets its contract. Assumes nothing.
 use native.Mathlib.Omega.{arith}
 use Rattle.set.proofs.Sets.{low_below, high-below}
-use borrow.Author.Rules.{rules}
 use Rattle.set.proofs.below.Goals as goal
 
 pub returns-then-n-lt-BITS : goal.returns-then-n-lt-BITS

@@ -2,7 +2,6 @@
 use mathlib.Core.Path.{◌∙◌, ap}
 use Rattle.simulation.specs.Sum.{when}
 use Rattle.set.proofs.Sets.{mask-bit}
-use borrow.Author.Rules.{rules}
 use Rattle.set.proofs.bit.Goals as goal
 
 pub returns : goal.returns

@@ -6,7 +6,6 @@ use Rattle.simulation.proofs.Finite.Sums.{members_most}
 use Rattle.word.specs.Mask.{member, word_bits}
 use Rattle.set.specs.Words.{word_of}
 use Rattle.set.proofs.Sets.{count-is}
-use borrow.Author.Rules.{rules}
 use Rattle.set.proofs.count.Goals as goal
 
 pub overflow_add-result : goal.overflow_add-result

@@ -4,7 +4,6 @@ use mathlib.Core.Bool.{◌&&◌}
 use Rattle.set.specs.Words.{word_of}
 use Rattle.word.proofs.Mask.{both_is}
 use Rattle.set.proofs.Sets.{joined}
-use borrow.Author.Rules.{rules}
 use Rattle.set.proofs.intersection.Goals as goal
 
 pub returns : goal.returns

@@ -7,7 +7,6 @@ use Rattle.word.specs.Mask.{member, Lowest, word_bits}
 use Rattle.set.specs.Words.{mask, word_of}
 use Rattle.set.proofs.Sets.{lowest_is, high_word}
 use Rattle.set.proofs.Words.{equation}
-use borrow.Author.Rules.{rules}
 use Rattle.set.proofs.lowest.Goals as goal
 
 pub returns-then-low-ne0 : goal.returns-then-low-ne0

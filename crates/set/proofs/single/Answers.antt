@@ -5,7 +5,6 @@ use Prim.Native.Nat.{ℕ}
 use lib.Dec.{eqb}
 use Rattle.word.specs.Mask.{member}
 use Rattle.word.proofs.Mask.{member-none}
-use borrow.Author.Rules.{rules}
 use Rattle.set.proofs.single.Goals as goal
 
 pub returns : goal.returns

@@ -1,15 +1,12 @@
 -- `transport::improve` meets its contract: each turn lacks less and is one path more. Assumes nothing.
 use mathlib.Core.Path.{◌≡◌, refl, ◌∙◌}
-use borrow.Author.Rules.{rules}
 use native.Mathlib.Omega.{arith}
 use lib.ListN.{length}
-use Rattle.word.specs.Mask.{member}
 use Rattle.set.specs.Words.{mask}
-use Rattle.matrix.specs.Flow.{missing, partial}
 use Rattle.matrix.proofs.FlowLaws.{flow_now}
-use Rattle.search.specs.Links.{HasLinks, from, via}
+use Rattle.search.specs.Links.{HasLinks}
 use Rattle.augment.proofs.PushLaws.{room_of}
-use Rattle.transport.proofs.Growing.{Growing, growing_none, ends_now, less, counts, growing_next, grown}
+use Rattle.transport.proofs.Growing.{growing_none, ends_now, less, counts, growing_next, grown}
 use Rattle.transport.proofs.improve.Goals as goal
 use Rattle.transport.proofs.improve.Goals.{At-loop-path}
 

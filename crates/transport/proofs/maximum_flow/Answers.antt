@@ -3,14 +3,11 @@ use mathlib.Core.Path.{◌≡◌, sym, ap, ◌∙◌}
 use mathlib.Core.List.{List, ◌++◌}
 use Prim.Native.Nat.{ℕ, ◌≤◌}
 use native.Mathlib.Omega.{arith}
-use borrow.Author.Rules.{rules}
 use lib.ListN.{length, take, length-append}
 use lib.Seq.{length-take-le, take_at}
 use Rattle.set.specs.Words.{mask}
 use Rattle.set.proofs.Sets.{mask_lt}
 use Rattle.matrix.specs.Flow.{Partial, partial}
-use Rattle.transport.specs.Answer.{MaximumFlow}
-use Rattle.transport.specs.Paths.{Counts}
 use Rattle.transport.proofs.Lending.{GreedyFrom, begun_part, fill_ready, rows_left, columns-left, improve_ready, answers}
 use Rattle.transport.proofs.maximum_flow.Goals as goal
 use Rattle.transport.proofs.maximum_flow.Goals.{After-begin, After-fill-free, After-improve}
@@ -36,28 +33,32 @@ columns-room c = omega (arith, c.requires.few_columns, c.begin.auto.demand, c.no
 
 -- the start and the greedy flow
 abbrev begun_flow : After-fill-free → Partial
-begun_flow c = partial c.begin.new.amounts (take ((length c.args.m.now)) ((c.begin.new.supply))) (take ((length c.args.n.now)) ((c.begin.new.demand))) c.no_senders-senders.result
+begun_flow c = partial c.begin.new.amounts (take (length c.args.m.now) c.begin.new.supply) (take (length c.args.n.now) c.begin.new.demand) c.no_senders-senders.result
 
 abbrev greedy-flow : After-fill-free → Partial
 greedy-flow c = let l = c.fill-free.new in partial l.amounts l.supply l.demand l.senders
 
 filled : (c : After-fill-free) → let a = c.args in GreedyFrom a.m.now a.n.now a.rel.now a.amounts.now (begun_flow c) (greedy-flow c) (mask c.fill-free.result)
-filled c = let e = c.fill-free.ensures in record {
-  given = c.requires;
-  begun = begun_part c.begin.ensures ((let it : (length c.args.m.now) ≤ length ((c.begin.new.supply)) = omega (arith, c.requires.few_rows, c.begin.auto.supply, c.no_amounts-supply.ensures) in it)) ((let it : (length c.args.n.now) ≤ length ((c.begin.new.demand)) = omega (arith, c.requires.few_columns, c.begin.auto.demand, c.no_amounts-demand.ensures) in it));
-  same_length = c.begin.auto.amounts;
-  rows = length-take-le _ _ ((let it : (length c.args.m.now) ≤ length ((c.begin.new.supply)) = omega (arith, c.requires.few_rows, c.begin.auto.supply, c.no_amounts-supply.ensures) in it));
-  columns = length-take-le _ _ ((let it : (length c.args.n.now) ≤ length ((c.begin.new.demand)) = omega (arith, c.requires.few_columns, c.begin.auto.demand, c.no_amounts-demand.ensures) in it));
-  improves = e.0;
-  free-columns = e.1;
-  greedy = e.2;
-}
+filled c =
+    let e = c.fill-free.ensures in
+    let supplied : length c.args.m.now ≤ length c.begin.new.supply = omega (arith, c.requires.few_rows, c.begin.auto.supply, c.no_amounts-supply.ensures) in
+    let demanded : length c.args.n.now ≤ length c.begin.new.demand = omega (arith, c.requires.few_columns, c.begin.auto.demand, c.no_amounts-demand.ensures) in
+    record {
+      given = c.requires;
+      begun = begun_part c.begin.ensures supplied demanded;
+      same_length = c.begin.auto.amounts;
+      rows = length-take-le _ _ supplied;
+      columns = length-take-le _ _ demanded;
+      improves = e.0;
+      free-columns = e.1;
+      greedy = e.2;
+    }
 
 -- what is lent a second time is what fill left
-supply_again : (c : After-fill-free) (l : List ℕ) → take ((length c.args.m.now)) ((greedy-flow c).supply ++ l) ≡ (greedy-flow c).supply
+supply_again : (c : After-fill-free) (l : List ℕ) → take (length c.args.m.now) ((greedy-flow c).supply ++ l) ≡ (greedy-flow c).supply
 supply_again c l = take_at _ l _ (rows_left (filled c))
 
-demand_again : (c : After-fill-free) (l : List ℕ) → take ((length c.args.n.now)) ((greedy-flow c).demand ++ l) ≡ (greedy-flow c).demand
+demand_again : (c : After-fill-free) (l : List ℕ) → take (length c.args.n.now) ((greedy-flow c).demand ++ l) ≡ (greedy-flow c).demand
 demand_again c l = take_at _ l _ (columns-left (filled c))
 
 pub slice_bounds-fill-end : goal.slice_bounds-fill-end

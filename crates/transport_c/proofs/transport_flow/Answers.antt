@@ -1,6 +1,5 @@
 -- `transport_c::transport_flow` meets its contract. Assumes nothing.
 use mathlib.Core.Path.{refl}
-use borrow.Author.Rules.{rules}
 use Rattle.transport_c.proofs.transport_flow.Goals as goal
 
 pub maximum_flow-r-requires : goal.maximum_flow-r-requires

@@ -1,7 +1,6 @@
 -- `word::below` meets its contract. Assumes nothing.
 use mathlib.Core.Path.{◌∙◌, ap, fun_ext}
 use native.Mathlib.Omega.{arith}
-use borrow.Author.Rules.{rules}
 use lib.Pow.{pow_pos}
 use Rattle.word.specs.Mask.{up_to, word_bits}
 use Rattle.word.proofs.Mask.{power_is, up_to-is, member_ones}

@@ -1,5 +1,4 @@
 -- `word::bit` meets its contract. Assumes nothing.
-use borrow.Author.Rules.{rules}
 use Rattle.word.proofs.Mask.{bit_is}
 use Rattle.word.proofs.bit.Goals as goal
 

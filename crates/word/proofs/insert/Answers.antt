@@ -1,6 +1,5 @@
 -- `word::insert` meets its contract. Assumes nothing.
 use mathlib.Core.Path.{◌∙◌, ap}
-use borrow.Author.Rules.{rules}
 use Rattle.word.specs.Mask.{member, either}
 use Rattle.word.proofs.Mask.{either_is}
 use Rattle.word.proofs.insert.Goals as goal

@@ -1,5 +1,4 @@
 -- `word::remove` meets its contract. Assumes nothing.
-use borrow.Author.Rules.{rules}
 use Rattle.word.proofs.Mask.{without_is}
 use Rattle.word.proofs.remove.Goals as goal
 

@@ -1,5 +1,4 @@
 -- `word::single` meets its contract. Assumes nothing.
-use borrow.Author.Rules.{rules}
 use Rattle.word.proofs.Mask.{only-is}
 use Rattle.word.proofs.single.Goals as goal
 

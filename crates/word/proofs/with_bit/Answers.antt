@@ -1,6 +1,5 @@
 -- `word::with_bit` meets its contract. Assumes nothing.
 use Rattle.word.proofs.Mask.{with_bit-is}
-use borrow.Author.Rules.{rules}
 use Rattle.word.proofs.with_bit.Goals as goal
 
 pub returns : goal.returns

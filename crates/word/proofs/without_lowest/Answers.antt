@@ -1,6 +1,5 @@
 -- `word::without_lowest` meets its contract. Assumes nothing.
 use mathlib.Core.Path.{fun_ext}
-use borrow.Author.Rules.{rules}
 use Rattle.word.proofs.Mask.{drop_lowest, drop_lowest_lt}
 use Rattle.word.proofs.without_lowest.Goals as goal
 

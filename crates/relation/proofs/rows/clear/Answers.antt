@@ -9,9 +9,6 @@ use Rattle.relation.proofs.rows.clear.Goals as goal
 pub loop-i-init : goal.loop-i-init
 loop-i-init c = clearing_start c.args.n c.args.rows.now
 
-pub empty-requires : goal.empty-requires
-empty-requires c = tt
-
 pub put-requires : goal.put-requires
 put-requires c = omega (arith, c.requires.1, c.loop-i-test.true, c.loop-i.invariant.size)
 

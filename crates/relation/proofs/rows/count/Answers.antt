@@ -31,8 +31,5 @@ overflow_add-pairs c =
 pub overflow_step-s : goal.overflow_step-s
 overflow_step-s c = omega (arith, c.requires)
 
-pub loop-s-smaller : goal.loop-s-smaller
-loop-s-smaller c = omega arith
-
 pub returns : goal.returns
 returns c = c.loop-s.invariant.1 ∙ ap (λ n. pairs_of n (holds c.args.rows.now)) (omega arith)

@@ -1,7 +1,6 @@
 -- `set::walk::lowest` meets its contract. Assumes nothing.
 use native.Mathlib.Omega.{arith}
 use Rattle.set.proofs.Sets.{walk_lowest}
-use borrow.Author.Rules.{rules}
 use Rattle.set.proofs.walk.lowest.Goals as goal
 
 pub returns : goal.returns

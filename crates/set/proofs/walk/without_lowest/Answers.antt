@@ -2,7 +2,6 @@
 use Rattle.word.specs.Mask.{word_bits}
 use Rattle.word.proofs.Mask.{lowest_of}
 use Rattle.set.proofs.Sets.{walk_drop}
-use borrow.Author.Rules.{rules}
 use Rattle.set.proofs.walk.without_lowest.Goals as goal
 
 pub returns : goal.returns
