@@ -2,7 +2,6 @@
 -- Assumes nothing.
 use native.Mathlib.Omega.{arith}
 use mathlib.Core.Path.{refl}
-use borrow.Author.Rules.{rules}
 use Rattle.items.proofs.cursor.byte_at.Goals as goal
 
 pub overflow_cast-result : goal.overflow_cast-result

@@ -2,14 +2,13 @@
 -- Assumes nothing.
 use mathlib.Core.Path.{◌≡◌, sym, ◌∙◌, ap, ap₂}
 use mathlib.Core.Bool.{Bool}
-use Prim.Native.Nat.{ℕ, ◌+◌, ◌-◌, ◌≤◌}
+use Prim.Native.Nat.{ℕ, ◌+◌}
 use native.Mathlib.Omega.{arith}
 use lib.Dec.{leb, ltb}
-use borrow.Author.Rules.{rules}
 use borrow.Author.Tests.{leb-true}
 use Rattle.simulation.specs.Limits.{most_total}
 use Rattle.layout.specs.Bytes.{◌then◌, refuse◌unless◌, target_right, weight_from, total_from, weight_right, entry_refusal, distribution_refusal}
-use Rattle.layout.proofs.Laws.{ItemsPass, items_none, items_more, items_here, items_all, then_first, then_second}
+use Rattle.layout.proofs.Laws.{items_none, items_more, items_here, items_all, then_first, then_second}
 use Rattle.layout.proofs.SectionLaws.{then_parts, accepted-holds}
 use Rattle.simulation.proofs.Finite.Sums.{sum-none, sum_more}
 use Rattle.items.proofs.items.distribution_refusal.Goals as goal
