@@ -17,30 +17,12 @@ use Rattle.items.proofs.items.distribution_refusal.Goals.{After-first_of-refusal
 pub loop-k-init : goal.loop-k-init
 loop-k-init c = (items_none _ _, omega arith, sum-none _, omega arith)
 
-pub target_right-target-requires : goal.target_right-target-requires
-target_right-target-requires c = omega arith
-
-pub overflow_mul-k : goal.overflow_mul-k
-overflow_mul-k c = omega arith
-
-pub overflow_add-at : goal.overflow_add-at
-overflow_add-at c = omega arith
-
-pub overflow_add-at-in-loop-k : goal.overflow_add-at-in-loop-k
-overflow_add-at-in-loop-k c = omega arith
-
-pub half_at-total-requires : goal.half_at-total-requires
-half_at-total-requires c = omega arith
-
 -- the total with the weight of the entry at k
 grown : (c : After-half_at-total) → let a = c.args in
     c.loop-k.total + c.half_at-total.result ≡ total_from a.s.now a.at (c.loop-k.k + 1)
 grown c =
     let a = c.args in
     ap (λ (w : ℕ). c.loop-k.total + w) c.half_at-total.ensures.is ∙ sum_more c.loop-k.k (weight_from a.s.now a.at) c.loop-k.invariant.2
-
-pub overflow_add-total : goal.overflow_add-total
-overflow_add-total c = omega arith
 
 -- the refusal of the entry at k
 judged : (c : After-first_of-refusal) → let a = c.args in
@@ -57,12 +39,6 @@ unfolding distribution_refusal
 returns-then-refusal-ne0 c =
     let e = items_here _ _ c.loop-k.k c.loop-k.invariant.0 (omega arith) (judged (goal.at.returns-then-refusal-ne0 c).After-first_of-refusal) c.if-refusal-ne0.true in
     e ∙ then_first _ _ (λ z. c.if-refusal-ne0.true (e ∙ z))
-
-pub overflow_add-k : goal.overflow_add-k
-overflow_add-k c = omega arith
-
-pub loop-k-smaller : goal.loop-k-smaller
-loop-k-smaller c = omega arith
 
 pub loop-k-preserved : goal.loop-k-preserved
 unfolding entry_refusal weight_right

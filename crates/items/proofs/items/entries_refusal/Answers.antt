@@ -35,9 +35,6 @@ here c =
 pub loop-j-init : goal.loop-j-init
 loop-j-init c = (items_none _ _, omega arith, sum-none _)
 
-pub overflow_add-width : goal.overflow_add-width
-overflow_add-width c = omega arith
-
 pub overflow_mul-width : goal.overflow_mul-width
 overflow_mul-width c = omega (arith, size-within c)
 
@@ -61,12 +58,6 @@ returns-then-refusal-ne0 c = items_here _ _ c.loop-j.j c.loop-j.invariant.0 (ome
 
 pub overflow_add-start : goal.overflow_add-start
 overflow_add-start c = omega (arith, within (goal.at.overflow_add-start c).After-byte_at-size)
-
-pub overflow_add-j : goal.overflow_add-j
-overflow_add-j c = omega arith
-
-pub loop-j-smaller : goal.loop-j-smaller
-loop-j-smaller c = omega arith
 
 pub loop-j-preserved : goal.loop-j-preserved
 loop-j-preserved c =

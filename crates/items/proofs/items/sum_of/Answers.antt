@@ -24,12 +24,6 @@ overflow_cast-total c = omega (arith, c.shared_slice_known-1.given (c.args.from 
 pub overflow_add-total-in-loop-i : goal.overflow_add-total-in-loop-i
 overflow_add-total-in-loop-i c = omega (arith, c.shared_slice_known-1.given (c.args.from + c.args.step * c.loop-i.i))
 
-pub overflow_add-i : goal.overflow_add-i
-overflow_add-i c = omega arith
-
-pub loop-i-smaller : goal.loop-i-smaller
-loop-i-smaller c = omega arith
-
 pub loop-i-preserved : goal.loop-i-preserved
 loop-i-preserved c = let i = c.loop-i.i in
     let inv = c.loop-i.invariant in

@@ -18,9 +18,6 @@ within c =
 pub loop-j-init : goal.loop-j-init
 loop-j-init c = (items_none _ _, omega arith)
 
-pub overflow_add-width : goal.overflow_add-width
-overflow_add-width c = omega arith
-
 pub overflow_mul-width : goal.overflow_mul-width
 overflow_mul-width c = omega (arith, within c)
 
@@ -32,12 +29,6 @@ transition_refusal-refusal-requires c = let p = c.requires in record { room = (p
 
 pub returns-then-refusal-ne0 : goal.returns-then-refusal-ne0
 returns-then-refusal-ne0 c = items_here _ _ _ c.loop-j.invariant.0 (omega arith) c.transition_refusal-refusal.ensures c.if-refusal-ne0.true
-
-pub overflow_add-j : goal.overflow_add-j
-overflow_add-j c = omega arith
-
-pub loop-j-smaller : goal.loop-j-smaller
-loop-j-smaller c = omega arith
 
 pub loop-j-preserved : goal.loop-j-preserved
 loop-j-preserved c = (items_more _ _ _ c.loop-j.invariant.0 (omega arith) (sym c.transition_refusal-refusal.ensures ∙ c.if-refusal-ne0.false), omega arith)
