@@ -12,13 +12,13 @@ use Rattle.layout.proofs.Laws.{items_none, items_more, items_here, items_all, th
 use Rattle.layout.proofs.SectionLaws.{then_parts, accepted-holds}
 use Rattle.simulation.proofs.Finite.Sums.{sum-none, sum_more}
 use Rattle.items.proofs.items.distribution_refusal.Goals as goal
-use Rattle.items.proofs.items.distribution_refusal.Goals.{After-first_of-refusal, After-half_at-total}
+use Rattle.items.proofs.items.distribution_refusal.Goals.{After-first_of-refusal}
 
 pub loop-k-init : goal.loop-k-init
 loop-k-init c = (items_none _ _, omega arith, sum-none _, omega arith)
 
 -- the total with the weight of the entry at k
-grown : (c : After-half_at-total) → let a = c.args in
+grown : (c : After-first_of-refusal) → let a = c.args in
     c.loop-k.total + c.half_at-total.result ≡ total_from a.s.now a.at (c.loop-k.k + 1)
 grown c =
     let a = c.args in
@@ -30,9 +30,7 @@ judged : (c : After-first_of-refusal) → let a = c.args in
 unfolding entry_refusal weight_right
 judged c =
     c.first_of-refusal.ensures
-    ∙ ap₂ ◌then◌ (c.refuse_unless.ensures ∙ ap (λ (t : Bool). refuse 9 unless t) c.target_right-target.ensures) (c.refuse_unless-in-loop-k.ensures ∙ ap (λ (n : ℕ). refuse 10 unless leb n most_total) ((let it : let a = c.args in
-    c.loop-k.total + c.half_at-total.result ≡ total_from a.s.now a.at (c.loop-k.k + 1) = let a = c.args in
-    ap (λ (w : ℕ). c.loop-k.total + w) c.half_at-total.ensures.is ∙ sum_more c.loop-k.k (weight_from a.s.now a.at) c.loop-k.invariant.2 in it)))
+    ∙ ap₂ ◌then◌ (c.refuse_unless.ensures ∙ ap (λ (t : Bool). refuse 9 unless t) c.target_right-target.ensures) (c.refuse_unless-in-loop-k.ensures ∙ ap (λ (n : ℕ). refuse 10 unless leb n most_total) (grown c))
 
 pub returns-then-refusal-ne0 : goal.returns-then-refusal-ne0
 unfolding distribution_refusal
@@ -48,7 +46,7 @@ loop-k-preserved c =
     let k = c.loop-k.k in
     let none : entry_refusal s a.n a.at k ≡ 0 = sym (judged (goal.at.loop-k-preserved c).After-first_of-refusal) ∙ c.if-refusal-ne0.false in
     let small = leb-true (total_from s a.at (k + 1)) most_total (accepted-holds 9 (weight_right s a.at k) (then_parts (refuse 9 unless target_right s a.n a.at k) _ none).1) in
-    (items_more _ _ _ c.loop-k.invariant.0 (omega arith) none, omega arith, grown (goal.at.loop-k-preserved c).After-half_at-total, omega (arith, grown (goal.at.loop-k-preserved c).After-half_at-total))
+    (items_more _ _ _ c.loop-k.invariant.0 (omega arith) none, omega arith, grown (goal.at.loop-k-preserved c).After-first_of-refusal, omega (arith, grown (goal.at.loop-k-preserved c).After-first_of-refusal))
 
 pub returns : goal.returns
 unfolding distribution_refusal

@@ -23,7 +23,7 @@ within c =
     omega (arith, item_within a.width (middle c) a.n (omega arith))
 
 -- what is read is that code
-here : (c : After-field_at-code) → let a = c.args in code a.width a.s.now ((let l = c.loop-low in l.low + (l.high - l.low) / 2)) ≡ c.field_at-code.result
+here : (c : After-field_at-code) → let a = c.args in let l = c.loop-low in code a.width a.s.now (l.low + (l.high - l.low) / 2) ≡ c.field_at-code.result
 here c = code-at-is _ _ _ ∙ sym c.field_at-code.ensures.is
 
 -- no code was refused, so they ascend
