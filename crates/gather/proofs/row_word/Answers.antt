@@ -1,10 +1,6 @@
 -- `gather::row_word` meets its contract: the places passed are gathered. Assumes nothing.
-use Prim.Native.Nat.{◌-◌}
 use native.Mathlib.Omega.{arith}
-use lib.ListN.{length}
-use Rattle.relation.specs.Rows.{row_of}
-use Rattle.gather.specs.Places.{row_at}
-use Rattle.gather.proofs.Gathering.{PlacesSoFar, placed_none, bit-fits, placed_next, placed_all}
+use Rattle.gather.proofs.Gathering.{placed_none, bit-fits, placed_next, placed_all}
 use Rattle.gather.proofs.row_word.Goals as goal
 
 pub bit-requires : goal.bit-requires

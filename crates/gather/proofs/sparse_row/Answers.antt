@@ -1,10 +1,8 @@
 -- `gather::sparse_row` meets its contract: the words passed are filled. Assumes nothing.
-use Prim.Native.Nat.{◌-◌, ◌≤◌}
 use native.Mathlib.Omega.{arith}
 use Rattle.word.specs.Mask.{member}
-use Rattle.set.specs.Words.{words}
 use Rattle.relation.specs.Rows.{row_of}
-use Rattle.set.proofs.Sets.{PlacesFilled, places_start, places_next, places_all}
+use Rattle.set.proofs.Sets.{places_start, places_next, places_all}
 use borrow.Author.Rules.{rules}
 use Rattle.gather.proofs.sparse_row.Goals as goal
 
