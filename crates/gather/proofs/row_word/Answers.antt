@@ -17,7 +17,7 @@ pub loop-j-init : goal.loop-j-init
 loop-j-init c = placed_none
 
 pub overflow_cast-to : goal.overflow_cast-to
-overflow_cast-to c = omega (arith, c.shared_slice_known-in-loop-j-1.given c.loop-j.j)
+overflow_cast-to c = omega (arith, c.type_inv.to c.loop-j.j)
 
 pub returns : goal.returns
 returns c = placed_all c.loop-j.invariant c.loop-j-test.false

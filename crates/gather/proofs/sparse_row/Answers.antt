@@ -12,9 +12,6 @@ loop-w-init c = let a = c.args in (omega arith, places_start (member (row_of a.r
 pub row_word_at-requires : goal.row_word_at-requires
 row_word_at-requires c = (c.requires.0, c.requires.1, search rules)
 
-pub loop-w-smaller : goal.loop-w-smaller
-loop-w-smaller c = omega arith
-
 pub loop-w-preserved : goal.loop-w-preserved
 loop-w-preserved c =
     let a = c.args in
