@@ -1,6 +1,5 @@
 -- `excess::add_subsets` meets its contract: each pass joins one place more, and no sum is above that of all. Assumes nothing.
 use native.Mathlib.Omega.{arith}
-use borrow.Author.Rules.{rules}
 use Rattle.excess.proofs.Subsets.{JoinStage, stage-none, stage-next, stage-room, stage-all}
 use Rattle.excess.proofs.add_subsets.Goals as goal
 use Rattle.excess.proofs.add_subsets.Goals.{After-join, After-join-2, After-join-3}

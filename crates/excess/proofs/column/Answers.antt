@@ -1,9 +1,6 @@
 -- `excess::column` meets its contract: the places passed are gathered. Assumes nothing.
-use Prim.Native.Nat.{◌-◌}
 use native.Mathlib.Omega.{arith}
-use lib.ListN.{length, get_or}
-use Rattle.relation.specs.Related.{holds}
-use Rattle.gather.proofs.Gathering.{PlacesSoFar, placed_none, bit-fits, placed_next, placed_all}
+use Rattle.gather.proofs.Gathering.{placed_none, bit-fits, placed_next, placed_all}
 use Rattle.excess.proofs.column.Goals as goal
 
 pub bit-requires : goal.bit-requires

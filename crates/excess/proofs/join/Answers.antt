@@ -1,10 +1,8 @@
 -- `excess::join` meets its contract. The loop's invariant: the sets passed are joined, the others are as they were. Assumes nothing.
-use mathlib.Core.Path.{◌≡◌, refl}
-use Prim.Native.Nat.{◌-◌, ◌≤◌}
+use mathlib.Core.Path.{refl}
 use native.Mathlib.Omega.{arith}
-use lib.ListN.{length, length-set}
-use Rattle.excess.specs.Excess.{set_count}
-use Rattle.excess.proofs.Subsets.{JoinedBelow, joined-none, joined-here, joined-next, joined-all}
+use lib.ListN.{length-set}
+use Rattle.excess.proofs.Subsets.{joined-none, joined-here, joined-next, joined-all}
 use Rattle.excess.proofs.join.Goals as goal
 
 pub loop-k-init : goal.loop-k-init

@@ -1,7 +1,6 @@
 -- `excess::share` meets its contract. Assumes nothing.
 use mathlib.Core.Path.{refl, sym}
 use native.Mathlib.Omega.{arith}
-use borrow.Author.Rules.{rules}
 use Rattle.excess.proofs.Parts.{weight_past}
 use Rattle.excess.proofs.share.Goals as goal
 
