@@ -17,7 +17,7 @@ pub loop-i-init : goal.loop-i-init
 loop-i-init c = placed_none
 
 pub overflow_cast-from : goal.overflow_cast-from
-overflow_cast-from c = omega (arith, c.shared_slice_known-in-loop-i-1.given c.loop-i.i)
+overflow_cast-from c = omega (arith, c.type_inv.from c.loop-i.i)
 
 pub returns : goal.returns
 returns c = placed_all c.loop-i.invariant c.loop-i-test.false

@@ -21,7 +21,7 @@ pub loop-j-init : goal.loop-j-init
 loop-j-init c = summing_none c.requires.2
 
 pub overflow_cast-to : goal.overflow_cast-to
-overflow_cast-to c = omega (arith, c.shared_slice_known-in-loop-j-1.given c.loop-j.j)
+overflow_cast-to c = omega (arith, c.type_inv.to c.loop-j.j)
 
 pub shape_of-sums : goal.shape_of-sums
 shape_of-sums c = summing_size c.loop-j.invariant

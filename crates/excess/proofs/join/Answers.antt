@@ -8,12 +8,6 @@ use Rattle.excess.proofs.join.Goals as goal
 pub loop-k-init : goal.loop-k-init
 loop-k-init c = (omega arith, refl, joined-none)
 
-pub offset_bounds-sums-k : goal.offset_bounds-sums-k
-offset_bounds-sums-k c = omega arith
-
-pub bounds-sums-k : goal.bounds-sums-k
-bounds-sums-k c = omega arith
-
 pub without-requires : goal.without-requires
 without-requires c = (omega (arith, c.loop-k.invariant.1), omega arith, omega arith)
 
@@ -21,18 +15,6 @@ pub overflow_add-sums : goal.overflow_add-sums
 overflow_add-sums c =
     let h = joined-here c.loop-k.invariant.2 c.without.ensures in
     omega (arith, h, c.requires.2 c.loop-k.k (omega arith))
-
-pub offset_bounds-sums-k-in-loop-k : goal.offset_bounds-sums-k-in-loop-k
-offset_bounds-sums-k-in-loop-k c = omega arith
-
-pub bounds-sums-k-in-loop-k : goal.bounds-sums-k-in-loop-k
-bounds-sums-k-in-loop-k c = omega arith
-
-pub overflow_step-k : goal.overflow_step-k
-overflow_step-k c = omega arith
-
-pub loop-k-smaller : goal.loop-k-smaller
-loop-k-smaller c = omega arith
 
 pub loop-k-preserved : goal.loop-k-preserved
 loop-k-preserved c =
