@@ -1,9 +1,7 @@
 -- `between::row_word` meets its contract. The loop's invariant: the set holds the positions passed that s is related to. Assumes nothing.
-use mathlib.Core.Path.{◌≡◌, ◌∙◌, ap}
-use Prim.Native.Nat.{◌≤◌, ◌-◌}
+use mathlib.Core.Path.{◌∙◌, ap}
 use native.Mathlib.Omega.{arith}
-use lib.ListN.{length}
-use Rattle.word.specs.Mask.{member, part}
+use Rattle.word.specs.Mask.{part}
 use Rattle.word.proofs.Mask.{part-start, part-bit}
 use Rattle.simulation.proofs.Finite.Sums.{one-most}
 use Rattle.relate.specs.Rows.{ranked_row}

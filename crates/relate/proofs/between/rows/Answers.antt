@@ -1,8 +1,7 @@
 -- `between::rows` meets its contract. The loop's invariant: the rows passed are written. Assumes nothing.
 use mathlib.Core.Path.{subst, sym}
-use Prim.Native.Nat.{◌≤◌, ◌-◌, ◌+◌}
+use Prim.Native.Nat.{◌+◌}
 use native.Mathlib.Omega.{arith}
-use lib.ListN.{length}
 use Rattle.relate.proofs.Laws.{Done, done-start, done_next, done-rows}
 use Rattle.relate.proofs.between.rows.Goals as goal
 
@@ -34,10 +33,10 @@ loop-i-smaller c = omega arith
 
 pub loop-i-preserved : goal.loop-i-preserved
 loop-i-preserved c = let a = c.args in (
-      omega arith,
-      subst (Done a.ranks.now a.width a.r a.mt.now a.nt.now a.rel.now (c.loop-i.i + 1)) (sym c.put.ensures)
-          (done_next a.ranks.now a.width a.r a.mt.now a.nt.now a.rel.now c.loop-i.i c.row.result c.loop-i.rel (omega arith) c.loop-i.invariant.1 c.row.ensures),
-    )
+  omega arith,
+  subst (Done a.ranks.now a.width a.r a.mt.now a.nt.now a.rel.now (c.loop-i.i + 1)) (sym c.put.ensures)
+      (done_next a.ranks.now a.width a.r a.mt.now a.nt.now a.rel.now c.loop-i.i c.row.result c.loop-i.rel (omega arith) c.loop-i.invariant.1 c.row.ensures),
+)
 
 pub shape_of-rel : goal.shape_of-rel
 shape_of-rel c = c.loop-i.invariant.1.size
