@@ -20,9 +20,6 @@ row_word-requires c =
       indexed_take a.ranks.now a.width a.s (drop from a.nt.now) (c.start-in-loop-w.result - from) (indexed_drop a.ranks.now a.width a.s a.nt.now from c.requires.1),
     )
 
-pub loop-w-smaller : goal.loop-w-smaller
-loop-w-smaller c = omega arith
-
 pub loop-w-preserved : goal.loop-w-preserved
 loop-w-preserved c =
     let a = c.args in

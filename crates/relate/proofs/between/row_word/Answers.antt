@@ -10,12 +10,6 @@ use Rattle.relate.proofs.between.row_word.Goals as goal
 pub loop-j-init : goal.loop-j-init
 loop-j-init c = (omega arith, part-start _)
 
-pub offset_bounds-nt-j : goal.offset_bounds-nt-j
-offset_bounds-nt-j c = omega arith
-
-pub bounds-nt-j : goal.bounds-nt-j
-bounds-nt-j c = omega arith
-
 pub overflow_cast-t : goal.overflow_cast-t
 overflow_cast-t c = omega (arith, c.shared_slice_known-in-loop-j-1.given c.loop-j.j)
 
@@ -31,19 +25,10 @@ offset_bounds-ranks-s c = omega (arith, c.requires.1 c.loop-j.j (omega arith))
 pub bounds-ranks-s : goal.bounds-ranks-s
 bounds-ranks-s c = omega (arith, c.requires.1 c.loop-j.j (omega arith))
 
-pub lasts-requires : goal.lasts-requires
-lasts-requires c = tt
-
 pub with_bit-set-requires : goal.with_bit-set-requires
 with_bit-set-requires c =
     let a = c.args in
     (omega arith, omega (arith, c.lasts.ensures, one-most (ranked_row a.ranks.now a.width a.r a.s a.nt.now c.loop-j.j)))
-
-pub overflow_step-j : goal.overflow_step-j
-overflow_step-j c = omega arith
-
-pub loop-j-smaller : goal.loop-j-smaller
-loop-j-smaller c = omega arith
 
 pub loop-j-preserved : goal.loop-j-preserved
 loop-j-preserved c = let a = c.args in

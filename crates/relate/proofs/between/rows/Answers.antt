@@ -9,12 +9,6 @@ pub loop-i-init : goal.loop-i-init
 loop-i-init c = let a = c.args in
     (omega arith, done-start a.ranks.now a.width a.r a.mt.now a.nt.now a.rel.now)
 
-pub offset_bounds-mt-i : goal.offset_bounds-mt-i
-offset_bounds-mt-i c = omega arith
-
-pub bounds-mt-i : goal.bounds-mt-i
-bounds-mt-i c = omega arith
-
 pub overflow_cast-s : goal.overflow_cast-s
 overflow_cast-s c = omega (arith, c.shared_slice_known-in-loop-i-1.given c.loop-i.i)
 
@@ -24,12 +18,6 @@ row-requires c = let p = c.requires in
 
 pub put-requires : goal.put-requires
 put-requires c = omega (arith, c.loop-i.invariant.1.size)
-
-pub overflow_step-i : goal.overflow_step-i
-overflow_step-i c = omega arith
-
-pub loop-i-smaller : goal.loop-i-smaller
-loop-i-smaller c = omega arith
 
 pub loop-i-preserved : goal.loop-i-preserved
 loop-i-preserved c = let a = c.args in (
