@@ -11,7 +11,7 @@ pub loop-j-init : goal.loop-j-init
 loop-j-init c = (omega arith, part-start _)
 
 pub overflow_cast-t : goal.overflow_cast-t
-overflow_cast-t c = omega (arith, c.shared_slice_known-in-loop-j-1.given c.loop-j.j)
+overflow_cast-t c = omega (arith, c.type_inv.nt c.loop-j.j)
 
 pub overflow_mul-rank : goal.overflow_mul-rank
 overflow_mul-rank c = omega (arith, c.requires.1 c.loop-j.j (omega arith))

@@ -10,7 +10,7 @@ loop-i-init c = let a = c.args in
     (omega arith, done-start a.ranks.now a.width a.r a.mt.now a.nt.now a.rel.now)
 
 pub overflow_cast-s : goal.overflow_cast-s
-overflow_cast-s c = omega (arith, c.shared_slice_known-in-loop-i-1.given c.loop-i.i)
+overflow_cast-s c = omega (arith, c.type_inv.mt c.loop-i.i)
 
 pub row-requires : goal.row-requires
 row-requires c = let p = c.requires in
