@@ -1,5 +1,4 @@
 -- `bounds::by_bounds` meets its contract: a member of a difference is the witness. Assumes nothing.
-use borrow.Author.Rules.{rules}
 use Rattle.set.specs.Words.{mask}
 use Rattle.set.proofs.Sets.{mask_lt, is_none, not_some}
 use Rattle.bounds.proofs.Covering.{outside-member, covered}

@@ -1,9 +1,7 @@
 -- `bounds::common` meets its contract: `every` has what the targets passed are all related to. Assumes nothing.
-use Prim.Native.Nat.{◌-◌, ◌≤◌}
 use native.Mathlib.Omega.{arith}
-use lib.ListN.{length}
 use Rattle.set.specs.Words.{mask}
-use Rattle.bounds.proofs.Covering.{CommonSoFar, common_start, common_next, common_end}
+use Rattle.bounds.proofs.Covering.{common_start, common_next, common_end}
 use Rattle.bounds.proofs.common.Goals as goal
 
 pub below-every-requires : goal.below-every-requires

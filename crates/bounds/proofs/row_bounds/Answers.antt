@@ -1,9 +1,7 @@
 -- `bounds::row_bounds` meets its contract: `some` and `every` bound the targets passed. Assumes nothing.
-use Prim.Native.Nat.{◌-◌, ◌≤◌}
 use native.Mathlib.Omega.{arith}
-use lib.ListN.{length}
 use Rattle.set.specs.Words.{mask}
-use Rattle.bounds.proofs.Covering.{BoundsSoFar, passed_start, passed-next, passed-all}
+use Rattle.bounds.proofs.Covering.{passed_start, passed-next, passed-all}
 use Rattle.bounds.proofs.row_bounds.Goals as goal
 
 pub empty-some-requires : goal.empty-some-requires
