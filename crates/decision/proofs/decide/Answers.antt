@@ -1,6 +1,5 @@
 -- `decision::decide` meets its contract: a target of m that is related to none of n is a misfit. Assumes nothing.
 use mathlib.Core.Path.{sym, subst}
-use borrow.Author.Rules.{rules}
 use borrow.Author.Tests.{not-true}
 use Rattle.relation.specs.Rows.{height}
 use Rattle.gather.specs.Places.{Places}

@@ -1,7 +1,6 @@
 -- `decision::flow_over` meets its contract: the kernel decides over the gathered rows, and its amounts share out. Assumes nothing.
 use mathlib.Core.Path.{sym, ap, subst}
 use native.Mathlib.Omega.{arith}
-use borrow.Author.Rules.{rules}
 use lib.ListN.{length}
 use Rattle.simulation.specs.Limits.{most_states}
 use Rattle.simulation.specs.Fit.{total}
