@@ -1,4 +1,6 @@
 // What the related states tell of a fit by sets alone, before any weight is looked at.
+#![tactic(auto)]
+
 ghost use Rattle.std.specs.Prelude.{false, ◌≡◌, ℕ, ◌<◌, length};
 ghost use Rattle.simulation.specs.Sum.{all_of};
 ghost use Rattle.simulation.specs.Limits.{most_states};

@@ -1,6 +1,8 @@
 // The north-west corner rule: the first target of one side sends to the first of the other until one of the two is done, and so on.
 // It takes no memory and at most one step for each target. It shares two distributions out if it meets related pairs alone; near copies
 // mostly pass.
+#![tactic(auto)]
+
 ghost use Rattle.std.specs.Prelude.{◌≡◌, true};
 ghost use Rattle.simulation.specs.Fit.{fits?};
 ghost use Rattle.matrix.specs.Problem.{Sides, joins};

@@ -1,4 +1,6 @@
 // Whether a transition of one table fits a transition of the other in a relation held as rows, whatever their codes.
+#![tactic(auto)]
+
 ghost use Rattle.std.specs.Prelude.{◌≡◌, ◌≤◌, ◌*◌, length};
 ghost use Rattle.simulation.specs.Limits.{most_states};
 ghost use Rattle.simulation.specs.Table.{targets};

@@ -1,5 +1,7 @@
 // Whether one distribution fits another, decided by all sets of targets of a side that has few: no flow is needed.
 // A set of places is a number, and place i is a member if bit i is one.
+#![tactic(auto)]
+
 ghost use Rattle.std.specs.Prelude.{◌≡◌, ℕ, ◌+◌, ◌-◌, ◌*◌, ◌^◌, ◌≤◌, ◌<◌, length, get_or, set};
 ghost use Rattle.simulation.specs.Limits.{most_states};
 ghost use Rattle.simulation.specs.Sum.{sum, when};

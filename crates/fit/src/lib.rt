@@ -1,4 +1,6 @@
 // Whether a transition of one table fits a transition of the other, or some like-coded transition of a state, in a relation held as rows.
+#![tactic(auto)]
+
 pub mod ranked;
 
 ghost use Rattle.std.specs.Prelude.{◌≡◌, true, ◌<◌, ◌≤◌};

@@ -1,4 +1,6 @@
 // The decoded form of a table: one slice of 16-bit numbers, in compressed sparse rows, that all later code reads.
+#![tactic(auto)]
+
 pub mod tables;
 
 use simulation::Table;

@@ -1,4 +1,6 @@
 // Rows of a relation by the positions of targets: what a flow between two transitions works on.
+#![tactic(auto)]
+
 ghost use Rattle.std.specs.Prelude.{◌≡◌, ◌<◌, ◌≤◌, ◌+◌, ◌*◌, length};
 ghost use Rattle.simulation.specs.Limits.{most_states};
 ghost use Rattle.word.specs.Mask.{member, part, word_bits};

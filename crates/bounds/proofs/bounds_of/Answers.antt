@@ -1,6 +1,5 @@
 -- `bounds::bounds_of` meets its contract: all states, and none, are bounds of any targets. Assumes nothing.
 use Rattle.bounds.proofs.Covering.{bounds_of_all}
-use borrow.Author.Rules.{rules}
 use Rattle.bounds.proofs.bounds_of.Goals as goal
 
 pub returns-then-from-gt-MANY : goal.returns-then-from-gt-MANY

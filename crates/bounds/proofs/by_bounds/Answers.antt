@@ -1,7 +1,6 @@
 -- `bounds::by_bounds` meets its contract: a member of a difference is the witness. Assumes nothing.
-use borrow.Author.Rules.{rules}
 use Rattle.set.specs.Words.{mask}
-use Rattle.set.proofs.Sets.{mask_lt, is_none, not_some}
+use Rattle.set.proofs.Sets.{mask_lt, is_none, is_some}
 use Rattle.bounds.proofs.Covering.{outside-member, covered}
 use Rattle.bounds.proofs.by_bounds.Goals as goal
 
@@ -15,4 +14,4 @@ pub returns-then-not-is_empty : goal.returns-then-not-is_empty
 returns-then-not-is_empty c =
     let a = c.args in
     let d = c.difference-2 in
-    outside-member (mask a.to) (mask a.known.some) (mask d.result) (mask_lt d.result) (not_some c.is_empty-2.ensures c.if-not-is_empty.true-raw) d.ensures
+    outside-member (mask a.to) (mask a.known.some) (mask d.result) (mask_lt d.result) (is_some c.is_empty-2.ensures c.if-not-is_empty.true) d.ensures

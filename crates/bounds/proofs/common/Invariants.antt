@@ -1,9 +1,8 @@
 -- `bounds::common` meets its contract: `every` has what the targets passed are all related to. Assumes nothing.
 use Prim.Native.Nat.{◌-◌, ◌≤◌}
-use native.Mathlib.Omega.{arith}
 use lib.ListN.{length}
 use Rattle.set.specs.Words.{mask}
-use Rattle.bounds.proofs.Covering.{CommonSoFar, common_start, common_next, common_end}
+use Rattle.bounds.proofs.Covering.{CommonSoFar}
 use Rattle.bounds.proofs.common.Given as goal
 
 abbrev pub invariant-loop-i : goal.invariant-loop-i

@@ -1,43 +1,17 @@
 -- `bounds::row_bounds` meets its contract: `some` and `every` bound the targets passed. Assumes nothing.
-use Prim.Native.Nat.{◌-◌, ◌≤◌}
 use native.Mathlib.Omega.{arith}
-use lib.ListN.{length}
 use Rattle.set.specs.Words.{mask}
-use Rattle.bounds.proofs.Covering.{BoundsSoFar, passed_start, passed-next, passed-all}
+use Rattle.bounds.proofs.Covering.{passed_start, passed-next, passed-all}
 use Rattle.bounds.proofs.row_bounds.Goals as goal
-
-pub empty-some-requires : goal.empty-some-requires
-empty-some-requires c = tt
-
-pub below-every-requires : goal.below-every-requires
-below-every-requires c = omega arith
 
 pub loop-i-init : goal.loop-i-init
 loop-i-init c = let a = c.args in (omega arith, passed_start a.rows.now a.from.now _ _)
 
-pub offset_bounds-from-i : goal.offset_bounds-from-i
-offset_bounds-from-i c = omega arith
-
-pub bounds-from-i : goal.bounds-from-i
-bounds-from-i c = omega arith
-
 pub overflow_cast-from : goal.overflow_cast-from
-overflow_cast-from c = omega (arith, c.shared_slice_known-in-loop-i-1.given c.loop-i.i)
+overflow_cast-from c = omega (arith, c.type_inv.from c.loop-i.i)
 
 pub get-near-requires : goal.get-near-requires
 get-near-requires c = c.requires.below c.loop-i.i (omega arith)
-
-pub union-some-requires : goal.union-some-requires
-union-some-requires c = tt
-
-pub intersection-every-requires : goal.intersection-every-requires
-intersection-every-requires c = tt
-
-pub overflow_add-i : goal.overflow_add-i
-overflow_add-i c = omega arith
-
-pub loop-i-smaller : goal.loop-i-smaller
-loop-i-smaller c = omega arith
 
 pub loop-i-preserved : goal.loop-i-preserved
 loop-i-preserved c =

@@ -1,9 +1,8 @@
 -- `bounds::row_bounds` meets its contract: `some` and `every` bound the targets passed. Assumes nothing.
 use Prim.Native.Nat.{◌-◌, ◌≤◌}
-use native.Mathlib.Omega.{arith}
 use lib.ListN.{length}
 use Rattle.set.specs.Words.{mask}
-use Rattle.bounds.proofs.Covering.{BoundsSoFar, passed_start, passed-next, passed-all}
+use Rattle.bounds.proofs.Covering.{BoundsSoFar}
 use Rattle.bounds.proofs.row_bounds.Given as goal
 
 abbrev pub invariant-loop-i : goal.invariant-loop-i

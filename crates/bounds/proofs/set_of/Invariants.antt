@@ -1,11 +1,8 @@
 -- `bounds::set_of` meets its contract: the set has the targets passed. Assumes nothing.
-use mathlib.Core.Path.{sym, subst}
 use Prim.Native.Nat.{◌-◌, ◌≤◌}
-use native.Mathlib.Omega.{arith}
 use lib.ListN.{length}
 use Rattle.set.specs.Words.{mask}
 use Rattle.bounds.specs.Quick.{SetOf}
-use Rattle.bounds.proofs.Members.{set-start, set_next}
 use Rattle.bounds.proofs.set_of.Given as goal
 
 abbrev pub invariant-loop-i : goal.invariant-loop-i

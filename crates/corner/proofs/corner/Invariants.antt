@@ -1,15 +1,8 @@
 -- `corner::corner` meets its contract: the loop's turns are those of `Turn`, over the lists and sums of the code. Assumes nothing.
-use mathlib.Core.Path.{◌≡◌, ap}
-use mathlib.Core.Bool.{Bool}
-use Prim.Native.Nat.{ℕ, ◌+◌, ◌-◌, ◌*◌, ◌<◌, ◌^◌}
-use native.Mathlib.Omega.{arith}
-use lib.Bits.{bit_and}
-use lib.Dec.{eqb→eq}
+use Prim.Native.Nat.{◌+◌, ◌-◌}
 use lib.ListN.{length}
-use Rattle.simulation.specs.Fit.{weight, total}
-use Rattle.simulation.proofs.Finite.Tests.{true_T}
 use Rattle.matrix.specs.Problem.{joins}
-use Rattle.corner.proofs.Turn.{RuleAt, Turn, start, all-passed, row_fits, column_fits, turn, both-done, row_done, column-done}
+use Rattle.corner.proofs.Turn.{RuleAt}
 use Rattle.corner.proofs.corner.Given as goal
 
 abbrev pub invariant-loop-i : goal.invariant-loop-i

@@ -4,7 +4,6 @@ use mathlib.Core.Bool.{Bool}
 use mathlib.Core.List.{List}
 use Prim.Native.Nat.{ℕ}
 use native.Mathlib.Omega.{arith}
-use borrow.Author.Rules.{rules}
 use Rattle.simulation.specs.Fit.{fits?}
 use Rattle.matrix.specs.Problem.{Sides, joins}
 use Rattle.decision.specs.Fitting.{fitting}

@@ -1,7 +1,6 @@
 -- `decision::by_flow` meets its contract: there are rows enough for the targets. Assumes nothing.
 use mathlib.Core.Path.{ap}
 use native.Mathlib.Omega.{arith}
-use borrow.Author.Rules.{rules}
 use lib.ListN.{length}
 use Rattle.decision.proofs.Fitting.{first_places}
 use Rattle.decision.proofs.by_flow.Goals as goal

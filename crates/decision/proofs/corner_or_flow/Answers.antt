@@ -1,6 +1,5 @@
 -- `decision::corner_or_flow` meets its contract: what the corner rule shows of the targets and weights holds of the transitions. Assumes nothing.
 use mathlib.Core.Path.{sym}
-use borrow.Author.Rules.{rules}
 use Rattle.decision.proofs.Fitting.{sides_of, by_sides}
 use Rattle.decision.proofs.corner_or_flow.Goals as goal
 

@@ -1,7 +1,5 @@
 -- `decision::decide` meets its contract: a target of m that is related to none of n is a misfit. Assumes nothing.
 use mathlib.Core.Path.{sym, subst}
-use borrow.Author.Rules.{rules}
-use borrow.Author.Tests.{not-true}
 use Rattle.relation.specs.Rows.{height}
 use Rattle.gather.specs.Places.{Places}
 use Rattle.decision.proofs.Fitting.{first_places, row_misfits}
@@ -13,4 +11,4 @@ meets-requires c =
 
 pub returns-then-not-meets : goal.returns-then-not-meets
 returns-then-not-meets c =
-    row_misfits c.requires.0 c.requires.1 c.targets-from.ensures (c.meets.ensures (not-true _ c.if-not-meets.true-raw))
+    row_misfits c.requires.0 c.requires.1 c.targets-from.ensures (c.meets.ensures c.if-not-meets.true)

@@ -1,7 +1,6 @@
 -- `decision::flow_over` meets its contract: the kernel decides over the gathered rows, and its amounts share out. Assumes nothing.
 use mathlib.Core.Path.{sym, ap, subst}
 use native.Mathlib.Omega.{arith}
-use borrow.Author.Rules.{rules}
 use lib.ListN.{length}
 use Rattle.simulation.specs.Limits.{most_states}
 use Rattle.simulation.specs.Fit.{total}
@@ -33,7 +32,7 @@ maximum_flow-flow-requires c =
     record {
       few_rows = omega (arith, ap length e, m.few);
       few_columns = omega (arith, ap length u, v.few);
-      masks = omega (arith, ap length e, m.paired, c.requires.1, c.rel-1.given);
+      masks = omega (arith, ap length e, m.paired, c.requires.1, c.gather_rows.auto.rel);
       cells = q.amounts_room;
       total_ws = omega (arith, ap total e, m.total-small);
       total_vs = omega (arith, ap total u, v.total-small);

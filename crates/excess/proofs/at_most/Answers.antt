@@ -1,14 +1,14 @@
 -- `excess::at_most` meets its contract. The loop's invariant: no set passed has more than it may. Assumes nothing.
 use mathlib.Core.Path.{sym}
 use mathlib.Core.Bool.{true≢false}
-use Prim.Native.Nat.{ℕ, ◌-◌, ◌≤◌, ◌<◌}
+use Prim.Native.Nat.{ℕ, ◌≤◌}
 use native.Mathlib.Nat.{not-suc-le-zero}
 use native.Mathlib.Omega.{arith}
 use lib.ListN.{get_or}
 use Rattle.simulation.specs.Sum.{when}
 use Rattle.simulation.proofs.Finite.Sums.{when-most}
 use Rattle.word.specs.Mask.{member}
-use Rattle.excess.specs.Excess.{set_count, parts}
+use Rattle.excess.specs.Excess.{parts}
 use Rattle.excess.proofs.Parts.{and_here}
 use Rattle.excess.proofs.at_most.Goals as goal
 use Rattle.excess.proofs.at_most.Goals.{At-loop-k}
@@ -22,43 +22,19 @@ each-most l = let k = l.loop-k.k in let g = l.args in
 pub loop-k-init : goal.loop-k-init
 loop-k-init c = (omega arith, λ s lt. absurd (not-suc-le-zero lt))
 
-pub if_member-requires : goal.if_member-requires
-if_member-requires c = omega arith
-
-pub if_member-requires-in-loop-k : goal.if_member-requires-in-loop-k
-if_member-requires-in-loop-k c = omega arith
-
 pub overflow_add-most : goal.overflow_add-most
 overflow_add-most c = omega (arith, each-most (goal.at.overflow_add-most c).At-loop-k)
-
-pub if_member-requires-in-loop-k-2 : goal.if_member-requires-in-loop-k-2
-if_member-requires-in-loop-k-2 c = omega arith
 
 pub overflow_add-most-in-loop-k : goal.overflow_add-most-in-loop-k
 overflow_add-most-in-loop-k c = omega (arith, each-most (goal.at.overflow_add-most-in-loop-k c).At-loop-k)
 
-pub if_member-requires-in-loop-k-3 : goal.if_member-requires-in-loop-k-3
-if_member-requires-in-loop-k-3 c = omega arith
-
 pub overflow_add-most-in-loop-k-2 : goal.overflow_add-most-in-loop-k-2
 overflow_add-most-in-loop-k-2 c = omega (arith, each-most (goal.at.overflow_add-most-in-loop-k-2 c).At-loop-k)
-
-pub offset_bounds-sums-k : goal.offset_bounds-sums-k
-offset_bounds-sums-k c = omega arith
-
-pub bounds-sums-k : goal.bounds-sums-k
-bounds-sums-k c = omega arith
 
 pub returns-then-most-sums : goal.returns-then-most-sums
 returns-then-most-sums c =
     let k = c.loop-k.k in
     record { yes = λ e. absurd (true≢false (sym e)); no = λ e. (k, omega arith, omega arith) }
-
-pub overflow_step-k : goal.overflow_step-k
-overflow_step-k c = omega arith
-
-pub loop-k-smaller : goal.loop-k-smaller
-loop-k-smaller c = omega arith
 
 pub loop-k-preserved : goal.loop-k-preserved
 loop-k-preserved c =

@@ -1,7 +1,6 @@
 -- `excess::by_columns` meets its contract: the sums by rows decide the question turned round.
 -- Assumes nothing.
 use mathlib.Core.Path.{◌∙◌}
-use borrow.Author.Rules.{rules}
 use lib.ListN.{length}
 use Rattle.matrix.specs.Problem.{joins}
 use Rattle.excess.proofs.Hall.{FewSide, few_side, has_room, decides, fits_turned}

@@ -1,6 +1,5 @@
 -- `excess::by_rows` meets its contract: the sums by columns decide.
 -- Assumes nothing.
-use borrow.Author.Rules.{rules}
 use lib.ListN.{length}
 use Rattle.matrix.specs.Problem.{joins}
 use Rattle.excess.proofs.Hall.{FewSide, few_side, has_room, decides}

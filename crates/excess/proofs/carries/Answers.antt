@@ -1,7 +1,6 @@
 -- `excess::carries` meets its contract. Assumes nothing.
 use Prim.Native.Nat.{ℕ, ◌*◌, ◌<◌, ◌^◌}
 use native.Mathlib.Omega.{arith}
-use borrow.Author.Rules.{rules}
 use Rattle.simulation.specs.Fit.{weight}
 use Rattle.excess.proofs.Parts.{share_room, all-parts, carries_is}
 use Rattle.excess.proofs.carries.Goals as goal

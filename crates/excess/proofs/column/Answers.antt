@@ -1,9 +1,6 @@
 -- `excess::column` meets its contract: the places passed are gathered. Assumes nothing.
-use Prim.Native.Nat.{◌-◌}
 use native.Mathlib.Omega.{arith}
-use lib.ListN.{length, get_or}
-use Rattle.relation.specs.Related.{holds}
-use Rattle.gather.proofs.Gathering.{PlacesSoFar, placed_none, bit-fits, placed_next, placed_all}
+use Rattle.gather.proofs.Gathering.{placed_none, bit-fits, placed_next, placed_all}
 use Rattle.excess.proofs.column.Goals as goal
 
 pub bit-requires : goal.bit-requires
@@ -20,7 +17,7 @@ pub loop-i-init : goal.loop-i-init
 loop-i-init c = placed_none
 
 pub overflow_cast-from : goal.overflow_cast-from
-overflow_cast-from c = omega (arith, c.shared_slice_known-in-loop-i-1.given c.loop-i.i)
+overflow_cast-from c = omega (arith, c.type_inv.from c.loop-i.i)
 
 pub returns : goal.returns
 returns c = placed_all c.loop-i.invariant c.loop-i-test.false

@@ -1,9 +1,8 @@
 -- `excess::column` meets its contract: the places passed are gathered. Assumes nothing.
 use Prim.Native.Nat.{◌-◌}
-use native.Mathlib.Omega.{arith}
 use lib.ListN.{length, get_or}
 use Rattle.relation.specs.Related.{holds}
-use Rattle.gather.proofs.Gathering.{PlacesSoFar, placed_none, bit-fits, placed_next, placed_all}
+use Rattle.gather.proofs.Gathering.{PlacesSoFar}
 use Rattle.excess.proofs.column.Given as goal
 
 abbrev pub invariant-loop-i : goal.invariant-loop-i

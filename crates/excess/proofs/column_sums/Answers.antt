@@ -1,10 +1,7 @@
 -- `excess::column_sums` meets its contract: the weights passed are gathered.
 -- Assumes nothing.
-use Prim.Native.Nat.{◌-◌}
 use native.Mathlib.Omega.{arith}
-use lib.ListN.{length}
-use Rattle.matrix.specs.Problem.{joins}
-use Rattle.excess.proofs.Gathering.{Summing, summing_none, summing_size, summing_room, summing_next, summing_all}
+use Rattle.excess.proofs.Gathering.{summing_none, summing_size, summing_room, summing_next, summing_all}
 use Rattle.excess.proofs.column_sums.Goals as goal
 
 pub column-at-requires : goal.column-at-requires
@@ -24,7 +21,7 @@ pub loop-j-init : goal.loop-j-init
 loop-j-init c = summing_none c.requires.2
 
 pub overflow_cast-to : goal.overflow_cast-to
-overflow_cast-to c = omega (arith, c.shared_slice_known-in-loop-j-1.given c.loop-j.j)
+overflow_cast-to c = omega (arith, c.type_inv.to c.loop-j.j)
 
 pub shape_of-sums : goal.shape_of-sums
 shape_of-sums c = summing_size c.loop-j.invariant

@@ -1,6 +1,5 @@
 -- `excess::if_member` meets its contract. Assumes nothing.
 use native.Mathlib.Omega.{arith}
-use borrow.Author.Rules.{rules}
 use Rattle.simulation.proofs.Finite.Sums.{when-most}
 use Rattle.word.specs.Mask.{member}
 use Rattle.excess.proofs.Parts.{digit_times}

@@ -1,20 +1,12 @@
 -- `excess::join` meets its contract. The loop's invariant: the sets passed are joined, the others are as they were. Assumes nothing.
-use mathlib.Core.Path.{◌≡◌, refl}
-use Prim.Native.Nat.{◌-◌, ◌≤◌}
+use mathlib.Core.Path.{refl}
 use native.Mathlib.Omega.{arith}
-use lib.ListN.{length, length-set}
-use Rattle.excess.specs.Excess.{set_count}
-use Rattle.excess.proofs.Subsets.{JoinedBelow, joined-none, joined-here, joined-next, joined-all}
+use lib.ListN.{length-set}
+use Rattle.excess.proofs.Subsets.{joined-none, joined-here, joined-next, joined-all}
 use Rattle.excess.proofs.join.Goals as goal
 
 pub loop-k-init : goal.loop-k-init
 loop-k-init c = (omega arith, refl, joined-none)
-
-pub offset_bounds-sums-k : goal.offset_bounds-sums-k
-offset_bounds-sums-k c = omega arith
-
-pub bounds-sums-k : goal.bounds-sums-k
-bounds-sums-k c = omega arith
 
 pub without-requires : goal.without-requires
 without-requires c = (omega (arith, c.loop-k.invariant.1), omega arith, omega arith)
@@ -23,18 +15,6 @@ pub overflow_add-sums : goal.overflow_add-sums
 overflow_add-sums c =
     let h = joined-here c.loop-k.invariant.2 c.without.ensures in
     omega (arith, h, c.requires.2 c.loop-k.k (omega arith))
-
-pub offset_bounds-sums-k-in-loop-k : goal.offset_bounds-sums-k-in-loop-k
-offset_bounds-sums-k-in-loop-k c = omega arith
-
-pub bounds-sums-k-in-loop-k : goal.bounds-sums-k-in-loop-k
-bounds-sums-k-in-loop-k c = omega arith
-
-pub overflow_step-k : goal.overflow_step-k
-overflow_step-k c = omega arith
-
-pub loop-k-smaller : goal.loop-k-smaller
-loop-k-smaller c = omega arith
 
 pub loop-k-preserved : goal.loop-k-preserved
 loop-k-preserved c =

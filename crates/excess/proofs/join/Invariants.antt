@@ -1,10 +1,9 @@
 -- `excess::join` meets its contract. The loop's invariant: the sets passed are joined, the others are as they were. Assumes nothing.
-use mathlib.Core.Path.{◌≡◌, refl}
+use mathlib.Core.Path.{◌≡◌}
 use Prim.Native.Nat.{◌-◌, ◌≤◌}
-use native.Mathlib.Omega.{arith}
-use lib.ListN.{length, length-set}
+use lib.ListN.{length}
 use Rattle.excess.specs.Excess.{set_count}
-use Rattle.excess.proofs.Subsets.{JoinedBelow, joined-none, joined-here, joined-next, joined-all}
+use Rattle.excess.proofs.Subsets.{JoinedBelow}
 use Rattle.excess.proofs.join.Given as goal
 
 abbrev pub invariant-loop-k : goal.invariant-loop-k

@@ -1,10 +1,7 @@
 -- `excess::row_sums` meets its contract: the weights passed are gathered.
 -- Assumes nothing.
-use Prim.Native.Nat.{◌-◌}
 use native.Mathlib.Omega.{arith}
-use lib.ListN.{length}
-use Rattle.matrix.specs.Problem.{joins}
-use Rattle.excess.proofs.Gathering.{Summing, summing_none, summing_size, summing_room, summing_next, summing_all}
+use Rattle.excess.proofs.Gathering.{summing_none, summing_size, summing_room, summing_next, summing_all}
 use Rattle.excess.proofs.row_sums.Goals as goal
 
 pub row_word-at-requires : goal.row_word-at-requires
@@ -24,7 +21,7 @@ pub loop-i-init : goal.loop-i-init
 loop-i-init c = summing_none c.requires.2
 
 pub overflow_cast-from : goal.overflow_cast-from
-overflow_cast-from c = omega (arith, c.shared_slice_known-in-loop-i-1.given c.loop-i.i)
+overflow_cast-from c = omega (arith, c.type_inv.from c.loop-i.i)
 
 pub shape_of-sums : goal.shape_of-sums
 shape_of-sums c = summing_size c.loop-i.invariant

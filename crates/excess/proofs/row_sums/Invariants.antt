@@ -1,10 +1,9 @@
 -- `excess::row_sums` meets its contract: the weights passed are gathered.
 -- Assumes nothing.
 use Prim.Native.Nat.{◌-◌}
-use native.Mathlib.Omega.{arith}
 use lib.ListN.{length}
 use Rattle.matrix.specs.Problem.{joins}
-use Rattle.excess.proofs.Gathering.{Summing, summing_none, summing_size, summing_room, summing_next, summing_all}
+use Rattle.excess.proofs.Gathering.{Summing}
 use Rattle.excess.proofs.row_sums.Given as goal
 
 abbrev pub invariant-loop-i : goal.invariant-loop-i

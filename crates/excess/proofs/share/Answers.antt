@@ -1,15 +1,11 @@
 -- `excess::share` meets its contract. Assumes nothing.
-use mathlib.Core.Path.{refl, sym}
+use mathlib.Core.Path.{sym}
 use native.Mathlib.Omega.{arith}
-use borrow.Author.Rules.{rules}
 use Rattle.excess.proofs.Parts.{weight_past}
 use Rattle.excess.proofs.share.Goals as goal
 
 pub overflow_cast-result : goal.overflow_cast-result
-overflow_cast-result c = omega (arith, c.shared_slice_known-1.given c.args.i)
-
-pub returns-then-i-w : goal.returns-then-i-w
-returns-then-i-w c = refl
+overflow_cast-result c = omega (arith, c.type_inv.w c.args.i)
 
 pub returns : goal.returns
 returns c = let a = c.args in sym (weight_past a.t a.w.now a.i (omega arith))

@@ -1,18 +1,13 @@
 -- `fit::first_fit` meets its contract. The loop's invariant: none of the transitions passed fits, and the one reached has the code.
 -- Assumes nothing.
-use mathlib.Core.Path.{◌≡◌, refl, ◌∙◌}
+use mathlib.Core.Path.{◌≡◌}
 use mathlib.Core.Bool.{true}
 use Prim.Native.Nat.{◌+◌, ◌-◌, ◌≤◌, ◌<◌}
-use native.Mathlib.Omega.{arith}
-use borrow.Author.Tests.{not-true, not-false}
 use lib.Dec.{eqb}
 use lib.ListN.{length}
 use Rattle.form.specs.Form.{start_of}
 use Rattle.form.specs.Tables.{second_form, second_step}
-use Rattle.form.proofs.FormLaws.{limits}
-use Rattle.fit.specs.Held.{fits_step_at}
-use Rattle.fit.proofs.Trying.{Unfitted, unfitted_next, unfitted_coded, fits-coded, start-few}
-use Rattle.fit.proofs.Partner.{search_begins, seek_within, seek_asked, seek_found}
+use Rattle.fit.proofs.Trying.{Unfitted}
 use Rattle.fit.proofs.first_fit.Given as goal
 
 abbrev pub invariant-loop-l : goal.invariant-loop-l

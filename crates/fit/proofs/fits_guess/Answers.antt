@@ -4,7 +4,6 @@ use mathlib.Core.Path.{sym, ◌∙◌, subst}
 use mathlib.Core.Bool.{true≢false}
 use Prim.Native.Nat.{◌<◌}
 use native.Mathlib.Omega.{arith}
-use borrow.Author.Rules.{rules}
 use Rattle.form.specs.Form.{transitions_of}
 use Rattle.form.specs.Tables.{second_form}
 use Rattle.bounds.specs.Quick.{SetOf}

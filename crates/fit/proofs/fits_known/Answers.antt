@@ -1,7 +1,6 @@
 -- `fit::fits_known` meets its contract: bounds on the related states decide, or else all that is left.
 -- Assumes nothing.
 use mathlib.Core.Path.{sym, subst}
-use borrow.Author.Rules.{rules}
 use lib.ListN.{length}
 use Rattle.simulation.specs.Table.{targets}
 use Rattle.set.specs.Words.{mask}

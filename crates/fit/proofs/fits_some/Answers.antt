@@ -1,7 +1,6 @@
 -- `fit::fits_some` meets its contract. The loop's invariant: none of the transitions passed fits, and what was tried before stands.
 -- Assumes nothing.
 use mathlib.Core.Path.{◌≡◌, refl, sym, ap, ◌∙◌, subst}
-use mathlib.Core.Logic.{⊎_elim}
 use Prim.Native.Nat.{ℕ, ◌+◌, ◌-◌, ◌*◌, ◌≤◌}
 use native.Mathlib.Omega.{arith}
 use lib.ListN.{length, get_or, length-set}
@@ -127,13 +126,12 @@ next_coded-l-requires c =
     (c.requires.0.loaded, omega (arith, c.loop-l-test.true), omega (arith, c.start_of-end.ensures, end-bound (goal.at.next_coded-l-requires c).Start))
 
 pub fits_known-requires : goal.fits_known-requires
-fits_known-requires c =
-    (
-      lent_again c.requires.0 (c.loop-l.invariant.2 ∙ same-room (goal.at.fits_known-requires c).Joined-l-end),
-      c.requires.2,
-      omega (arith, c.if-l-end-2.true, c.start_of-end.ensures, end-bound (goal.at.fits_known-requires c).Start),
-      c.requires.4,
-    )
+fits_known-requires c = (
+  lent_again c.requires.0 (c.loop-l.invariant.2 ∙ same-room (goal.at.fits_known-requires c).Joined-l-end),
+  c.requires.2,
+  omega (arith, c.if-l-end-2.true, c.start_of-end.ensures, end-bound (goal.at.fits_known-requires c).Start),
+  c.requires.4,
+)
 
 pub overflow_sub-tried : goal.overflow_sub-tried
 overflow_sub-tried c = behind (goal.at.overflow_sub-tried c).After-next_coded-l
@@ -197,9 +195,9 @@ loop-l-preserved c =
       c.loop-l.invariant.1,
       c.else-l-end-2.auto.amounts ∙ c.loop-l.invariant.2,
       elim c.else-l-end-2.branch [
-        else-l-end-2-via-then-l-end-2+else-fits_known w ↦
-          unfitted_next a.tables.now a.rows.now a.j a.t next
-          (fits-coded a.tables.now a.rows.now a.j a.t code _ (c.next_coded-l.ensures.found w.if-l-end-2.true) w.fits_known.ensures) w.if-fits_known.false
+        | else-l-end-2-via-then-l-end-2+else-fits_known w ↦
+            unfitted_next a.tables.now a.rows.now a.j a.t next
+            (fits-coded a.tables.now a.rows.now a.j a.t code _ (c.next_coded-l.ensures.found w.if-l-end-2.true) w.fits_known.ensures) w.if-fits_known.false
         | else-l-end-2-via-else-l-end-2 w ↦ unfitted_end a.tables.now a.rows.now a.j a.t (omega (arith, w.if-l-end-2.false, e)) next
       ],
     )

@@ -1,6 +1,5 @@
 -- `fit::has_code` meets its contract.
 -- Assumes nothing.
-use borrow.Author.Rules.{rules}
 use Rattle.fit.proofs.Partner.{search_begins, search_answers}
 use Rattle.fit.proofs.has_code.Goals as goal
 

@@ -1,7 +1,6 @@
 -- `fit::lists_code` meets its contract: the code of a transition is listed.
 -- Assumes nothing.
 use mathlib.Core.Path.{sym, ◌∙◌}
-use borrow.Author.Rules.{rules}
 use Rattle.simulation.proofs.Finite.Tests.{is_true, true_T}
 use Rattle.form.specs.Tables.{second_form}
 use Rattle.fit.proofs.Codes.{coded-listed}

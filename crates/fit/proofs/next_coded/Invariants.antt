@@ -1,13 +1,10 @@
 -- `fit::next_coded` meets its contract. The loop's invariant: none of the transitions passed has the code.
 -- Assumes nothing.
-use mathlib.Core.Path.{◌≡◌, sym, ap, ◌∙◌}
+use mathlib.Core.Path.{◌≡◌}
 use mathlib.Core.Bool.{false}
 use Prim.Native.Nat.{ℕ, ◌-◌, ◌≤◌, ◌<◌}
-use native.Mathlib.Omega.{arith}
-use borrow.Author.Tests.{not-true, not-false}
 use lib.Dec.{eqb}
 use Rattle.form.specs.Tables.{second_step}
-use Rattle.fit.proofs.Steps.{upto_next}
 use Rattle.fit.proofs.next_coded.Given as goal
 
 abbrev pub invariant-loop-next : goal.invariant-loop-next

@@ -1,13 +1,11 @@
 -- `fit::target_sets` meets its contract: the places passed have their sets. Assumes nothing.
 use mathlib.Core.Path.{◌≡◌, refl, sym, ◌∙◌, ap, subst}
-use Prim.Native.Nat.{ℕ, ◌+◌, ◌-◌, ◌≤◌, ◌<◌}
+use Prim.Native.Nat.{ℕ, ◌+◌, ◌<◌}
 use native.Mathlib.Omega.{arith}
-use borrow.Author.Rules.{rules}
 use lib.ListN.{length}
 use Rattle.simulation.specs.Limits.{most_states}
 use Rattle.relation.specs.Rows.{height}
 use Rattle.relation.proofs.RowLaws.{length_put}
-use Rattle.form.specs.Form.{transitions_of}
 use Rattle.form.specs.Tables.{second_form}
 use Rattle.form.proofs.FormLaws.{limits}
 use Rattle.gather.specs.Places.{Places}

@@ -1,18 +1,10 @@
 -- `fit::target_sets` meets its contract: the places passed have their sets. Assumes nothing.
-use mathlib.Core.Path.{◌≡◌, refl, sym, ◌∙◌, ap, subst}
-use Prim.Native.Nat.{ℕ, ◌+◌, ◌-◌, ◌≤◌, ◌<◌}
-use native.Mathlib.Omega.{arith}
-use borrow.Author.Rules.{rules}
+use mathlib.Core.Path.{◌≡◌}
+use Prim.Native.Nat.{◌-◌, ◌≤◌}
 use lib.ListN.{length}
-use Rattle.simulation.specs.Limits.{most_states}
-use Rattle.relation.specs.Rows.{height}
-use Rattle.relation.proofs.RowLaws.{length_put}
 use Rattle.form.specs.Form.{transitions_of}
 use Rattle.form.specs.Tables.{second_form}
-use Rattle.form.proofs.FormLaws.{limits}
-use Rattle.gather.specs.Places.{Places}
-use Rattle.decision.proofs.Fitting.{places_of}
-use Rattle.fit.proofs.Sets.{SetsTo, sets-next, last-start}
+use Rattle.fit.proofs.Sets.{SetsTo}
 use Rattle.fit.proofs.target_sets.Given as goal
 
 abbrev pub invariant-loop-l : goal.invariant-loop-l

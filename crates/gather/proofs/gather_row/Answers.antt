@@ -2,7 +2,6 @@
 use mathlib.Core.Path.{refl, sym, ap, ◌∙◌}
 use Prim.Native.Nat.{ℕ, ◌-◌}
 use native.Mathlib.Omega.{arith}
-use borrow.Author.Rules.{rules}
 use lib.ListN.{length}
 use Rattle.word.specs.Mask.{member, part, both}
 use Rattle.set.specs.Words.{mask}
@@ -20,7 +19,7 @@ returns-then-n-eq0 c =
     ap member c.empty.ensures ∙ part-start X ∙ ap (λ (n : ℕ). part n X) (sym c.if-n-eq0.true)
 
 pub overflow_cast-to : goal.overflow_cast-to
-overflow_cast-to c = omega (arith, c.shared_slice_known-3-1.given (length c.args.to.now - 1))
+overflow_cast-to c = omega (arith, c.type_inv.to (length c.args.to.now - 1))
 
 pub overflow_add-to : goal.overflow_add-to
 overflow_add-to c = omega (arith, c.requires.1.below (length c.args.to.now - 1) (omega arith))

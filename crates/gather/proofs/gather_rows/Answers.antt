@@ -1,6 +1,6 @@
 -- `gather::gather_rows` meets its contract: the rows passed are gathered. Assumes nothing.
-use mathlib.Core.Path.{◌≡◌, refl, sym, ap, ◌∙◌, subst}
-use Prim.Native.Nat.{◌+◌, ◌-◌, ◌≤◌, ◌<◌}
+use mathlib.Core.Path.{refl, sym, ap, ◌∙◌, subst}
+use Prim.Native.Nat.{◌+◌, ◌<◌}
 use native.Mathlib.Omega.{arith}
 use lib.ListN.{length}
 use Rattle.relation.specs.Rows.{height}
@@ -17,14 +17,8 @@ has-row t = omega (arith, t.loop-i-test.true, t.loop-i.invariant.1, t.requires.3
 pub loop-i-init : goal.loop-i-init
 loop-i-init c = (omega arith, refl, record { related_at = λ i j a b. absurd (omega arith) })
 
-pub offset_bounds-from-i : goal.offset_bounds-from-i
-offset_bounds-from-i c = omega arith
-
-pub bounds-from-i : goal.bounds-from-i
-bounds-from-i c = omega arith
-
 pub overflow_cast-from : goal.overflow_cast-from
-overflow_cast-from c = omega (arith, c.shared_slice_known-in-loop-i-1.given c.loop-i.i)
+overflow_cast-from c = omega (arith, c.type_inv.from c.loop-i.i)
 
 pub gather_row-requires : goal.gather_row-requires
 gather_row-requires c =

@@ -1,12 +1,8 @@
 -- `gather::gather_rows` meets its contract: the rows passed are gathered. Assumes nothing.
-use mathlib.Core.Path.{◌≡◌, refl, sym, ap, ◌∙◌, subst}
-use Prim.Native.Nat.{◌+◌, ◌-◌, ◌≤◌, ◌<◌}
-use native.Mathlib.Omega.{arith}
+use mathlib.Core.Path.{◌≡◌}
+use Prim.Native.Nat.{◌-◌, ◌≤◌}
 use lib.ListN.{length}
-use Rattle.relation.specs.Rows.{height}
-use Rattle.relation.proofs.RowLaws.{length_put}
 use Rattle.gather.specs.Places.{Gathered}
-use Rattle.gather.proofs.Gathering.{gather_next}
 use Rattle.gather.proofs.gather_rows.Given as goal
 
 abbrev pub invariant-loop-i : goal.invariant-loop-i

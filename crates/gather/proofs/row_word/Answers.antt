@@ -1,10 +1,6 @@
 -- `gather::row_word` meets its contract: the places passed are gathered. Assumes nothing.
-use Prim.Native.Nat.{◌-◌}
 use native.Mathlib.Omega.{arith}
-use lib.ListN.{length}
-use Rattle.relation.specs.Rows.{row_of}
-use Rattle.gather.specs.Places.{row_at}
-use Rattle.gather.proofs.Gathering.{PlacesSoFar, placed_none, bit-fits, placed_next, placed_all}
+use Rattle.gather.proofs.Gathering.{placed_none, bit-fits, placed_next, placed_all}
 use Rattle.gather.proofs.row_word.Goals as goal
 
 pub bit-requires : goal.bit-requires
@@ -21,7 +17,7 @@ pub loop-j-init : goal.loop-j-init
 loop-j-init c = placed_none
 
 pub overflow_cast-to : goal.overflow_cast-to
-overflow_cast-to c = omega (arith, c.shared_slice_known-in-loop-j-1.given c.loop-j.j)
+overflow_cast-to c = omega (arith, c.type_inv.to c.loop-j.j)
 
 pub returns : goal.returns
 returns c = placed_all c.loop-j.invariant c.loop-j-test.false

@@ -1,10 +1,9 @@
 -- `gather::row_word` meets its contract: the places passed are gathered. Assumes nothing.
 use Prim.Native.Nat.{◌-◌}
-use native.Mathlib.Omega.{arith}
 use lib.ListN.{length}
 use Rattle.relation.specs.Rows.{row_of}
 use Rattle.gather.specs.Places.{row_at}
-use Rattle.gather.proofs.Gathering.{PlacesSoFar, placed_none, bit-fits, placed_next, placed_all}
+use Rattle.gather.proofs.Gathering.{PlacesSoFar}
 use Rattle.gather.proofs.row_word.Given as goal
 
 abbrev pub invariant-loop-j : goal.invariant-loop-j

@@ -8,7 +8,6 @@ use Rattle.word.specs.Mask.{member, word_bits}
 use Rattle.relation.specs.Rows.{row_of}
 use Rattle.set.proofs.Sets.{slice_passing}
 use Rattle.gather.proofs.Gathering.{places_take, places_drop}
-use borrow.Author.Rules.{rules}
 use Rattle.gather.proofs.row_word_at.Goals as goal
 
 pub row_word-requires : goal.row_word-requires

@@ -1,10 +1,8 @@
 -- `gather::sparse_row` meets its contract: the words passed are filled. Assumes nothing.
-use Prim.Native.Nat.{◌-◌, ◌≤◌}
 use native.Mathlib.Omega.{arith}
 use Rattle.word.specs.Mask.{member}
-use Rattle.set.specs.Words.{words}
 use Rattle.relation.specs.Rows.{row_of}
-use Rattle.set.proofs.Sets.{PlacesFilled, places_start, places_next, places_all}
+use Rattle.set.proofs.Sets.{places_start, places_next, places_all}
 use borrow.Author.Rules.{rules}
 use Rattle.gather.proofs.sparse_row.Goals as goal
 
@@ -13,9 +11,6 @@ loop-w-init c = let a = c.args in (omega arith, places_start (member (row_of a.r
 
 pub row_word_at-requires : goal.row_word_at-requires
 row_word_at-requires c = (c.requires.0, c.requires.1, search rules)
-
-pub loop-w-smaller : goal.loop-w-smaller
-loop-w-smaller c = omega arith
 
 pub loop-w-preserved : goal.loop-w-preserved
 loop-w-preserved c =

@@ -1,11 +1,9 @@
 -- `gather::sparse_row` meets its contract: the words passed are filled. Assumes nothing.
 use Prim.Native.Nat.{◌-◌, ◌≤◌}
-use native.Mathlib.Omega.{arith}
 use Rattle.word.specs.Mask.{member}
 use Rattle.set.specs.Words.{words}
 use Rattle.relation.specs.Rows.{row_of}
-use Rattle.set.proofs.Sets.{PlacesFilled, places_start, places_next, places_all}
-use borrow.Author.Rules.{rules}
+use Rattle.set.proofs.Sets.{PlacesFilled}
 use Rattle.gather.proofs.sparse_row.Given as goal
 
 abbrev pub invariant-loop-w : goal.invariant-loop-w

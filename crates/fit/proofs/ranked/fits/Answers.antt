@@ -1,7 +1,6 @@
 -- `fit::ranked::fits` meets its contract.
 -- Assumes nothing.
 use mathlib.Core.Path.{sym, ◌∙◌}
-use borrow.Author.Rules.{rules}
 use Rattle.fit.proofs.Codes.{other-code}
 use Rattle.fit.proofs.Comparing.{cut_fits}
 use Rattle.fit.proofs.ranked.fits.Goals as goal

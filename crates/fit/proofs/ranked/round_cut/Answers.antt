@@ -1,7 +1,6 @@
 -- `fit::ranked::round_cut` meets its contract.
 -- Assumes nothing.
 use native.Mathlib.Omega.{arith}
-use borrow.Author.Rules.{rules}
 use Rattle.form.specs.Tables.{first_step}
 use Rattle.form.proofs.FormLaws.{targets-length}
 use Rattle.relate.proofs.Relating.{kernel_asked, positive-weights}

@@ -1,7 +1,6 @@
 -- `form::tables::code` meets its contract.
 -- Assumes nothing.
 use native.Mathlib.Omega.{arith}
-use borrow.Author.Rules.{rules}
 use Rattle.form.specs.Form.{transition_at}
 use Rattle.form.proofs.TablesLaws.{form_room}
 use Rattle.form.proofs.tables.code.Goals as goal

@@ -2,7 +2,6 @@
 -- Assumes nothing.
 use Prim.Native.Nat.{◌+◌, ◌≤◌}
 use native.Mathlib.Omega.{arith}
-use borrow.Author.Rules.{rules}
 use lib.ListN.{length}
 use Rattle.form.proofs.TablesLaws.{start_in, column-ordered, column-within, column_slice}
 use Rattle.form.proofs.tables.column.Goals as goal

@@ -1,7 +1,6 @@
 -- `form::tables::entries_listed` meets its contract.
 -- Assumes nothing.
 use native.Mathlib.Omega.{arith}
-use borrow.Author.Rules.{rules}
 use Rattle.form.specs.Form.{entries_listed}
 use Rattle.form.proofs.TablesLaws.{form_room}
 use Rattle.form.proofs.tables.entries_listed.Goals as goal

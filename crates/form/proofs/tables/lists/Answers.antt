@@ -1,10 +1,10 @@
 -- `form::tables::lists` meets its contract. The loop's invariant: the codes below low are below the one looked for, those from high on above it.
 -- Assumes nothing.
 use mathlib.Core.Path.{sym, ◌∙◌}
-use Prim.Native.Nat.{ℕ, ◌+◌, ◌-◌, ◌/◌, ◌≤◌, ◌<◌}
+use Prim.Native.Nat.{ℕ, ◌+◌, ◌-◌, ◌/◌, ◌<◌}
 use native.Mathlib.Omega.{arith}
 use Rattle.simulation.specs.Limits.{most_codes}
-use Rattle.form.specs.Form.{at, actions_from, listed_from}
+use Rattle.form.specs.Form.{at, actions_from}
 use Rattle.form.specs.Tables.{form_at}
 use Rattle.form.proofs.TablesLaws.{form_room}
 use Rattle.form.proofs.Contract.{codes-few, codes_ascend, lists-found, lists-missing}
@@ -31,9 +31,6 @@ overflow_cast-high c = omega (arith, c.number-high.ensures, codes-few (form_at c
 pub loop-low-init : goal.loop-low-init
 loop-low-init c = (omega arith, omega (arith, c.number-high.ensures), λ i l. absurd (omega arith), λ i l m. absurd (omega (arith, c.number-high.ensures)))
 
-pub overflow_sub-middle : goal.overflow_sub-middle
-overflow_sub-middle c = omega arith
-
 pub overflow_add-middle : goal.overflow_add-middle
 overflow_add-middle c = omega (arith, few c)
 
@@ -51,17 +48,11 @@ returns-then-here-code c =
 pub overflow_add-low : goal.overflow_add-low
 overflow_add-low c = omega (arith, few (goal.at.overflow_add-low c).In-loop-low)
 
-pub loop-low-smaller-then-here-code-2 : goal.loop-low-smaller-then-here-code-2
-loop-low-smaller-then-here-code-2 c = omega arith
-
 pub loop-low-preserved-then-here-code-2 : goal.loop-low-preserved-then-here-code-2
 loop-low-preserved-then-here-code-2 c =
     let inv = c.loop-low.invariant in
     let up = codes_ascend (form_at c.args.tables.now c.args.which) c.requires in
     (omega arith, omega (arith, within (goal.at.loop-low-preserved-then-here-code-2 c).In-loop-low), λ i l. omega (arith, c.number-here.ensures, up i (middle (goal.at.loop-low-preserved-then-here-code-2 c).In-loop-low) (omega arith) (within (goal.at.loop-low-preserved-then-here-code-2 c).In-loop-low)), inv.3)
-
-pub loop-low-smaller : goal.loop-low-smaller
-loop-low-smaller c = omega arith
 
 pub loop-low-preserved : goal.loop-low-preserved
 loop-low-preserved c =

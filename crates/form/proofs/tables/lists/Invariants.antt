@@ -1,13 +1,8 @@
 -- `form::tables::lists` meets its contract. The loop's invariant: the codes below low are below the one looked for, those from high on above it.
 -- Assumes nothing.
-use mathlib.Core.Path.{sym, ◌∙◌}
-use Prim.Native.Nat.{ℕ, ◌+◌, ◌-◌, ◌/◌, ◌≤◌, ◌<◌}
-use native.Mathlib.Omega.{arith}
-use Rattle.simulation.specs.Limits.{most_codes}
+use Prim.Native.Nat.{ℕ, ◌+◌, ◌-◌, ◌≤◌, ◌<◌}
 use Rattle.form.specs.Form.{at, actions_from, listed_from}
 use Rattle.form.specs.Tables.{form_at}
-use Rattle.form.proofs.TablesLaws.{form_room}
-use Rattle.form.proofs.Contract.{codes-few, codes_ascend, lists-found, lists-missing}
 use Rattle.form.proofs.tables.lists.Given as goal
 
 abbrev pub invariant-loop-low : goal.invariant-loop-low

@@ -2,7 +2,6 @@
 -- Assumes nothing.
 use mathlib.Core.Path.{refl, sym}
 use Prim.Native.Nat.{◌+◌}
-use borrow.Author.Rules.{rules}
 use Rattle.form.proofs.TablesLaws.{form_read}
 use Rattle.form.proofs.tables.number.Goals as goal
 

@@ -1,7 +1,6 @@
 -- `form::tables::start_of` meets its contract.
 -- Assumes nothing.
 use native.Mathlib.Omega.{arith}
-use borrow.Author.Rules.{rules}
 use Rattle.form.specs.Form.{start_of}
 use Rattle.form.proofs.TablesLaws.{form_room}
 use Rattle.form.proofs.tables.start_of.Goals as goal

@@ -2,7 +2,6 @@
 -- Assumes nothing.
 use mathlib.Core.Path.{sym, ◌∙◌}
 use native.Mathlib.Omega.{arith}
-use borrow.Author.Rules.{rules}
 use Rattle.form.specs.Form.{count_of}
 use Rattle.form.specs.Tables.{form_at}
 use Rattle.form.proofs.FormLaws.{states-count}

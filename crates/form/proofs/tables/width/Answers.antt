@@ -1,7 +1,6 @@
 -- `form::tables::width` meets its contract.
 -- Assumes nothing.
 use mathlib.Core.Path.{sym, ◌∙◌}
-use borrow.Author.Rules.{rules}
 use Rattle.form.proofs.Contract.{contract-states}
 use Rattle.form.proofs.tables.width.Goals as goal
 

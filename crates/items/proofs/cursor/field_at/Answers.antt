@@ -3,7 +3,6 @@
 use mathlib.Core.Path.{◌≡◌, sym, ◌∙◌, ap}
 use Prim.Native.Nat.{ℕ}
 use native.Mathlib.Omega.{arith}
-use borrow.Author.Rules.{rules}
 use Rattle.layout.specs.Bytes.{field}
 use Rattle.layout.proofs.Fields.{byte-field, half-field}
 use Rattle.items.proofs.cursor.field_at.Goals as goal

@@ -6,7 +6,6 @@ use native.Mathlib.Omega.{arith}
 use Rattle.layout.proofs.Laws.{leb_sub}
 use borrow.Author.Tests.{lt-leb}
 use mathlib.Core.Path.{sym}
-use borrow.Author.Rules.{rules}
 use Rattle.items.proofs.cursor.present.Goals as goal
 
 pub returns-then-at-s : goal.returns-then-at-s

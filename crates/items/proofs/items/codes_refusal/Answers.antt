@@ -1,13 +1,13 @@
 -- `items::items::codes_refusal` meets its contract. The loop's invariant: the codes up to the one at i ascend strictly.
 -- Assumes nothing.
 use mathlib.Core.Path.{◌≡◌, sym, ◌∙◌, ap, ap₂}
-use Prim.Native.Nat.{pred, ◌+◌, ◌*◌, ◌-◌, ◌≤◌}
+use Prim.Native.Nat.{◌+◌, ◌*◌, ◌≤◌}
 use native.Mathlib.Omega.{arith}
 use lib.Dec.{ltb}
 use lib.ListN.{length}
 use borrow.Author.Tests.{le-ltb, lt-ltb}
 use Rattle.layout.specs.Bytes.{refuse◌unless◌, field, code, code_refusal}
-use Rattle.layout.proofs.Laws.{ItemsPass, items_none, items_more, items_stop, items_all, refused_unless, not_refused}
+use Rattle.layout.proofs.Laws.{items_none, items_more, items_stop, items_all, refused_unless, not_refused}
 use Rattle.layout.proofs.Fields.{item_within}
 use Rattle.layout.proofs.Bounds.{code-at-is}
 use Rattle.items.proofs.items.codes_refusal.Goals as goal
@@ -31,9 +31,6 @@ both c =
 pub loop-i-init : goal.loop-i-init
 loop-i-init c = (items_none _ _, omega arith)
 
-pub overflow_add-i : goal.overflow_add-i
-overflow_add-i c = omega arith
-
 pub overflow_mul-at : goal.overflow_mul-at
 overflow_mul-at c = omega (arith, within c)
 
@@ -53,12 +50,6 @@ pub returns-then-field_at : goal.returns-then-field_at
 unfolding code_refusal refuse◌unless◌
 returns-then-field_at c =
     items_stop _ _ c.loop-i.i _ c.loop-i.invariant.0 (omega arith) (refused_unless 3 (ap₂ ltb (both (goal.at.returns-then-field_at c).After-field_at-in-loop-i).0 (both (goal.at.returns-then-field_at c).After-field_at-in-loop-i).1 ∙ le-ltb _ _ c.if-field_at.true))
-
-pub overflow_add-i-in-loop-i : goal.overflow_add-i-in-loop-i
-overflow_add-i-in-loop-i c = omega arith
-
-pub loop-i-smaller : goal.loop-i-smaller
-loop-i-smaller c = omega arith
 
 pub loop-i-preserved : goal.loop-i-preserved
 unfolding code_refusal refuse◌unless◌

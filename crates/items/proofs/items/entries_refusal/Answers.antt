@@ -1,12 +1,11 @@
 -- `items::items::entries_refusal` meets its contract. The loop's invariant: the transitions below j pass, and start is the number of their entries.
 -- Assumes nothing.
 use mathlib.Core.Path.{◌≡◌, sym, ◌∙◌, ap, ap₂}
-use Prim.Native.Nat.{ℕ, ◌+◌, ◌*◌, ◌-◌, ◌≤◌, ◌<◌}
+use Prim.Native.Nat.{ℕ, ◌+◌, ◌*◌, ◌≤◌, ◌<◌}
 use native.Mathlib.Omega.{arith}
 use lib.ListN.{length}
-use Rattle.simulation.specs.Sum.{sum}
 use Rattle.layout.specs.Bytes.{distribution_refusal, size_from, run_refusal}
-use Rattle.layout.proofs.Laws.{ItemsPass, items_none, items_more, items_here, items_all}
+use Rattle.layout.proofs.Laws.{items_none, items_more, items_here, items_all}
 use Rattle.layout.proofs.Fields.{item_within}
 use Rattle.simulation.proofs.Finite.Sums.{sum-none, sum_more, sum_le}
 use Rattle.items.proofs.items.entries_refusal.Goals as goal
@@ -36,9 +35,6 @@ here c =
 pub loop-j-init : goal.loop-j-init
 loop-j-init c = (items_none _ _, omega arith, sum-none _)
 
-pub overflow_add-width : goal.overflow_add-width
-overflow_add-width c = omega arith
-
 pub overflow_mul-width : goal.overflow_mul-width
 overflow_mul-width c = omega (arith, size-within c)
 
@@ -62,12 +58,6 @@ returns-then-refusal-ne0 c = items_here _ _ c.loop-j.j c.loop-j.invariant.0 (ome
 
 pub overflow_add-start : goal.overflow_add-start
 overflow_add-start c = omega (arith, within (goal.at.overflow_add-start c).After-byte_at-size)
-
-pub overflow_add-j : goal.overflow_add-j
-overflow_add-j c = omega arith
-
-pub loop-j-smaller : goal.loop-j-smaller
-loop-j-smaller c = omega arith
 
 pub loop-j-preserved : goal.loop-j-preserved
 loop-j-preserved c =

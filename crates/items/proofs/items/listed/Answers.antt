@@ -23,7 +23,7 @@ within c =
     omega (arith, item_within a.width (middle c) a.n (omega arith))
 
 -- what is read is that code
-here : (c : After-field_at-code) → let a = c.args in code a.width a.s.now ((let l = c.loop-low in l.low + (l.high - l.low) / 2)) ≡ c.field_at-code.result
+here : (c : After-field_at-code) → let a = c.args in let l = c.loop-low in code a.width a.s.now (l.low + (l.high - l.low) / 2) ≡ c.field_at-code.result
 here c = code-at-is _ _ _ ∙ sym c.field_at-code.ensures.is
 
 -- no code was refused, so they ascend
@@ -41,12 +41,6 @@ none c i m e =
 pub loop-low-init : goal.loop-low-init
 loop-low-init c = (omega arith, omega arith, λ i l. absurd (omega arith), λ i l m. absurd (omega arith))
 
-pub overflow_sub-middle : goal.overflow_sub-middle
-overflow_sub-middle c = omega arith
-
-pub overflow_add-middle : goal.overflow_add-middle
-overflow_add-middle c = omega arith
-
 pub overflow_mul-width : goal.overflow_mul-width
 overflow_mul-width c = omega (arith, within c)
 
@@ -59,20 +53,11 @@ field_at-code-requires c = (c.requires.room.0, within c)
 pub returns-then-code-c : goal.returns-then-code-c
 returns-then-code-c c = sym (any_found _ (middle (goal.at.returns-then-code-c c).In-loop-low) _ (omega arith) (eq-eqb _ _ (here (goal.at.returns-then-code-c c).After-field_at-code ∙ c.if-code-c.true)))
 
-pub overflow_add-low : goal.overflow_add-low
-overflow_add-low c = omega arith
-
-pub loop-low-smaller-then-code-c-2 : goal.loop-low-smaller-then-code-c-2
-loop-low-smaller-then-code-c-2 c = omega arith
-
 pub loop-low-preserved-then-code-c-2 : goal.loop-low-preserved-then-code-c-2
 loop-low-preserved-then-code-c-2 c =
     let inv = c.loop-low.invariant in
     let e = here (goal.at.loop-low-preserved-then-code-c-2 c).After-field_at-code in
     (omega arith, omega arith, λ i l. omega (arith, ascend (goal.at.loop-low-preserved-then-code-c-2 c).After-field_at-code i (middle (goal.at.loop-low-preserved-then-code-c-2 c).In-loop-low) (omega arith) (omega arith)), inv.3)
-
-pub loop-low-smaller : goal.loop-low-smaller
-loop-low-smaller c = omega arith
 
 pub loop-low-preserved : goal.loop-low-preserved
 loop-low-preserved c =

@@ -1,15 +1,7 @@
 -- `items::items::listed` meets its contract. The loop's invariant: the codes below low are below the one looked for, those from high on above it.
 -- Assumes nothing.
-use mathlib.Core.Path.{◌≡◌, sym, ◌∙◌}
-use Prim.Native.Nat.{ℕ, ◌+◌, ◌*◌, ◌-◌, ◌/◌, ◌≤◌, ◌<◌}
-use native.Mathlib.Omega.{arith}
-use lib.Dec.{eqb, eqb→eq}
-use lib.ListN.{length}
-use borrow.Author.Tests.{eq-eqb}
-use Rattle.simulation.proofs.Finite.Tests.{any_some, any_found, is_false}
+use Prim.Native.Nat.{ℕ, ◌-◌, ◌≤◌, ◌<◌}
 use Rattle.layout.specs.Bytes.{code}
-use Rattle.layout.proofs.Fields.{item_within}
-use Rattle.layout.proofs.Bounds.{code-at-is, codes_ascend}
 use Rattle.items.proofs.items.listed.Given as goal
 
 abbrev pub invariant-loop-low : goal.invariant-loop-low

@@ -4,7 +4,6 @@ use mathlib.Core.Path.{◌≡◌, sym, ◌∙◌, ap, ap₂}
 use mathlib.Core.Bool.{Bool}
 use Prim.Native.Nat.{ℕ}
 use lib.Dec.{eqb}
-use borrow.Author.Rules.{rules}
 use Rattle.simulation.specs.Sum.{any}
 use Rattle.layout.specs.Bytes.{◌then◌, refuse◌unless◌, actions, field, code, transition_refusal}
 use Rattle.items.proofs.items.transition_refusal.Goals as goal

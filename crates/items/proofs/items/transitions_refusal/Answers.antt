@@ -1,11 +1,10 @@
 -- `items::items::transitions_refusal` meets its contract. The loop's invariant: the transitions below j pass.
 -- Assumes nothing.
 use mathlib.Core.Path.{sym, ◌∙◌}
-use Prim.Native.Nat.{◌+◌, ◌*◌, ◌-◌, ◌≤◌}
+use Prim.Native.Nat.{◌+◌, ◌*◌, ◌≤◌}
 use native.Mathlib.Omega.{arith}
 use lib.ListN.{length}
-use Rattle.layout.specs.Bytes.{transition_refusal}
-use Rattle.layout.proofs.Laws.{ItemsPass, items_none, items_more, items_here, items_all}
+use Rattle.layout.proofs.Laws.{items_none, items_more, items_here, items_all}
 use Rattle.layout.proofs.Fields.{item_within}
 use Rattle.items.proofs.items.transitions_refusal.Goals as goal
 use Rattle.items.proofs.items.transitions_refusal.Goals.{In-loop-j}
@@ -19,9 +18,6 @@ within c =
 pub loop-j-init : goal.loop-j-init
 loop-j-init c = (items_none _ _, omega arith)
 
-pub overflow_add-width : goal.overflow_add-width
-overflow_add-width c = omega arith
-
 pub overflow_mul-width : goal.overflow_mul-width
 overflow_mul-width c = omega (arith, within c)
 
@@ -33,12 +29,6 @@ transition_refusal-refusal-requires c = let p = c.requires in record { room = (p
 
 pub returns-then-refusal-ne0 : goal.returns-then-refusal-ne0
 returns-then-refusal-ne0 c = items_here _ _ _ c.loop-j.invariant.0 (omega arith) c.transition_refusal-refusal.ensures c.if-refusal-ne0.true
-
-pub overflow_add-j : goal.overflow_add-j
-overflow_add-j c = omega arith
-
-pub loop-j-smaller : goal.loop-j-smaller
-loop-j-smaller c = omega arith
 
 pub loop-j-preserved : goal.loop-j-preserved
 loop-j-preserved c = (items_more _ _ _ c.loop-j.invariant.0 (omega arith) (sym c.transition_refusal-refusal.ensures ∙ c.if-refusal-ne0.false), omega arith)

@@ -1,13 +1,9 @@
 -- `row` meets its contract: the words passed are filled. Assumes nothing.
 use mathlib.Core.Path.{◌∙◌}
-use mathlib.Core.List.{List}
-use Prim.Native.Nat.{ℕ, ◌+◌, ◌-◌, ◌*◌, ◌≤◌}
+use Prim.Native.Nat.{◌-◌}
 use native.Mathlib.Omega.{arith}
-use lib.ListN.{get_or, drop, length-take, length-drop}
-use Rattle.word.specs.Mask.{Test}
-use Rattle.relation.specs.Ranks.{lasts}
-use Rattle.set.specs.Words.{words}
-use Rattle.set.proofs.Sets.{PlacesFilled, places_start, places_next, places_all, slice_passing}
+use lib.ListN.{drop, length-take, length-drop}
+use Rattle.set.proofs.Sets.{places_start, places_next, places_all, slice_passing}
 use Rattle.relate.proofs.Laws.{indexed_take, indexed_drop}
 use borrow.Author.Rules.{rules}
 use Rattle.relate.proofs.between.row.Invariants.{kept}
@@ -23,9 +19,6 @@ row_word-requires c =
       simp (length-take, length-drop) (omega arith),
       indexed_take a.ranks.now a.width a.s (drop from a.nt.now) (c.start-in-loop-w.result - from) (indexed_drop a.ranks.now a.width a.s a.nt.now from c.requires.1),
     )
-
-pub loop-w-smaller : goal.loop-w-smaller
-loop-w-smaller c = omega arith
 
 pub loop-w-preserved : goal.loop-w-preserved
 loop-w-preserved c =

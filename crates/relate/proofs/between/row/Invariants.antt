@@ -1,15 +1,11 @@
 -- `row` meets its contract: the words passed are filled. Assumes nothing.
-use mathlib.Core.Path.{◌∙◌}
 use mathlib.Core.List.{List}
 use Prim.Native.Nat.{ℕ, ◌+◌, ◌-◌, ◌*◌, ◌≤◌}
-use native.Mathlib.Omega.{arith}
-use lib.ListN.{get_or, drop, length-take, length-drop}
+use lib.ListN.{get_or}
 use Rattle.word.specs.Mask.{Test}
 use Rattle.relation.specs.Ranks.{lasts}
 use Rattle.set.specs.Words.{words}
-use Rattle.set.proofs.Sets.{PlacesFilled, places_start, places_next, places_all, slice_passing}
-use Rattle.relate.proofs.Laws.{indexed_take, indexed_drop}
-use borrow.Author.Rules.{rules}
+use Rattle.set.proofs.Sets.{PlacesFilled}
 use Rattle.relate.proofs.between.row.Given as goal
 
 -- the state s is related to the target t

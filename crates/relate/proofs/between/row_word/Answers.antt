@@ -1,9 +1,7 @@
 -- `between::row_word` meets its contract. The loop's invariant: the set holds the positions passed that s is related to. Assumes nothing.
-use mathlib.Core.Path.{◌≡◌, ◌∙◌, ap}
-use Prim.Native.Nat.{◌≤◌, ◌-◌}
+use mathlib.Core.Path.{◌∙◌, ap}
 use native.Mathlib.Omega.{arith}
-use lib.ListN.{length}
-use Rattle.word.specs.Mask.{member, part}
+use Rattle.word.specs.Mask.{part}
 use Rattle.word.proofs.Mask.{part-start, part-bit}
 use Rattle.simulation.proofs.Finite.Sums.{one-most}
 use Rattle.relate.specs.Rows.{ranked_row}
@@ -12,14 +10,8 @@ use Rattle.relate.proofs.between.row_word.Goals as goal
 pub loop-j-init : goal.loop-j-init
 loop-j-init c = (omega arith, part-start _)
 
-pub offset_bounds-nt-j : goal.offset_bounds-nt-j
-offset_bounds-nt-j c = omega arith
-
-pub bounds-nt-j : goal.bounds-nt-j
-bounds-nt-j c = omega arith
-
 pub overflow_cast-t : goal.overflow_cast-t
-overflow_cast-t c = omega (arith, c.shared_slice_known-in-loop-j-1.given c.loop-j.j)
+overflow_cast-t c = omega (arith, c.type_inv.nt c.loop-j.j)
 
 pub overflow_mul-rank : goal.overflow_mul-rank
 overflow_mul-rank c = omega (arith, c.requires.1 c.loop-j.j (omega arith))
@@ -33,19 +25,10 @@ offset_bounds-ranks-s c = omega (arith, c.requires.1 c.loop-j.j (omega arith))
 pub bounds-ranks-s : goal.bounds-ranks-s
 bounds-ranks-s c = omega (arith, c.requires.1 c.loop-j.j (omega arith))
 
-pub lasts-requires : goal.lasts-requires
-lasts-requires c = tt
-
 pub with_bit-set-requires : goal.with_bit-set-requires
 with_bit-set-requires c =
     let a = c.args in
     (omega arith, omega (arith, c.lasts.ensures, one-most (ranked_row a.ranks.now a.width a.r a.s a.nt.now c.loop-j.j)))
-
-pub overflow_step-j : goal.overflow_step-j
-overflow_step-j c = omega arith
-
-pub loop-j-smaller : goal.loop-j-smaller
-loop-j-smaller c = omega arith
 
 pub loop-j-preserved : goal.loop-j-preserved
 loop-j-preserved c = let a = c.args in

@@ -1,11 +1,8 @@
 -- `between::row_word` meets its contract. The loop's invariant: the set holds the positions passed that s is related to. Assumes nothing.
-use mathlib.Core.Path.{◌≡◌, ◌∙◌, ap}
+use mathlib.Core.Path.{◌≡◌}
 use Prim.Native.Nat.{◌≤◌, ◌-◌}
-use native.Mathlib.Omega.{arith}
 use lib.ListN.{length}
 use Rattle.word.specs.Mask.{member, part}
-use Rattle.word.proofs.Mask.{part-start, part-bit}
-use Rattle.simulation.proofs.Finite.Sums.{one-most}
 use Rattle.relate.specs.Rows.{ranked_row}
 use Rattle.relate.proofs.between.row_word.Given as goal
 

@@ -1,8 +1,7 @@
 -- `between::rows` meets its contract. The loop's invariant: the rows passed are written. Assumes nothing.
 use mathlib.Core.Path.{subst, sym}
-use Prim.Native.Nat.{◌≤◌, ◌-◌, ◌+◌}
+use Prim.Native.Nat.{◌+◌}
 use native.Mathlib.Omega.{arith}
-use lib.ListN.{length}
 use Rattle.relate.proofs.Laws.{Done, done-start, done_next, done-rows}
 use Rattle.relate.proofs.between.rows.Goals as goal
 
@@ -10,14 +9,8 @@ pub loop-i-init : goal.loop-i-init
 loop-i-init c = let a = c.args in
     (omega arith, done-start a.ranks.now a.width a.r a.mt.now a.nt.now a.rel.now)
 
-pub offset_bounds-mt-i : goal.offset_bounds-mt-i
-offset_bounds-mt-i c = omega arith
-
-pub bounds-mt-i : goal.bounds-mt-i
-bounds-mt-i c = omega arith
-
 pub overflow_cast-s : goal.overflow_cast-s
-overflow_cast-s c = omega (arith, c.shared_slice_known-in-loop-i-1.given c.loop-i.i)
+overflow_cast-s c = omega (arith, c.type_inv.mt c.loop-i.i)
 
 pub row-requires : goal.row-requires
 row-requires c = let p = c.requires in
@@ -26,18 +19,12 @@ row-requires c = let p = c.requires in
 pub put-requires : goal.put-requires
 put-requires c = omega (arith, c.loop-i.invariant.1.size)
 
-pub overflow_step-i : goal.overflow_step-i
-overflow_step-i c = omega arith
-
-pub loop-i-smaller : goal.loop-i-smaller
-loop-i-smaller c = omega arith
-
 pub loop-i-preserved : goal.loop-i-preserved
 loop-i-preserved c = let a = c.args in (
-      omega arith,
-      subst (Done a.ranks.now a.width a.r a.mt.now a.nt.now a.rel.now (c.loop-i.i + 1)) (sym c.put.ensures)
-          (done_next a.ranks.now a.width a.r a.mt.now a.nt.now a.rel.now c.loop-i.i c.row.result c.loop-i.rel (omega arith) c.loop-i.invariant.1 c.row.ensures),
-    )
+  omega arith,
+  subst (Done a.ranks.now a.width a.r a.mt.now a.nt.now a.rel.now (c.loop-i.i + 1)) (sym c.put.ensures)
+      (done_next a.ranks.now a.width a.r a.mt.now a.nt.now a.rel.now c.loop-i.i c.row.result c.loop-i.rel (omega arith) c.loop-i.invariant.1 c.row.ensures),
+)
 
 pub shape_of-rel : goal.shape_of-rel
 shape_of-rel c = c.loop-i.invariant.1.size

@@ -1,9 +1,7 @@
 -- `between::rows` meets its contract. The loop's invariant: the rows passed are written. Assumes nothing.
-use mathlib.Core.Path.{subst, sym}
-use Prim.Native.Nat.{◌≤◌, ◌-◌, ◌+◌}
-use native.Mathlib.Omega.{arith}
+use Prim.Native.Nat.{◌≤◌, ◌-◌}
 use lib.ListN.{length}
-use Rattle.relate.proofs.Laws.{Done, done-start, done_next, done-rows}
+use Rattle.relate.proofs.Laws.{Done}
 use Rattle.relate.proofs.between.rows.Given as goal
 
 abbrev pub invariant-loop-i : goal.invariant-loop-i

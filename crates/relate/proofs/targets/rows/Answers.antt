@@ -1,5 +1,4 @@
 -- `relate::targets::rows` meets its contract. Assumes nothing.
-use borrow.Author.Rules.{rules}
 use Rattle.relate.proofs.Relating.{rows_asked, rows-found}
 use Rattle.relate.proofs.targets.rows.Goals as goal
 

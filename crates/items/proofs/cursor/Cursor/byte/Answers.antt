@@ -4,7 +4,6 @@ use native.Mathlib.Omega.{arith}
 use borrow.Author.Tests.{leb-true}
 use mathlib.Core.Path.{sym, ◌∙◌}
 use Rattle.items.proofs.ReadLaws.{read_value, read_end}
-use borrow.Author.Rules.{rules}
 use Rattle.items.proofs.cursor.Cursor.byte.Goals as goal
 
 pub byte_at-requires : goal.byte_at-requires

@@ -4,7 +4,6 @@ use native.Mathlib.Omega.{arith}
 use borrow.Author.Tests.{leb-true}
 use mathlib.Core.Path.{refl, sym, ◌∙◌}
 use Rattle.items.proofs.ReadLaws.{read_value, read_end}
-use borrow.Author.Rules.{rules}
 use Rattle.items.proofs.cursor.Cursor.part.Goals as goal
 
 pub overflow_add-result : goal.overflow_add-result
