@@ -34,9 +34,6 @@ pub get-requires-in-loop-i : goal.get-requires-in-loop-i
 get-requires-in-loop-i c =
     target_row c.requires c.loop-i.invariant c.loop-i-test.true
 
-pub union-joined-requires : goal.union-joined-requires
-union-joined-requires c = tt
-
 pub put-requires : goal.put-requires
 put-requires c =
     target_row c.requires c.loop-i.invariant c.loop-i-test.true
@@ -44,12 +41,6 @@ put-requires c =
 pub insert-all-requires : goal.insert-all-requires
 insert-all-requires c =
     c.requires.low _ c.loop-i-test.true
-
-pub overflow_step-i : goal.overflow_step-i
-overflow_step-i c = omega arith
-
-pub loop-i-smaller : goal.loop-i-smaller
-loop-i-smaller c = omega arith
 
 pub loop-i-preserved : goal.loop-i-preserved
 loop-i-preserved c =

@@ -74,15 +74,3 @@ returns c =
 
 pub remove-requires : goal.remove-requires
 remove-requires c = (here-low c.requires).1
-
-pub shape_of-order : goal.shape_of-order
-shape_of-order c = c.order-1.given
-
-pub shape_of-choices : goal.shape_of-choices
-shape_of-choices c = c.choices-1.given
-
-pub shape_of-counts : goal.shape_of-counts
-shape_of-counts c = c.counts-1.given
-
-pub shape_of-amounts : goal.shape_of-amounts
-shape_of-amounts c = c.amounts-1.given

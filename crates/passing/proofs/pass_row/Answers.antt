@@ -60,11 +60,11 @@ pub loop-left-preserved : goal.loop-left-preserved
 loop-left-preserved c =
     row_next c.loop-left.invariant _ _ (c.without_lowest-left.ensures.0 _ c.lowest-t.ensures.1) c.pass_pair-v.ensures
     (record {
-      same-order = c.order-1.given;
-      same-choices = c.choices-1.given;
-      same-counts = c.counts-1.given;
-      same-room = c.room-1.given;
-      same-amounts = c.amounts-1.given;
+      same-order = c.pass_pair-v.auto.order;
+      same-choices = c.pass_pair-v.auto.choices;
+      same-counts = c.pass_pair-v.auto.counts;
+      same-room = c.pass_pair-v.auto.room;
+      same-amounts = c.pass_pair-v.auto.amounts;
     })
 
 pub loop-k-preserved : goal.loop-k-preserved

@@ -55,12 +55,6 @@ overflow_add-room c = omega (arith, (small c).1)
 pub overflow_add-room-in-loop-j : goal.overflow_add-room-in-loop-j
 overflow_add-room-in-loop-j c = omega (arith, (small c).1)
 
-pub overflow_add-j : goal.overflow_add-j
-overflow_add-j c = omega arith
-
-pub loop-j-smaller : goal.loop-j-smaller
-loop-j-smaller c = omega arith
-
 pub loop-j-preserved : goal.loop-j-preserved
 loop-j-preserved c =
     let j = c.loop-j in (

@@ -35,7 +35,7 @@ loop-i-smaller c = omega (arith, c.loop-i-test.true)
 
 pub loop-i-preserved : goal.loop-i-preserved
 loop-i-preserved c =
-    counts-next c.requires c.loop-i.invariant c.loop-i-test.true c.get-members.ensures c.counts-1.given c.add_row.ensures
+    counts-next c.requires c.loop-i.invariant c.loop-i-test.true c.get-members.ensures c.add_row.auto.counts c.add_row.ensures
 
 pub shape_of-counts : goal.shape_of-counts
 shape_of-counts c = c.loop-i.invariant.same-counts

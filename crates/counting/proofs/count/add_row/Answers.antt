@@ -32,20 +32,11 @@ loop-w-init c =
     let a = c.args in
     (omega arith, walk_begin a.members (λ (n : ℕ). RowLoop a.width a.s (mask a.members) a.c a.counts.now a.counts.now n) (counting_start _ _ _ _ _))
 
-pub offset_bounds-members-w : goal.offset_bounds-members-w
-offset_bounds-members-w c = omega arith
-
-pub bounds-members-w : goal.bounds-members-w
-bounds-members-w c = omega arith
-
 pub loop-left-init : goal.loop-left-init
 loop-left-init c =
     let a = c.args in
     let o = c.loop-w in
     λ l _ h. walk_into a.members (λ (n : ℕ). RowLoop a.width a.s (mask a.members) a.c l o.counts n) o.w h
-
-pub lowest-requires : goal.lowest-requires
-lowest-requires c = (omega arith, omega arith)
 
 pub overflow_add-at : goal.overflow_add-at
 overflow_add-at c = omega (arith, small c)
@@ -76,12 +67,6 @@ pub loop-left-preserved : goal.loop-left-preserved
 loop-left-preserved c =
     let low = c.lowest.ensures.1 in
     λ l g h. row_turn g (c.loop-left.invariant l g h) low (c.without_lowest-left.ensures.0 _ low)
-
-pub overflow_step-w : goal.overflow_step-w
-overflow_step-w c = omega arith
-
-pub loop-w-smaller : goal.loop-w-smaller
-loop-w-smaller c = omega arith
 
 pub loop-w-preserved : goal.loop-w-preserved
 loop-w-preserved c =
