@@ -5,7 +5,6 @@ use native.Mathlib.Omega.{arith}
 use Rattle.form.proofs.Contract.{contract-pairs}
 use Rattle.counting.proofs.Pairs.{number_asked}
 use Rattle.counting.proofs.Counting.{root_in, one-counted}
-use borrow.Author.Rules.{rules}
 use Rattle.order.proofs.count_one.Goals as goal
 
 pub overflow_mul-all : goal.overflow_mul-all

@@ -6,7 +6,6 @@ use native.Mathlib.Omega.{arith}
 use Rattle.simulation.specs.Limits.{most_states}
 use Rattle.counting.proofs.Pairs.{rank_asked, lost-low}
 use Rattle.order.proofs.Walks.{RootAlone, root-alone, root-walking}
-use borrow.Author.Rules.{rules}
 use Rattle.order.proofs.list.Goals as goal
 use Rattle.order.proofs.list.Goals.{After-put, Start}
 
