@@ -6,7 +6,7 @@ use Rattle.simulation.specs.Limits.{most_pairs}
 use Rattle.form.specs.Tables.{second_form}
 use Rattle.form.proofs.FormLaws.{limits}
 use Rattle.form.proofs.Contract.{contract-states}
-use Rattle.measure.proofs.Measuring.{MeasureLoop, measure_start, place-known, pair_in, pair_noted, measure_pair, measure_next, measure_end}
+use Rattle.measure.proofs.Measuring.{measure_start, place-known, pair_in, pair_noted, measure_pair, measure_next, measure_end}
 use Rattle.measure.proofs.measure.Goals as goal
 use Rattle.measure.proofs.measure.Goals.{At-loop-i, In-loop-i}
 

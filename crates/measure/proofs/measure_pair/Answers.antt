@@ -1,6 +1,5 @@
 -- `measure::measure_pair` meets its contract. Assumes nothing.
 use mathlib.Core.Path.{◌∙◌}
-use borrow.Author.Rules.{rules}
 use Rattle.choice.specs.Choice.{SetsChosen}
 use Rattle.counting.proofs.Pairs.{rank_asked}
 use Rattle.counting.proofs.Targets.{step-number}

@@ -1,8 +1,6 @@
 -- `measure::pair_length` meets its contract. Assumes nothing.
 use mathlib.Core.Path.{ap}
 use Prim.Native.Nat.{ℕ}
-use native.Mathlib.Omega.{arith}
-use borrow.Author.Rules.{rules}
 use lib.ListN.{get_or}
 use Rattle.measure.proofs.pair_length.Goals as goal
 

@@ -3,7 +3,6 @@ use mathlib.Core.Path.{sym}
 use Prim.Native.Nat.{◌<◌}
 use native.Mathlib.Nat.{pos_of_ne-zero}
 use native.Mathlib.Omega.{arith}
-use borrow.Author.Rules.{rules}
 use Rattle.order.specs.Order.{Ordered}
 use Rattle.measure.proofs.Measuring.{part-size, part-ordered, part-noted, part_hold, root_asked, tree-long, tree-measured}
 use Rattle.measure.proofs.tree_length.Goals as goal
