@@ -1,4 +1,6 @@
 // The transition of a pair that is not kept, which fits no like-coded transition of the other state, and the sets of its targets.
+#![tactic(auto)]
+
 ghost use Rattle.std.specs.Prelude.{◌≡◌, true, not, ◌&&◌, ℕ, pred, ◌+◌, ◌*◌, ◌≤◌, ◌<◌, T, eqb, length, get_or};
 ghost use Rattle.simulation.specs.Limits.{most_pairs, most_states};
 ghost use Rattle.simulation.specs.Sum.{any};

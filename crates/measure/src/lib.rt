@@ -1,4 +1,6 @@
 // How many bytes a tree takes: the lengths of the pairs that it meets, from the pairs with none below them up.
+#![tactic(auto)]
+
 ghost use Rattle.std.specs.Prelude.{◌≡◌, ◌+◌, ◌≤◌, ◌<◌, min, length, get_or};
 ghost use Rattle.simulation.specs.Limits.{most_pairs, most_states};
 ghost use Rattle.simulation.specs.Table.{states_of};

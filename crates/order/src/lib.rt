@@ -1,5 +1,7 @@
 // The pairs that a tree meets, listed from its root down, rank by rank: the pairs below a pair have a lower rank. Each pair is looked at once,
 // and the transition chosen for it is noted, so that it need not be searched for again.
+#![tactic(auto)]
+
 ghost use Rattle.std.specs.Prelude.{◌≤◌, length};
 ghost use Rattle.simulation.specs.Round.{pairs};
 ghost use Rattle.form.specs.Tables.{first_table, contract_table, BothLoaded};

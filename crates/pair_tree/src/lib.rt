@@ -1,6 +1,8 @@
 // The tree of a pair that is not kept: measured, and written if it is short enough and there is room for it.
 // What the arrays lent as room hold is free. Each is made in the function that lends it, since returning it would copy it, and of ones,
 // which the compiler writes in words, where zeros become a call of memset.
+#![tactic(auto)]
+
 ghost use Rattle.std.specs.Prelude.{◌≤◌, ◌<◌, length};
 ghost use Rattle.simulation.specs.Limits.{few_pairs, most_pairs};
 ghost use Rattle.simulation.specs.Round.{pairs};

@@ -1,5 +1,7 @@
 // One pair of a tree, and the pairs of one row: a pair is listed with the transition chosen for it, its count is handed on, and the pairs
 // below it are to be passed later.
+#![tactic(auto)]
+
 ghost use Rattle.std.specs.Prelude.{◌≡◌, ℕ, ◌<◌, T, length, set};
 ghost use Rattle.simulation.specs.Limits.{most_states};
 ghost use Rattle.word.specs.Mask.{member};

@@ -1,2 +1,4 @@
 // Trees in a fixed stack: the bytes of a tree whose lengths are known.
+#![tactic(auto)]
+
 pub mod write;

@@ -2,14 +2,14 @@
 -- Assumes nothing.
 use mathlib.Core.List.{List}
 use mathlib.Core.Path.{◌≡◌, refl, sym, ap, ◌∙◌, subst}
-use mathlib.Core.Bool.{Bool, true, not, not-not}
+use mathlib.Core.Bool.{Bool, true}
 use mathlib.Core.Logic.{◌≢◌}
-use Prim.Native.Nat.{ℕ, ◌-◌, ◌+◌, ◌<◌}
+use Prim.Native.Nat.{ℕ, ◌+◌, ◌<◌}
 use native.Mathlib.Omega.{arith}
 use lib.ListN.{length}
 use Rattle.simulation.specs.Limits.{most_transitions}
 use Rattle.simulation.specs.Table.{states_of}
-use Rattle.form.specs.Form.{Loaded, start_of, transitions_of}
+use Rattle.form.specs.Form.{Loaded, transitions_of}
 use Rattle.form.specs.Tables.{first_form, second_form, second_table, first_step}
 use Rattle.form.proofs.FormLaws.{limits}
 use Rattle.choice.specs.Choice.{Choice, SetsChosen, round_fits_some, Tested}
@@ -58,10 +58,10 @@ asked c = let p = c.requires in record { ranked = p.0; lost = p.1; its_rank = p.
 
 -- the lists are as long as at the entry
 sets-length : (l : At-loop-l) → length l.loop-l.sets ≡ length l.args.sets.now
-sets-length l = l.loop-l.invariant.same-sets ∙ l.sets-1.given
+sets-length l = l.loop-l.invariant.same-sets ∙ l.find_sets-l.auto.sets
 
 amounts-length : (l : At-loop-l) → length l.loop-l.amounts ≡ length l.args.amounts.now
-amounts-length l = l.loop-l.invariant.same-amounts ∙ l.amounts-1.given
+amounts-length l = l.loop-l.invariant.same-amounts ∙ l.find_sets-l.auto.amounts
 
 pub overflow_add-t : goal.overflow_add-t
 overflow_add-t c =
@@ -78,8 +78,8 @@ start_of-j-requires c = let p = asked (goal.at.start_of-j-requires c).Start in (
 begun : (c : After-start_of-j) → let a = c.args in Trying a.tables.now a.s a.t c.start_of-j.result
 begun c =
     let a = c.args in
-    let p = (let it : let a = c.args in LostPair a.tables.now a.ranks.now a.s a.t a.r = let p = c.requires in record { ranked = p.0; lost = p.1; its_rank = p.2 } in it) in
-    subst (Trying a.tables.now a.s a.t) (sym c.start_of-j.ensures) (trying_start a.tables.now a.s a.t (first p) p.lost)
+    let p = c.requires in
+    subst (Trying a.tables.now a.s a.t) (sym c.start_of-j.ensures) (trying_start a.tables.now a.s a.t p.0.loaded.first p.1)
 
 pub find_sets-l-requires : goal.find_sets-l-requires
 find_sets-l-requires c =
@@ -122,8 +122,8 @@ find_sets-l-requires-then-not-guessed c =
       p.2,
       y.low,
       y.high,
-      omega (arith, p.3, c.sets-in-loop-l-1.given, sets-length (goal.at.find_sets-l-requires-then-not-guessed c).At-loop-l),
-      omega (arith, p.4, c.amounts-in-loop-l-1.given, amounts-length (goal.at.find_sets-l-requires-then-not-guessed c).At-loop-l),
+      omega (arith, p.3, c.guessed.auto.rel, sets-length (goal.at.find_sets-l-requires-then-not-guessed c).At-loop-l),
+      omega (arith, p.4, c.guessed.auto.amounts, amounts-length (goal.at.find_sets-l-requires-then-not-guessed c).At-loop-l),
     )
 
 pub loop-l-smaller-then-not-guessed : goal.loop-l-smaller-then-not-guessed
@@ -137,8 +137,8 @@ loop-l-preserved-then-not-guessed c =
       trying = next (asked (goal.at.loop-l-preserved-then-not-guessed c).Start) w c.loop-l-test.true;
       tested = c.find_sets-l-then-not-guessed.ensures;
       ends = w.ends;
-      same-sets = c.sets-then-not-guessed-1.given ∙ c.sets-in-loop-l-1.given ∙ w.same-sets;
-      same-amounts = c.amounts-then-not-guessed-1.given ∙ c.amounts-in-loop-l-1.given ∙ w.same-amounts;
+      same-sets = c.find_sets-l-then-not-guessed.auto.sets ∙ c.guessed.auto.rel ∙ w.same-sets;
+      same-amounts = c.find_sets-l-then-not-guessed.auto.amounts ∙ c.guessed.auto.amounts ∙ w.same-amounts;
     }
 
 pub loop-l-smaller : goal.loop-l-smaller
@@ -152,10 +152,10 @@ loop-l-preserved c =
     let ne = c.loop-l-test.true in
     record {
       trying = next p w ne;
-      tested = guess p w ne (c.guessed.ensures (sym (not-not c.guessed.result) ∙ ap not c.if-not-guessed.false-raw));
+      tested = guess p w ne (c.guessed.ensures c.if-not-guessed.false);
       ends = w.ends;
-      same-sets = c.sets-in-loop-l-1.given ∙ w.same-sets;
-      same-amounts = c.amounts-in-loop-l-1.given ∙ w.same-amounts;
+      same-sets = c.guessed.auto.rel ∙ w.same-sets;
+      same-amounts = c.guessed.auto.amounts ∙ w.same-amounts;
     }
 
 pub shape_of-sets : goal.shape_of-sets

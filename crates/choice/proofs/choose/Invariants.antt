@@ -1,19 +1,13 @@
 -- `choice::choose` meets its contract: the transitions of s passed fit one of t.
 -- Assumes nothing.
 use mathlib.Core.List.{List}
-use mathlib.Core.Path.{◌≡◌, refl, sym, ap, ◌∙◌, subst}
-use mathlib.Core.Bool.{Bool, true, not, not-not}
-use mathlib.Core.Logic.{◌≢◌}
-use Prim.Native.Nat.{ℕ, ◌-◌, ◌+◌, ◌<◌}
-use native.Mathlib.Omega.{arith}
+use mathlib.Core.Path.{◌≡◌}
+use Prim.Native.Nat.{ℕ, ◌-◌, ◌+◌}
 use lib.ListN.{length}
-use Rattle.simulation.specs.Limits.{most_transitions}
-use Rattle.simulation.specs.Table.{states_of}
-use Rattle.form.specs.Form.{Loaded, start_of, transitions_of}
-use Rattle.form.specs.Tables.{first_form, second_form, second_table, first_step}
-use Rattle.form.proofs.FormLaws.{limits}
-use Rattle.choice.specs.Choice.{Choice, SetsChosen, round_fits_some, Tested}
-use Rattle.choice.proofs.Choosing.{LostPair, second-state, matches, Trying, number_of, trying_start, trying_next, trying_end, tested_one}
+use Rattle.form.specs.Form.{start_of}
+use Rattle.form.specs.Tables.{first_form, second_form}
+use Rattle.choice.specs.Choice.{Tested}
+use Rattle.choice.proofs.Choosing.{Trying}
 use Rattle.choice.proofs.choose.Given as goal
 
 -- the walk over the transitions of s; l is one of t that number j fits, or the end of those of t

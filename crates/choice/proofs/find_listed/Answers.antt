@@ -3,10 +3,10 @@
 use mathlib.Core.List.{List}
 use mathlib.Core.Path.{◌≡◌, refl, sym, ◌∙◌, subst}
 use mathlib.Core.Bool.{Bool, true, false}
-use Prim.Native.Nat.{ℕ, ◌-◌, ◌+◌, ◌<◌, ◌≤◌, pred}
+use Prim.Native.Nat.{ℕ, ◌+◌, ◌<◌, ◌≤◌, pred}
 use native.Mathlib.Omega.{arith}
 use borrow.Author.Tests.{eqb-true}
-use lib.Dec.{T, eqb}
+use lib.Dec.{T}
 use lib.ListN.{length}
 use Rattle.simulation.specs.Limits.{most_pairs, most_states, most_transitions}
 use Rattle.simulation.specs.Round.{Relation, fits_step, round}
@@ -153,7 +153,7 @@ loop-l-init c =
 
 -- what was lent for the sets is as long at the loop
 lent : (l : At-loop-l) → length l.loop-l.sets ≡ length l.args.sets.now
-lent l = l.loop-l.invariant.same-sets ∙ l.sets-1.given
+lent l = l.loop-l.invariant.same-sets ∙ l.clear.auto.rows
 
 pub part_sets-requires : goal.part_sets-requires
 part_sets-requires c =
@@ -164,11 +164,11 @@ part_sets-requires c =
     )
 
 pub shape_of-sets-then-part_sets : goal.shape_of-sets-then-part_sets
-shape_of-sets-then-part_sets c = c.sets-in-loop-l-1.given ∙ lent (goal.at.shape_of-sets-then-part_sets c).At-loop-l
+shape_of-sets-then-part_sets c = c.part_sets.auto.sets ∙ lent (goal.at.shape_of-sets-then-part_sets c).At-loop-l
 
 pub shape_of-amounts-then-part_sets : goal.shape_of-amounts-then-part_sets
 shape_of-amounts-then-part_sets c =
-    c.amounts-1.given ∙ c.loop-l.invariant.same-amounts
+    c.part_sets.auto.amounts ∙ c.loop-l.invariant.same-amounts
 
 pub returns-then-part_sets : goal.returns-then-part_sets
 returns-then-part_sets c =
@@ -190,7 +190,7 @@ loop-l-smaller c = omega (arith, c.loop-l-test.true, c.next_coded-l-in-loop-l.en
 pub loop-l-preserved : goal.loop-l-preserved
 loop-l-preserved c =
     added (asked (goal.at.loop-l-preserved c).Start) c.loop-l.invariant c.loop-l-test.true c.part_sets.ensures c.if-part_sets.false c.next_coded-l-in-loop-l.ensures
-    c.sets-in-loop-l-1.given c.amounts-1.given
+    c.part_sets.auto.sets c.part_sets.auto.amounts
 
 pub shape_of-sets : goal.shape_of-sets
 shape_of-sets c = lent (goal.at.shape_of-sets c).At-loop-l

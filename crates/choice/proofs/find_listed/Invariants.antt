@@ -1,27 +1,15 @@
 -- `choice::find_listed` meets its contract: the listed transitions of t passed are gathered into the sets.
 -- Assumes nothing.
 use mathlib.Core.List.{List}
-use mathlib.Core.Path.{◌≡◌, refl, sym, ◌∙◌, subst}
-use mathlib.Core.Bool.{Bool, true, false}
-use Prim.Native.Nat.{ℕ, ◌-◌, ◌+◌, ◌<◌, ◌≤◌, pred}
-use native.Mathlib.Omega.{arith}
-use borrow.Author.Tests.{eqb-true}
-use lib.Dec.{T, eqb}
+use mathlib.Core.Path.{◌≡◌}
+use mathlib.Core.Bool.{true}
+use Prim.Native.Nat.{ℕ, ◌-◌, ◌+◌, ◌<◌, pred}
+use lib.Dec.{eqb}
 use lib.ListN.{length}
-use Rattle.simulation.specs.Limits.{most_pairs, most_states, most_transitions}
-use Rattle.simulation.specs.Round.{Relation, fits_step, round}
-use Rattle.simulation.specs.Table.{Transition, states_of}
-use Rattle.simulation.specs.Complete.{lists}
-use Rattle.form.specs.Form.{Loaded, start_of, transitions_of}
-use Rattle.form.specs.Tables.{first_form, second_form, first_table, second_table, contract_table, first_step, second_step}
-use Rattle.form.proofs.FormLaws.{limits, start-bound}
-use Rattle.form.proofs.Contract.{answered-listed, apart_by-listed}
-use Rattle.relate.proofs.Places.{few_places, targets-count}
-use Rattle.fit.specs.Partner.{NextCoded}
-use Rattle.fit.specs.Ranked.{InRound}
-use Rattle.fit.proofs.Partner.{search_begins}
-use Rattle.choice.specs.Choice.{Parted, Tested}
-use Rattle.choice.proofs.Choosing.{LostPair, lost_compared, SetsGathering, number_of, second-state, listed_answers, scan_end, tested_one, tested_none, gathering_start, gathering_next, gathering_coded, gathering_end}
+use Rattle.simulation.specs.Round.{round}
+use Rattle.form.specs.Form.{start_of}
+use Rattle.form.specs.Tables.{second_form, first_table, contract_table, first_step, second_step}
+use Rattle.choice.proofs.Choosing.{SetsGathering}
 use Rattle.choice.proofs.find_listed.Given as goal
 
 -- the walk over the transitions of t, from the lists sets₀ and amounts₀ on

@@ -1,10 +1,10 @@
 -- `choice::join_sets` meets its contract: the sets of the members passed are joined. Assumes nothing.
 use mathlib.Core.Path.{sym, ap, ◌∙◌, subst}
 use mathlib.Core.List.{List}
-use Prim.Native.Nat.{ℕ, ◌≤◌, ◌<◌, ◌-◌}
+use Prim.Native.Nat.{ℕ, ◌<◌}
 use native.Mathlib.Omega.{arith}
 use Rattle.word.specs.Mask.{member, either}
-use Rattle.set.specs.Words.{words, mask, after, rest}
+use Rattle.set.specs.Words.{mask, rest}
 use Rattle.relation.specs.Rows.{height}
 use Rattle.set.proofs.Sets.{walk_begin, walk_into, walk_on, walk_done}
 use Rattle.choice.proofs.Choosing.{Joining, joining_start, joining_next, joining_end}
@@ -16,20 +16,11 @@ loop-w-init c =
     let a = c.args in
     (omega arith, walk_begin a.named (Joining (mask a.named) (mask a.more) a.sets.now a.sets.now) (joining_start _ _ _))
 
-pub offset_bounds-named-w : goal.offset_bounds-named-w
-offset_bounds-named-w c = omega arith
-
-pub bounds-named-w : goal.bounds-named-w
-bounds-named-w c = omega arith
-
 pub loop-left-init : goal.loop-left-init
 loop-left-init c = λ l h.
     let a = c.args in
     let o = c.loop-w in
     walk_into a.named (Joining (mask a.named) (mask a.more) l o.sets) o.w h
-
-pub lowest-i-requires : goal.lowest-i-requires
-lowest-i-requires c = (omega arith, omega arith)
 
 -- the set named is one of the sets
 lowest_near : (c : After-lowest-i) → c.lowest-i.result < height c.loop-left.sets
@@ -39,9 +30,6 @@ lowest_near c =
 
 pub get-requires : goal.get-requires
 get-requires c = lowest_near c
-
-pub union-set-requires : goal.union-set-requires
-union-set-requires c = tt
 
 pub put-requires : goal.put-requires
 put-requires c = lowest_near (goal.at.put-requires c).After-lowest-i
@@ -63,12 +51,6 @@ loop-left-preserved c = λ l h.
     subst (λ (s : List ℕ). Joining (mask named) more l s (rest c.loop-w.w c.without_lowest-left.result named)) (sym c.put.ensures)
     (joining_next c.union-set.result (i.invariant l h)
     (λ k m. omega (arith, c.requires k m, (i.invariant l h).size, (i.invariant _ c.loop-w.invariant.1).size)) low (c.without_lowest-left.ensures.0 _ low) e)
-
-pub overflow_step-w : goal.overflow_step-w
-overflow_step-w c = omega arith
-
-pub loop-w-smaller : goal.loop-w-smaller
-loop-w-smaller c = omega arith
 
 pub loop-w-preserved : goal.loop-w-preserved
 loop-w-preserved c =

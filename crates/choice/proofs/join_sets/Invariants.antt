@@ -1,13 +1,8 @@
 -- `choice::join_sets` meets its contract: the sets of the members passed are joined. Assumes nothing.
-use mathlib.Core.Path.{sym, ap, ◌∙◌, subst}
 use mathlib.Core.List.{List}
-use Prim.Native.Nat.{ℕ, ◌≤◌, ◌<◌, ◌-◌}
-use native.Mathlib.Omega.{arith}
-use Rattle.word.specs.Mask.{member, either}
+use Prim.Native.Nat.{ℕ, ◌≤◌, ◌-◌}
 use Rattle.set.specs.Words.{words, mask, after, rest}
-use Rattle.relation.specs.Rows.{height}
-use Rattle.set.proofs.Sets.{walk_begin, walk_into, walk_on, walk_done}
-use Rattle.choice.proofs.Choosing.{Joining, joining_start, joining_next, joining_end}
+use Rattle.choice.proofs.Choosing.{Joining}
 use Rattle.choice.proofs.join_sets.Given as goal
 
 -- what the outer loop has joined when the inner one starts, it has joined still

@@ -2,27 +2,21 @@
 use mathlib.Core.Path.{sym, ap, ◌∙◌, subst}
 use mathlib.Core.List.{List}
 use mathlib.Core.Bool.{not, ◌&&◌}
-use Prim.Native.Nat.{ℕ, ◌≤◌, ◌<◌, ◌-◌}
+use Prim.Native.Nat.{ℕ, ◌<◌}
 use native.Mathlib.Omega.{arith}
 use lib.Dec.{eqb}
 use lib.ListN.{length, get_or}
-use borrow.Author.Rules.{rules}
 use Rattle.simulation.specs.Limits.{most_states}
 use Rattle.simulation.specs.Sum.{any}
 use Rattle.form.specs.Tables.{second_form, second_step}
 use Rattle.word.specs.Mask.{member}
-use Rattle.set.specs.Words.{words, mask, after, rest}
-use Rattle.set.specs.declared.Set.{Set}
+use Rattle.set.specs.Words.{mask}
 use Rattle.set.proofs.Sets.{walk_begin, walk_into, walk_on, walk_done}
-use Rattle.choice.specs.Choice.{Names}
 use Rattle.choice.proofs.Choosing.{Uniting, uniting_start, uniting_next, uniting_end, outside_names, outside-any}
 use Rattle.relate.proofs.Places.{few_places, targets-count, target_small}
 use Rattle.choice.proofs.other_targets.Invariants.{United}
 use Rattle.choice.proofs.other_targets.Goals as goal
-use Rattle.choice.proofs.other_targets.Goals.{After-shared_slice_known-in-loop-left-1}
-
-pub empty-states-requires : goal.empty-states-requires
-empty-states-requires c = tt
+use Rattle.choice.proofs.other_targets.Goals.{After-lowest-j}
 
 pub below-requires : goal.below-requires
 below-requires c =
@@ -30,9 +24,6 @@ below-requires c =
     let k = c.args.k in
     let l = c.requires.0.second in
     omega (arith, few_places f k l c.requires.1, targets-count f k l c.requires.1 _ c.targets-targets.ensures)
-
-pub difference-other-requires : goal.difference-other-requires
-difference-other-requires c = tt
 
 pub loop-w-init : goal.loop-w-init
 loop-w-init c =
@@ -44,21 +35,12 @@ loop-w-init c =
           (subst (λ (n : ℕ). Uniting (λ j u. eqb u (get_or targets j 0)) (mask other) (mask other) n) (sym c.empty-states.ensures) uniting_start),
     )
 
-pub offset_bounds-other-w : goal.offset_bounds-other-w
-offset_bounds-other-w c = omega arith
-
-pub bounds-other-w : goal.bounds-other-w
-bounds-other-w c = omega arith
-
 pub loop-left-init : goal.loop-left-init
 loop-left-init c =
     let o = c.loop-w in
     let other = c.difference-other.result in
     let targets = c.targets-targets.result.now in
     (o.invariant.1, walk_into other (λ (n : ℕ). United targets other n o.states) o.w o.invariant.2)
-
-pub lowest-j-requires : goal.lowest-j-requires
-lowest-j-requires c = (omega arith, omega arith)
 
 pub offset_bounds-targets-j : goal.offset_bounds-targets-j
 offset_bounds-targets-j c = omega (arith, c.lowest-j.ensures.0)
@@ -67,7 +49,7 @@ pub bounds-targets-j : goal.bounds-targets-j
 bounds-targets-j c = let v = c.loop-left.invariant in v.0 _ (v.1.part _ c.lowest-j.ensures.1.here)
 
 -- the target read is a state
-target_of : (c : After-shared_slice_known-in-loop-left-1)
+target_of : (c : After-lowest-j)
     → get_or c.targets-targets.result.now c.lowest-j.result 0 < most_states
 target_of c =
     let v = c.loop-left.invariant in
@@ -75,10 +57,10 @@ target_of c =
     (v.0 _ (v.1.part _ c.lowest-j.ensures.1.here))
 
 pub overflow_cast-t : goal.overflow_cast-t
-overflow_cast-t c = record { fits = omega (arith, target_of c) }
+overflow_cast-t c = record { fits = omega (arith, target_of (goal.at.overflow_cast-t c).After-lowest-j) }
 
 pub insert-states-requires : goal.insert-states-requires
-insert-states-requires c = target_of c
+insert-states-requires c = target_of (goal.at.insert-states-requires c).After-lowest-j
 
 pub without_lowest-left-requires : goal.without_lowest-left-requires
 without_lowest-left-requires c =
@@ -92,12 +74,6 @@ loop-left-preserved c =
     let low = c.lowest-j.ensures.1 in
     let v = c.loop-left.invariant in
     (v.0, uniting_next v.1 low (c.without_lowest-left.ensures.0 _ low) c.insert-states.ensures)
-
-pub overflow_step-w : goal.overflow_step-w
-overflow_step-w c = omega arith
-
-pub loop-w-smaller : goal.loop-w-smaller
-loop-w-smaller c = omega arith
 
 pub loop-w-preserved : goal.loop-w-preserved
 loop-w-preserved c =

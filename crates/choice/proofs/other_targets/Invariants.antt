@@ -1,22 +1,12 @@
 -- `choice::other_targets` meets its contract: the targets passed are united. Assumes nothing.
-use mathlib.Core.Path.{sym, ap, ◌∙◌, subst}
 use mathlib.Core.List.{List}
-use mathlib.Core.Bool.{not, ◌&&◌}
-use Prim.Native.Nat.{ℕ, ◌≤◌, ◌<◌, ◌-◌}
-use native.Mathlib.Omega.{arith}
+use Prim.Native.Nat.{ℕ, ◌≤◌, ◌-◌}
 use lib.Dec.{eqb}
 use lib.ListN.{length, get_or}
-use borrow.Author.Rules.{rules}
-use Rattle.simulation.specs.Limits.{most_states}
-use Rattle.simulation.specs.Sum.{any}
-use Rattle.form.specs.Tables.{second_form, second_step}
-use Rattle.word.specs.Mask.{member}
 use Rattle.set.specs.Words.{words, mask, after, rest}
 use Rattle.set.specs.declared.Set.{Set}
-use Rattle.set.proofs.Sets.{walk_begin, walk_into, walk_on, walk_done}
 use Rattle.choice.specs.Choice.{Names}
-use Rattle.choice.proofs.Choosing.{Uniting, uniting_start, uniting_next, uniting_end, outside_names, outside-any}
-use Rattle.relate.proofs.Places.{few_places, targets-count, target_small}
+use Rattle.choice.proofs.Choosing.{Uniting}
 use Rattle.choice.proofs.other_targets.Given as goal
 
 -- the targets passed are in the set of states

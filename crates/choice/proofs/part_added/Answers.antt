@@ -1,20 +1,18 @@
 -- `choice::part_added` meets its contract: the targets before place i are tested.
 -- Assumes nothing.
 use mathlib.Core.Path.{◌≡◌}
-use Prim.Native.Nat.{◌-◌, ◌<◌, ◌≤◌, pred}
+use Prim.Native.Nat.{◌<◌, ◌≤◌}
 use native.Mathlib.Omega.{arith}
-use borrow.Author.Rules.{rules}
 use lib.ListN.{length}
 use Rattle.simulation.specs.Limits.{most_states}
-use Rattle.simulation.specs.Round.{round}
 use Rattle.simulation.proofs.Finite.Sums.{one-most}
-use Rattle.form.specs.Tables.{first_form, first_table, contract_table, first_step}
+use Rattle.form.specs.Tables.{first_form, first_step}
 use Rattle.form.proofs.FormLaws.{limits}
 use Rattle.form.proofs.Contract.{contract-few}
 use Rattle.relation.specs.Ranks.{lasts}
 use Rattle.relate.proofs.Places.{few_places, targets-count, target-state}
 use Rattle.choice.proofs.Choices.{pair_place}
-use Rattle.choice.proofs.Added.{Parting, parting_start, parting_few, parting_next, parting_end, lost-is}
+use Rattle.choice.proofs.Added.{parting_start, parting_few, parting_next, parting_end, lost-is}
 use Rattle.choice.proofs.part_added.Goals as goal
 use Rattle.choice.proofs.part_added.Goals.{After-lasts-lost, After-targets-targets, In-loop-i, Start}
 
@@ -30,7 +28,8 @@ few c = few_places (first_form c.args.tables.now) c.args.j c.requires.0.loaded.f
 
 -- the place is that of an entry
 place : (c : In-loop-i) → let a = c.args in c.loop-i.i < length (first_step a.tables.now a.j).entries
-place c = omega (arith, (let it : let a = c.args in length c.targets-targets.result.now ≡ length (first_step a.tables.now a.j).entries = targets-count (first_form c.args.tables.now) c.args.j c.requires.0.loaded.first c.requires.2 _ c.targets-targets.ensures in it), c.loop-i-test.true)
+place c =
+    omega (arith, targets-count (first_form c.args.tables.now) c.args.j c.requires.0.loaded.first c.requires.2 _ c.targets-targets.ensures, c.loop-i-test.true)
 
 -- 1 at most
 bit : (c : After-lasts-lost) → c.lasts-lost.result ≤ 1
@@ -45,9 +44,6 @@ offset_bounds-targets-i c = record { fits = omega (arith, place c, few (goal.at.
 pub bounds-targets-i : goal.bounds-targets-i
 bounds-targets-i c = c.loop-i-test.true
 
-pub overflow_cast-targets : goal.overflow_cast-targets
-overflow_cast-targets c = record { fits = omega (arith, c.shared_slice_known-in-loop-i-1.given c.loop-i.i) }
-
 pub rank_at-rank-requires : goal.rank_at-rank-requires
 rank_at-rank-requires c =
     let a = c.args in
@@ -56,14 +52,8 @@ rank_at-rank-requires c =
     let own = target-state f a.j p.0.loaded.first p.2 _ c.targets-targets.ensures c.loop-i.i c.loop-i-test.true in
     (p.0.loaded, omega (arith, own, (limits f p.0.loaded.first).states-few), omega (arith, narrow (goal.at.rank_at-rank-requires c).Start), omega (arith, pair_place p.0 own p.3))
 
-pub lasts-lost-requires : goal.lasts-lost-requires
-lasts-lost-requires c = tt
-
 pub overflow_sub-lost : goal.overflow_sub-lost
 overflow_sub-lost c = bit c
-
-pub empty-requires : goal.empty-requires
-empty-requires c = tt
 
 pub with_bit-requires : goal.with_bit-requires
 with_bit-requires c =

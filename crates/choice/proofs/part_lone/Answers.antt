@@ -4,7 +4,6 @@ use mathlib.Core.Path.{◌≡◌, ap, ◌∙◌}
 use mathlib.Core.List.{List}
 use Prim.Native.Nat.{ℕ, ◌<◌, pred}
 use native.Mathlib.Omega.{arith}
-use borrow.Author.Rules.{rules}
 use lib.ListN.{length, get_or}
 use Rattle.simulation.specs.Sum.{any}
 use Rattle.simulation.specs.Table.{target_at}
@@ -36,9 +35,6 @@ found c u =
 
 pub bounds-targets-0 : goal.bounds-targets-0
 bounds-targets-0 c = lone (goal.at.bounds-targets-0 c).After-targets
-
-pub overflow_cast-s : goal.overflow_cast-s
-overflow_cast-s c = record { fits = omega (arith, c.shared_slice_known-3-1.given 0) }
 
 pub unrelated-more-requires : goal.unrelated-more-requires
 unrelated-more-requires c =

@@ -1,7 +1,6 @@
 -- `choice::part_sets` meets its contract.
 -- Assumes nothing.
 use native.Mathlib.Omega.{arith}
-use borrow.Author.Rules.{rules}
 use Rattle.form.specs.Tables.{first_form}
 use Rattle.relate.proofs.Places.{targets-count}
 use Rattle.choice.proofs.part_sets.Goals as goal

@@ -5,7 +5,6 @@ use Prim.Native.Nat.{ℕ, ◌+◌, ◌*◌, ◌≤◌, ◌<◌}
 use native.Mathlib.Omega.{arith}
 use native.Mathlib.Nat.{mul-le-mul_left}
 use lib.ListN.{get_or}
-use borrow.Author.Rules.{rules}
 use Rattle.simulation.specs.Limits.{most_pairs, most_states}
 use Rattle.simulation.specs.Table.{states_of}
 use Rattle.form.specs.Tables.{contract_table, BothLoaded}

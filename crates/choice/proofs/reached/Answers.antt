@@ -1,20 +1,15 @@
 -- `choice::reached` meets its contract: the rows passed are united. Assumes nothing.
 use mathlib.Core.Path.{sym, ap, ◌∙◌, subst}
-use mathlib.Core.List.{List}
-use Prim.Native.Nat.{ℕ, ◌≤◌, ◌-◌}
+use Prim.Native.Nat.{ℕ}
 use native.Mathlib.Omega.{arith}
 use Rattle.word.specs.Mask.{member, either}
-use Rattle.set.specs.Words.{words, mask, after, rest}
+use Rattle.set.specs.Words.{mask}
 use Rattle.relation.specs.Rows.{height}
-use Rattle.set.specs.declared.Set.{Set}
 use Rattle.set.proofs.Sets.{walk_begin, walk_into, walk_on, walk_done}
 use Rattle.relation.specs.Related.{holds}
 use Rattle.choice.proofs.Choosing.{Uniting, uniting_start, uniting_next, uniting_end}
 use Rattle.choice.proofs.reached.Invariants.{United}
 use Rattle.choice.proofs.reached.Goals as goal
-
-pub empty-near-requires : goal.empty-near-requires
-empty-near-requires c = tt
 
 pub loop-w-init : goal.loop-w-init
 loop-w-init c =
@@ -25,27 +20,15 @@ loop-w-init c =
           (subst (Uniting (holds a.rel.now) (mask named) (mask named)) (sym c.empty-near.ensures) uniting_start),
     )
 
-pub offset_bounds-named-w : goal.offset_bounds-named-w
-offset_bounds-named-w c = omega arith
-
-pub bounds-named-w : goal.bounds-named-w
-bounds-named-w c = omega arith
-
 pub loop-left-init : goal.loop-left-init
 loop-left-init c =
     let a = c.args in
     let o = c.loop-w in
     walk_into a.named (λ (n : ℕ). United a.rel.now a.named n o.near) o.w o.invariant.1
 
-pub lowest-i-requires : goal.lowest-i-requires
-lowest-i-requires c = (omega arith, omega arith)
-
 pub get-requires : goal.get-requires
 get-requires c =
     c.requires _ (c.loop-left.invariant.part _ c.lowest-i.ensures.1.here)
-
-pub union-near-requires : goal.union-near-requires
-union-near-requires c = tt
 
 pub without_lowest-left-requires : goal.without_lowest-left-requires
 without_lowest-left-requires c =
@@ -60,12 +43,6 @@ loop-left-preserved c =
     let o = c.loop-left in
     uniting_next o.invariant low (c.without_lowest-left.ensures.0 _ low)
     (c.union-near.ensures ∙ ap (λ (n : ℕ). either (member n) (member (mask o.near))) c.get.ensures)
-
-pub overflow_step-w : goal.overflow_step-w
-overflow_step-w c = omega arith
-
-pub loop-w-smaller : goal.loop-w-smaller
-loop-w-smaller c = omega arith
 
 pub loop-w-preserved : goal.loop-w-preserved
 loop-w-preserved c =

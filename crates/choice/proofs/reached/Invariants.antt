@@ -1,15 +1,10 @@
 -- `choice::reached` meets its contract: the rows passed are united. Assumes nothing.
-use mathlib.Core.Path.{sym, ap, ◌∙◌, subst}
 use mathlib.Core.List.{List}
 use Prim.Native.Nat.{ℕ, ◌≤◌, ◌-◌}
-use native.Mathlib.Omega.{arith}
-use Rattle.word.specs.Mask.{member, either}
 use Rattle.set.specs.Words.{words, mask, after, rest}
-use Rattle.relation.specs.Rows.{height}
 use Rattle.set.specs.declared.Set.{Set}
-use Rattle.set.proofs.Sets.{walk_begin, walk_into, walk_on, walk_done}
 use Rattle.relation.specs.Related.{holds}
-use Rattle.choice.proofs.Choosing.{Uniting, uniting_start, uniting_next, uniting_end}
+use Rattle.choice.proofs.Choosing.{Uniting}
 use Rattle.choice.proofs.reached.Given as goal
 
 -- the rows passed are in the set

@@ -3,9 +3,8 @@
 use mathlib.Core.Path.{◌≡◌, ap, ◌∙◌}
 use mathlib.Core.Bool.{not}
 use mathlib.Core.List.{List}
-use Prim.Native.Nat.{ℕ, ◌-◌, ◌<◌, ◌≤◌, pred}
+use Prim.Native.Nat.{ℕ, ◌<◌, ◌≤◌, pred}
 use native.Mathlib.Omega.{arith}
-use borrow.Author.Rules.{rules}
 use lib.ListN.{length, get_or}
 use Rattle.simulation.specs.Limits.{most_states}
 use Rattle.simulation.specs.Table.{target_at, states_of}
@@ -15,11 +14,10 @@ use Rattle.simulation.proofs.Finite.Sums.{one-most}
 use Rattle.form.specs.Tables.{first_form, second_form, first_table, second_table, contract_table, second_step}
 use Rattle.form.proofs.FormLaws.{limits}
 use Rattle.form.proofs.Contract.{contract-states}
-use Rattle.set.specs.Words.{mask}
 use Rattle.relation.specs.Ranks.{lasts}
 use Rattle.relate.proofs.Places.{few_places, targets-count, target-state}
 use Rattle.choice.proofs.Choices.{pair_place, pair_lost}
-use Rattle.choice.proofs.Parts.{apart-at, Unrelating, unrelating_start, unrelating_next}
+use Rattle.choice.proofs.Parts.{apart-at, unrelating_start, unrelating_next}
 use Rattle.choice.proofs.unrelated.Goals as goal
 use Rattle.choice.proofs.unrelated.Goals.{After-targets-targets, In-loop-i}
 
@@ -32,15 +30,13 @@ few c = few_places (second_form c.args.tables.now) c.args.k c.requires.0.loaded.
 
 -- the place is that of an entry
 place : (c : In-loop-i) → let a = c.args in c.loop-i.i < length (second_step a.tables.now a.k).entries
-place c = omega (arith, (let it : let a = c.args in length c.targets-targets.result.now ≡ length (second_step a.tables.now a.k).entries = targets-count (second_form c.args.tables.now) c.args.k c.requires.0.loaded.second c.requires.3 _ c.targets-targets.ensures in it), c.loop-i-test.true)
+place c =
+    omega (arith, targets-count (second_form c.args.tables.now) c.args.k c.requires.0.loaded.second c.requires.3 _ c.targets-targets.ensures, c.loop-i-test.true)
 
 -- the target is a state of the second table, and of the contract
 state : (c : In-loop-i) → get_or c.targets-targets.result.now c.loop-i.i 0 < states_of (second_table c.args.tables.now)
 state c =
     target-state (second_form c.args.tables.now) c.args.k c.requires.0.loaded.second c.requires.3 _ c.targets-targets.ensures c.loop-i.i c.loop-i-test.true
-
-pub empty-apart-requires : goal.empty-apart-requires
-empty-apart-requires c = tt
 
 pub loop-i-init : goal.loop-i-init
 loop-i-init c = unrelating_start _ _ _ c.empty-apart.ensures
@@ -51,9 +47,6 @@ offset_bounds-targets-i c = record { fits = omega (arith, place c, few (goal.at.
 pub bounds-targets-i : goal.bounds-targets-i
 bounds-targets-i c = c.loop-i-test.true
 
-pub overflow_cast-t : goal.overflow_cast-t
-overflow_cast-t c = record { fits = omega (arith, c.shared_slice_known-in-loop-i-1.given c.loop-i.i) }
-
 pub rank_at-requires : goal.rank_at-requires
 rank_at-requires c =
     let tables = c.args.tables.now in
@@ -63,9 +56,6 @@ rank_at-requires c =
       omega (arith, state (goal.at.rank_at-requires c).In-loop-i, (limits (second_form tables) p.0.loaded.second).states-few),
       pair_place p.0 p.2 (omega (arith, state (goal.at.rank_at-requires c).In-loop-i, contract-states tables)),
     )
-
-pub lasts-lost-requires : goal.lasts-lost-requires
-lasts-lost-requires c = tt
 
 pub overflow_sub-lost : goal.overflow_sub-lost
 overflow_sub-lost c =

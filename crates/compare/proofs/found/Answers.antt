@@ -11,9 +11,6 @@ use Rattle.compare.proofs.found.Goals as goal
 abbrev set-verdict : (rounds kept verdict rank : ℕ) → Answer
 set-verdict r k v p = record { number = 0; table = 0; needed = 0; rounds = r; kept = k; verdict = v; rank = p; written = 0 }
 
-pub overflow_cast-result-3 : goal.overflow_cast-result-3
-overflow_cast-result-3 c = omega (arith, c.shared_slice_known-3-1.given c.args.place)
-
 pub returns : goal.returns
 returns c =
     let d = c.args in

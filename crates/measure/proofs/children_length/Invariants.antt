@@ -1,10 +1,6 @@
 -- `measure::children_length` meets its contract. Assumes nothing.
-use native.Mathlib.Omega.{arith}
-use Prim.Native.Nat.{ℕ, ◌+◌, ◌*◌, ◌-◌, ◌≤◌}
-use lib.ListN.{get_or}
-use Rattle.simulation.specs.Limits.{most_states}
-use Rattle.measure.specs.Lengths.{most, most_children}
-use Rattle.measure.proofs.Measuring.{LengthLoop, length-start, length_node, length-fits, length-next, length-end}
+use Prim.Native.Nat.{◌-◌}
+use Rattle.measure.proofs.Measuring.{LengthLoop}
 use Rattle.measure.proofs.children_length.Given as goal
 
 abbrev pub invariant-loop-i : goal.invariant-loop-i

@@ -6,7 +6,7 @@ use Rattle.simulation.specs.Limits.{most_pairs}
 use Rattle.form.specs.Tables.{second_form}
 use Rattle.form.proofs.FormLaws.{limits}
 use Rattle.form.proofs.Contract.{contract-states}
-use Rattle.measure.proofs.Measuring.{MeasureLoop, measure_start, place-known, pair_in, pair_noted, measure_pair, measure_next, measure_end}
+use Rattle.measure.proofs.Measuring.{measure_start, place-known, pair_in, pair_noted, measure_pair, measure_next, measure_end}
 use Rattle.measure.proofs.measure.Goals as goal
 use Rattle.measure.proofs.measure.Goals.{At-loop-i, In-loop-i}
 
@@ -45,9 +45,6 @@ pub bounds-choices-p : goal.bounds-choices-p
 bounds-choices-p c =
     pair_noted c.requires.1 c.loop-i.invariant c.loop-i-test.true c.args.choices.now c.requires.3
 
-pub overflow_cast-j : goal.overflow_cast-j
-overflow_cast-j c = omega (arith, c.shared_slice_known-in-loop-i-2-1.given (get_or c.args.order.now (c.loop-i.i - 1) 0))
-
 pub nonzero_div-p : goal.nonzero_div-p
 nonzero_div-p c = omega (arith, wide (goal.at.nonzero_div-p c).At-loop-i)
 
@@ -69,7 +66,7 @@ loop-i-smaller c = omega (arith, c.loop-i-test.true)
 
 pub loop-i-preserved : goal.loop-i-preserved
 loop-i-preserved c =
-    measure_next c.requires.1 c.loop-i.invariant c.loop-i-test.true _ _ c.width-width.ensures c.measure_pair-len.ensures c.sets-1.given c.amounts-1.given
+    measure_next c.requires.1 c.loop-i.invariant c.loop-i-test.true _ _ c.width-width.ensures c.measure_pair-len.ensures c.measure_pair-len.auto.sets c.measure_pair-len.auto.amounts
 
 pub shape_of-lengths : goal.shape_of-lengths
 shape_of-lengths c = c.loop-i.invariant.same_lengths

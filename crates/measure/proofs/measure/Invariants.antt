@@ -1,12 +1,6 @@
 -- `measure::measure` meets its contract. Assumes nothing.
-use Prim.Native.Nat.{◌-◌, ◌<◌}
-use native.Mathlib.Omega.{arith}
-use lib.ListN.{length, get_or}
-use Rattle.simulation.specs.Limits.{most_pairs}
-use Rattle.form.specs.Tables.{second_form}
-use Rattle.form.proofs.FormLaws.{limits}
-use Rattle.form.proofs.Contract.{contract-states}
-use Rattle.measure.proofs.Measuring.{MeasureLoop, measure_start, place-known, pair_in, pair_noted, measure_pair, measure_next, measure_end}
+use lib.ListN.{length}
+use Rattle.measure.proofs.Measuring.{MeasureLoop}
 use Rattle.measure.proofs.measure.Given as goal
 
 abbrev pub invariant-loop-i : goal.invariant-loop-i

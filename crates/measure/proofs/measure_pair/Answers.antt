@@ -1,6 +1,5 @@
 -- `measure::measure_pair` meets its contract. Assumes nothing.
 use mathlib.Core.Path.{◌∙◌}
-use borrow.Author.Rules.{rules}
 use Rattle.choice.specs.Choice.{SetsChosen}
 use Rattle.counting.proofs.Pairs.{rank_asked}
 use Rattle.counting.proofs.Targets.{step-number}
@@ -34,7 +33,7 @@ targets-requires c =
 
 pub children_length-len-requires : goal.children_length-len-requires
 children_length-len-requires c =
-    pair_children c.requires.0 c.requires.1 c.targets.ensures (found (goal.at.children_length-len-requires c).After-find_sets-len) c.sets-1.given
+    pair_children c.requires.0 c.requires.1 c.targets.ensures (found (goal.at.children_length-len-requires c).After-find_sets-len) c.find_sets-len.auto.sets
 
 pub returns-then-len : goal.returns-then-len
 returns-then-len c =

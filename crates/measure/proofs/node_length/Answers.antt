@@ -1,7 +1,7 @@
 -- `measure::node_length` meets its contract: the lengths of the members passed are added up. Assumes nothing.
-use Prim.Native.Nat.{ℕ, ◌≤◌, ◌-◌}
+use Prim.Native.Nat.{ℕ}
 use native.Mathlib.Omega.{arith}
-use Rattle.set.specs.Words.{words, mask, after, rest}
+use Rattle.set.specs.Words.{mask}
 use Rattle.set.proofs.Sets.{walk_begin, walk_into, walk_on, walk_done}
 use Rattle.measure.proofs.Sums.{SumLoop, sum-start, sum_inside, sum_fits, sum-next, sum-end}
 use Rattle.measure.proofs.node_length.Goals as goal
@@ -11,20 +11,11 @@ loop-w-init c =
     let a = c.args in
     (omega arith, walk_begin a.members (λ (n : ℕ). SumLoop a.tables.now a.lengths.now a.s (mask a.members) 1 n) (sum-start a.tables.now a.lengths.now a.s (mask a.members)))
 
-pub offset_bounds-members-w : goal.offset_bounds-members-w
-offset_bounds-members-w c = omega arith
-
-pub bounds-members-w : goal.bounds-members-w
-bounds-members-w c = omega arith
-
 pub loop-left-init : goal.loop-left-init
 loop-left-init c =
     let a = c.args in
     let o = c.loop-w in
     walk_into a.members (λ (n : ℕ). SumLoop a.tables.now a.lengths.now a.s (mask a.members) o.len n) o.w o.invariant.1
-
-pub lowest-t-requires : goal.lowest-t-requires
-lowest-t-requires c = (omega arith, omega arith)
 
 pub pair_length-len-requires : goal.pair_length-len-requires
 pair_length-len-requires c =
@@ -38,9 +29,6 @@ overflow_add-len c =
     let g = c.requires in
     record { fits = omega (arith, sum_fits g c.loop-left.invariant c.lowest-t.ensures.1 _ c.pair_length-len.ensures, g.small) }
 
-pub without_lowest-left-requires : goal.without_lowest-left-requires
-without_lowest-left-requires c = (omega arith, omega arith)
-
 pub loop-left-smaller : goal.loop-left-smaller
 loop-left-smaller c = c.without_lowest-left.ensures.1
 
@@ -48,12 +36,6 @@ pub loop-left-preserved : goal.loop-left-preserved
 loop-left-preserved c =
     let low = c.lowest-t.ensures.1 in
     sum-next c.requires c.loop-left.invariant low _ c.pair_length-len.ensures (c.without_lowest-left.ensures.0 _ low)
-
-pub overflow_step-w : goal.overflow_step-w
-overflow_step-w c = omega arith
-
-pub loop-w-smaller : goal.loop-w-smaller
-loop-w-smaller c = omega arith
 
 pub loop-w-preserved : goal.loop-w-preserved
 loop-w-preserved c =

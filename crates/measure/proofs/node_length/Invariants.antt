@@ -1,9 +1,7 @@
 -- `measure::node_length` meets its contract: the lengths of the members passed are added up. Assumes nothing.
-use Prim.Native.Nat.{ℕ, ◌≤◌, ◌-◌}
-use native.Mathlib.Omega.{arith}
+use Prim.Native.Nat.{◌≤◌, ◌-◌}
 use Rattle.set.specs.Words.{words, mask, after, rest}
-use Rattle.set.proofs.Sets.{walk_begin, walk_into, walk_on, walk_done}
-use Rattle.measure.proofs.Sums.{SumLoop, sum-start, sum_inside, sum_fits, sum-next, sum-end}
+use Rattle.measure.proofs.Sums.{SumLoop}
 use Rattle.measure.proofs.node_length.Given as goal
 
 abbrev pub invariant-loop-left : goal.invariant-loop-left

@@ -1,13 +1,8 @@
 -- `measure::pair_length` meets its contract. Assumes nothing.
 use mathlib.Core.Path.{ap}
 use Prim.Native.Nat.{ℕ}
-use native.Mathlib.Omega.{arith}
-use borrow.Author.Rules.{rules}
 use lib.ListN.{get_or}
 use Rattle.measure.proofs.pair_length.Goals as goal
-
-pub overflow_cast-result : goal.overflow_cast-result
-overflow_cast-result c = omega (arith, c.shared_slice_known-3-1.given c.number.result)
 
 pub returns : goal.returns
 returns c = ap (λ (n : ℕ). get_or c.args.lengths.now n 0) c.number.ensures.0

@@ -3,7 +3,6 @@ use mathlib.Core.Path.{sym}
 use Prim.Native.Nat.{◌<◌}
 use native.Mathlib.Nat.{pos_of_ne-zero}
 use native.Mathlib.Omega.{arith}
-use borrow.Author.Rules.{rules}
 use Rattle.order.specs.Order.{Ordered}
 use Rattle.measure.proofs.Measuring.{part-size, part-ordered, part-noted, part_hold, root_asked, tree-long, tree-measured}
 use Rattle.measure.proofs.tree_length.Goals as goal
@@ -29,17 +28,17 @@ pub measure_all-requires : goal.measure_all-requires
 measure_all-requires c =
     let p = c.requires in (
       p.0.ranked,
-      omega (arith, p.2, c.lengths-1.given),
-      omega (arith, p.0.amounts_room, c.amounts-1.given),
+      omega (arith, p.2, c.list-n.auto.counts),
+      omega (arith, p.0.amounts_room, c.list-n.auto.amounts),
       part-ordered (ordered (goal.at.measure_all-requires c).Else-n-eq0),
       part-noted (ordered (goal.at.measure_all-requires c).Else-n-eq0) (c.list-n.ensures.noted (some (goal.at.measure_all-requires c).Else-n-eq0)),
-      omega (arith, p.0.notes, c.choices-1.given),
+      omega (arith, p.0.notes, c.list-n.auto.choices),
     )
 
 pub root_length-requires : goal.root_length-requires
 root_length-requires c =
     let p = c.requires in
-    root_asked c.measure_all.new.lengths p.0.ranked.loaded (omega (arith, p.2, c.lengths-2-1.given, c.lengths-1.given)) p.1
+    root_asked c.measure_all.new.lengths p.0.ranked.loaded (omega (arith, p.2, c.measure_all.auto.lengths, c.list-n.auto.counts)) p.1
 
 pub returns : goal.returns
 returns c =

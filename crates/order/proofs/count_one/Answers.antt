@@ -5,7 +5,6 @@ use native.Mathlib.Omega.{arith}
 use Rattle.form.proofs.Contract.{contract-pairs}
 use Rattle.counting.proofs.Pairs.{number_asked}
 use Rattle.counting.proofs.Counting.{root_in, one-counted}
-use borrow.Author.Rules.{rules}
 use Rattle.order.proofs.count_one.Goals as goal
 
 pub overflow_mul-all : goal.overflow_mul-all
@@ -28,10 +27,10 @@ pub bounds-counts-p : goal.bounds-counts-p
 bounds-counts-p c =
     let p = c.requires in
     let e = ap₂ (λ (m n : ℕ). m * n) c.states.ensures c.width.ensures in
-    omega (arith, c.number-p.ensures.0, root_in p.1 c.clear_counts.new.counts (omega (arith, p.2, c.counts-1.given)) (λ k lt. c.clear_counts.ensures k (omega (arith, e))))
+    omega (arith, c.number-p.ensures.0, root_in p.1 c.clear_counts.new.counts (omega (arith, p.2, c.clear_counts.auto.counts)) (λ k lt. c.clear_counts.ensures k (omega (arith, e))))
 
 pub returns : goal.returns
 returns c =
     let p = c.requires in
     let e = ap₂ (λ (m n : ℕ). m * n) c.states.ensures c.width.ensures in
-    rw c.number-p.ensures.0 (one-counted p.1 c.clear_counts.new.counts (omega (arith, p.2, c.counts-1.given)) (λ k lt. c.clear_counts.ensures k (omega (arith, e))))
+    rw c.number-p.ensures.0 (one-counted p.1 c.clear_counts.new.counts (omega (arith, p.2, c.clear_counts.auto.counts)) (λ k lt. c.clear_counts.ensures k (omega (arith, e))))

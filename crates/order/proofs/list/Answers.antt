@@ -6,7 +6,6 @@ use native.Mathlib.Omega.{arith}
 use Rattle.simulation.specs.Limits.{most_states}
 use Rattle.counting.proofs.Pairs.{rank_asked, lost-low}
 use Rattle.order.proofs.Walks.{RootAlone, root-alone, root-walking}
-use borrow.Author.Rules.{rules}
 use Rattle.order.proofs.list.Goals as goal
 use Rattle.order.proofs.list.Goals.{After-put, Start}
 
@@ -17,7 +16,7 @@ low e = lost-low e.requires.1 e.requires.0.ranked.loaded
 root : (d : After-put) → RootAlone d.args.s d.args.t d.put.new.rows
 root d =
     let cleared = d.clear in
-    root-alone cleared.new.rows (omega arith) cleared.ensures ((let it : (d.args.s < most_states) × (d.args.t < most_states) = lost-low d.requires.1 d.requires.0.ranked.loaded in it)).0 d.single.result d.single.ensures d.put.ensures
+    root-alone cleared.new.rows (omega arith) cleared.ensures (lost-low d.requires.1 d.requires.0.ranked.loaded).0 d.single.result d.single.ensures d.put.ensures
 
 pub overflow_cast-w-2 : goal.overflow_cast-w-2
 overflow_cast-w-2 c = record { fits = omega (arith, (low (goal.at.overflow_cast-w-2 c).Start).1) }

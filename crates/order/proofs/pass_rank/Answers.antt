@@ -1,11 +1,8 @@
 -- `order::pass_rank` meets its contract. Assumes nothing.
-use Prim.Native.Nat.{◌≤◌, ◌-◌}
 use native.Mathlib.Omega.{arith}
-use Rattle.set.specs.Words.{words, after, rest}
 use Rattle.set.proofs.Sets.{walk_done}
-use Rattle.passing.specs.Passing.{trail}
 use Rattle.passing.proofs.Walks.{onward_at}
-use Rattle.order.proofs.Walks.{RankAt, rank-start, rank_into, rank-on, rank-next, rank-end}
+use Rattle.order.proofs.Walks.{rank-start, rank_into, rank-on, rank-next, rank-end}
 use Rattle.order.proofs.pass_rank.Goals as goal
 
 pub loop-left-init : goal.loop-left-init
@@ -20,11 +17,11 @@ pub loop-left-preserved : goal.loop-left-preserved
 loop-left-preserved c =
     rank-next c.loop-left.invariant _ _ (c.without_lowest-left.ensures.0 _ c.lowest-s.ensures.1) c.pass_row-v.ensures
     (record {
-      same-order = c.order-1.given;
-      same-choices = c.choices-1.given;
-      same-counts = c.counts-1.given;
-      same-room = c.room-1.given;
-      same-amounts = c.amounts-1.given;
+      same-order = c.pass_row-v.auto.order;
+      same-choices = c.pass_row-v.auto.choices;
+      same-counts = c.pass_row-v.auto.counts;
+      same-room = c.pass_row-v.auto.room;
+      same-amounts = c.pass_row-v.auto.amounts;
     })
 
 pub loop-k-preserved : goal.loop-k-preserved

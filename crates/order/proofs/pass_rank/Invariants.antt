@@ -1,11 +1,8 @@
 -- `order::pass_rank` meets its contract. Assumes nothing.
 use Prim.Native.Nat.{◌≤◌, ◌-◌}
-use native.Mathlib.Omega.{arith}
 use Rattle.set.specs.Words.{words, after, rest}
-use Rattle.set.proofs.Sets.{walk_done}
 use Rattle.passing.specs.Passing.{trail}
-use Rattle.passing.proofs.Walks.{onward_at}
-use Rattle.order.proofs.Walks.{RankAt, rank-start, rank_into, rank-on, rank-next, rank-end}
+use Rattle.order.proofs.Walks.{RankAt}
 use Rattle.order.proofs.pass_rank.Given as goal
 
 abbrev pub invariant-loop-left : goal.invariant-loop-left

@@ -1,8 +1,7 @@
 -- `order::pass_ranks` meets its contract. Assumes nothing.
 use mathlib.Core.Path.{◌∙◌}
 use native.Mathlib.Omega.{arith}
-use Rattle.passing.specs.Passing.{trail}
-use Rattle.order.proofs.Walks.{RanksAt, ranks-start, ranks-next, ranks_stop, ranks-end}
+use Rattle.order.proofs.Walks.{ranks-start, ranks-next, ranks_stop, ranks-end}
 use Rattle.order.proofs.pass_ranks.Goals as goal
 
 pub returns-then-v-gt-LONGEST : goal.returns-then-v-gt-LONGEST
@@ -13,11 +12,11 @@ pub loop-v-preserved : goal.loop-v-preserved
 loop-v-preserved c =
     ranks-next c.loop-v.invariant c.pass_rank-v.ensures
     (record {
-      same-order = c.order-1.given;
-      same-choices = c.choices-1.given;
-      same-counts = c.counts-1.given;
-      same-room = c.room-1.given;
-      same-amounts = c.amounts-1.given;
+      same-order = c.pass_rank-v.auto.order;
+      same-choices = c.pass_rank-v.auto.choices;
+      same-counts = c.pass_rank-v.auto.counts;
+      same-room = c.pass_rank-v.auto.room;
+      same-amounts = c.pass_rank-v.auto.amounts;
     })
 
 pub loop-v-init : goal.loop-v-init
@@ -27,19 +26,19 @@ pub pass_rank-v-requires : goal.pass_rank-v-requires
 pass_rank-v-requires c = c.loop-v.invariant.walking
 
 pub shape_of-order-then-v-gt-LONGEST : goal.shape_of-order-then-v-gt-LONGEST
-shape_of-order-then-v-gt-LONGEST c = c.order-1.given ∙ c.loop-v.invariant.held.same-order
+shape_of-order-then-v-gt-LONGEST c = c.pass_rank-v.auto.order ∙ c.loop-v.invariant.held.same-order
 
 pub shape_of-choices-then-v-gt-LONGEST : goal.shape_of-choices-then-v-gt-LONGEST
-shape_of-choices-then-v-gt-LONGEST c = c.choices-1.given ∙ c.loop-v.invariant.held.same-choices
+shape_of-choices-then-v-gt-LONGEST c = c.pass_rank-v.auto.choices ∙ c.loop-v.invariant.held.same-choices
 
 pub shape_of-counts-then-v-gt-LONGEST : goal.shape_of-counts-then-v-gt-LONGEST
-shape_of-counts-then-v-gt-LONGEST c = c.counts-1.given ∙ c.loop-v.invariant.held.same-counts
+shape_of-counts-then-v-gt-LONGEST c = c.pass_rank-v.auto.counts ∙ c.loop-v.invariant.held.same-counts
 
 pub shape_of-room-then-v-gt-LONGEST : goal.shape_of-room-then-v-gt-LONGEST
-shape_of-room-then-v-gt-LONGEST c = c.room-1.given ∙ c.loop-v.invariant.held.same-room
+shape_of-room-then-v-gt-LONGEST c = c.pass_rank-v.auto.room ∙ c.loop-v.invariant.held.same-room
 
 pub shape_of-amounts-then-v-gt-LONGEST : goal.shape_of-amounts-then-v-gt-LONGEST
-shape_of-amounts-then-v-gt-LONGEST c = c.amounts-1.given ∙ c.loop-v.invariant.held.same-amounts
+shape_of-amounts-then-v-gt-LONGEST c = c.pass_rank-v.auto.amounts ∙ c.loop-v.invariant.held.same-amounts
 
 pub overflow_sub-v : goal.overflow_sub-v
 overflow_sub-v c = omega (arith, c.loop-v-test.true, c.pass_rank-v.ensures.passed.same_rank)

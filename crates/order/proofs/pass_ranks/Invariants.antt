@@ -1,8 +1,6 @@
 -- `order::pass_ranks` meets its contract. Assumes nothing.
-use mathlib.Core.Path.{◌∙◌}
-use native.Mathlib.Omega.{arith}
 use Rattle.passing.specs.Passing.{trail}
-use Rattle.order.proofs.Walks.{RanksAt, ranks-start, ranks-next, ranks_stop, ranks-end}
+use Rattle.order.proofs.Walks.{RanksAt}
 use Rattle.order.proofs.pass_ranks.Given as goal
 
 abbrev pub invariant-loop-v : goal.invariant-loop-v

@@ -2,7 +2,6 @@
 -- Assumes nothing.
 use mathlib.Core.Logic.{inl, inr}
 use native.Mathlib.Omega.{arith}
-use borrow.Author.Rules.{rules}
 use Rattle.pair_tree.proofs.Putting.{tree-kept, tree-written}
 use Rattle.pair_tree.proofs.put_tree_in.Goals as goal
 use Rattle.pair_tree.proofs.put_tree_in.Goals.{then-len-gt-LONGEST-via-then-len-gt-LONGEST, then-len-gt-LONGEST-via-else-len-gt-LONGEST+then-buf-len}
@@ -11,7 +10,7 @@ pub returns-then-len-gt-LONGEST : goal.returns-then-len-gt-LONGEST
 returns-then-len-gt-LONGEST c =
     tree-kept _ _ _ _ c.requires.1.right c.tree_length-len.ensures.length
     (elim c.then-len-gt-LONGEST.branch [
-      then-len-gt-LONGEST-via-then-len-gt-LONGEST w ↦ inl w.if-len-gt-LONGEST.true
+      | then-len-gt-LONGEST-via-then-len-gt-LONGEST w ↦ inl w.if-len-gt-LONGEST.true
       | then-len-gt-LONGEST-via-else-len-gt-LONGEST+then-buf-len w ↦ inr w.if-buf-len.true
     ])
 

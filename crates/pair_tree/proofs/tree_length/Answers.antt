@@ -1,7 +1,6 @@
 -- `pair_tree::tree_length` meets its contract: there is room for all pairs.
 -- Assumes nothing.
 use native.Mathlib.Omega.{arith}
-use borrow.Author.Rules.{rules}
 use Rattle.form.proofs.Contract.{contract-pairs}
 use Rattle.pair_tree.proofs.Putting.{count-is, count_small}
 use Rattle.pair_tree.proofs.tree_length.Goals as goal

@@ -1,10 +1,9 @@
 -- `passing::add_children` meets its contract: the pairs of the targets passed are added. Assumes nothing.
 use mathlib.Core.Path.{ap₂, ◌∙◌}
-use Prim.Native.Nat.{ℕ, ◌-◌}
+use Prim.Native.Nat.{ℕ}
 use native.Mathlib.Omega.{arith}
 use Rattle.word.specs.Mask.{member, either}
-use Rattle.set.specs.Words.{mask}
-use Rattle.passing.proofs.Listing.{ChildrenLoop, children_start, target_row, set-row, children_next, children_end}
+use Rattle.passing.proofs.Listing.{children_start, target_row, set-row, children_next, children_end}
 use Rattle.passing.proofs.add_children.Goals as goal
 
 pub loop-i-init : goal.loop-i-init
@@ -34,9 +33,6 @@ pub get-requires-in-loop-i : goal.get-requires-in-loop-i
 get-requires-in-loop-i c =
     target_row c.requires c.loop-i.invariant c.loop-i-test.true
 
-pub union-joined-requires : goal.union-joined-requires
-union-joined-requires c = tt
-
 pub put-requires : goal.put-requires
 put-requires c =
     target_row c.requires c.loop-i.invariant c.loop-i-test.true
@@ -44,12 +40,6 @@ put-requires c =
 pub insert-all-requires : goal.insert-all-requires
 insert-all-requires c =
     c.requires.low _ c.loop-i-test.true
-
-pub overflow_step-i : goal.overflow_step-i
-overflow_step-i c = omega arith
-
-pub loop-i-smaller : goal.loop-i-smaller
-loop-i-smaller c = omega arith
 
 pub loop-i-preserved : goal.loop-i-preserved
 loop-i-preserved c =

@@ -1,10 +1,7 @@
 -- `passing::add_children` meets its contract: the pairs of the targets passed are added. Assumes nothing.
-use mathlib.Core.Path.{ap₂, ◌∙◌}
-use Prim.Native.Nat.{ℕ, ◌-◌}
-use native.Mathlib.Omega.{arith}
-use Rattle.word.specs.Mask.{member, either}
+use Prim.Native.Nat.{◌-◌}
 use Rattle.set.specs.Words.{mask}
-use Rattle.passing.proofs.Listing.{ChildrenLoop, children_start, target_row, set-row, children_next, children_end}
+use Rattle.passing.proofs.Listing.{ChildrenLoop}
 use Rattle.passing.proofs.add_children.Given as goal
 
 abbrev pub invariant-loop-i : goal.invariant-loop-i

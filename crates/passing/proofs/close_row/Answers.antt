@@ -1,5 +1,4 @@
 -- `passing::close_row` meets its contract. Assumes nothing.
-use borrow.Author.Rules.{rules}
 use Rattle.set.specs.Words.{mask}
 use Rattle.set.proofs.Sets.{is_none}
 use Rattle.counting.proofs.Pairs.{without_other}

@@ -1,6 +1,5 @@
 -- `passing::note` meets its contract. Assumes nothing.
 use mathlib.Core.Path.{ap}
-use borrow.Author.Rules.{rules}
 use Prim.Native.Nat.{ℕ}
 use lib.ListN.{set}
 use Rattle.passing.proofs.note.Goals as goal

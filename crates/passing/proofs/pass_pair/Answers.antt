@@ -1,6 +1,5 @@
 -- `passing::pass_pair` meets its contract. Assumes nothing.
 use mathlib.Core.Path.{◌∙◌}
-use borrow.Author.Rules.{rules}
 use native.Mathlib.Omega.{arith}
 use Rattle.form.specs.Tables.{first_form}
 use Rattle.form.proofs.FormLaws.{limits}
@@ -20,7 +19,7 @@ chosen d =
       choice = d.choose-j.ensures.0;
       found = d.choose-j.new.sets;
       told = d.choose-j.ensures.1;
-      removed = pair_removed d.args.room.now d.requires.walking.given.rows _ d.room-1.given.0 (here-low d.requires).0 d.remove.result d.get.ensures d.remove.ensures d.put.ensures;
+      removed = pair_removed d.args.room.now d.requires.walking.given.rows _ d.choose-j.auto.sets (here-low d.requires).0 d.remove.result d.get.ensures d.remove.ensures d.put.ensures;
     }
 
 pub choose-j-requires : goal.choose-j-requires
@@ -30,7 +29,7 @@ choose-j-requires c =
 
 pub put-requires : goal.put-requires
 put-requires c =
-    omega (arith, here-row c.requires, c.room-1.given.1)
+    omega (arith, here-row c.requires)
 
 pub note-requires : goal.note-requires
 note-requires c =
@@ -74,15 +73,3 @@ returns c =
 
 pub remove-requires : goal.remove-requires
 remove-requires c = (here-low c.requires).1
-
-pub shape_of-order : goal.shape_of-order
-shape_of-order c = c.order-1.given
-
-pub shape_of-choices : goal.shape_of-choices
-shape_of-choices c = c.choices-1.given
-
-pub shape_of-counts : goal.shape_of-counts
-shape_of-counts c = c.counts-1.given
-
-pub shape_of-amounts : goal.shape_of-amounts
-shape_of-amounts c = c.amounts-1.given

@@ -1,7 +1,6 @@
 -- `passing::pass_row` meets its contract. Assumes nothing.
 use mathlib.Core.Path.{◌≡◌, sym, ap, ◌∙◌, subst}
-use borrow.Author.Rules.{rules}
-use Prim.Native.Nat.{ℕ, ◌+◌, ◌-◌, ◌*◌, ◌≤◌, ◌<◌}
+use Prim.Native.Nat.{ℕ, ◌+◌, ◌*◌, ◌≤◌, ◌<◌}
 use native.Mathlib.Omega.{arith}
 use native.Mathlib.Nat.{mul-le-mul, le_of_lt}
 use lib.ListN.{length, get_or}
@@ -9,12 +8,10 @@ use Rattle.simulation.specs.Limits.{most_states, most_pairs}
 use Rattle.simulation.specs.Round.{rank}
 use Rattle.form.specs.Tables.{first_table, contract_table}
 use Rattle.form.proofs.Contract.{contract-few}
-use Rattle.set.specs.Words.{words, after, rest}
 use Rattle.set.proofs.Sets.{walk_done}
 use Rattle.counting.proofs.Pairs.{rank_asked}
-use Rattle.passing.specs.Passing.{trail}
 use Rattle.passing.proofs.Parts.{todo_row}
-use Rattle.passing.proofs.Walks.{RowAt, row-start, row_into, row_on, low-lost, low-rank, low_pair, row-over, row_next, row-end}
+use Rattle.passing.proofs.Walks.{row-start, row_into, row_on, low-lost, low-rank, low_pair, row-over, row_next, row-end}
 use Rattle.passing.proofs.pass_row.Goals as goal
 use Rattle.passing.proofs.pass_row.Goals.{After-lowest-t, After-width}
 
@@ -60,11 +57,11 @@ pub loop-left-preserved : goal.loop-left-preserved
 loop-left-preserved c =
     row_next c.loop-left.invariant _ _ (c.without_lowest-left.ensures.0 _ c.lowest-t.ensures.1) c.pass_pair-v.ensures
     (record {
-      same-order = c.order-1.given;
-      same-choices = c.choices-1.given;
-      same-counts = c.counts-1.given;
-      same-room = c.room-1.given;
-      same-amounts = c.amounts-1.given;
+      same-order = c.pass_pair-v.auto.order;
+      same-choices = c.pass_pair-v.auto.choices;
+      same-counts = c.pass_pair-v.auto.counts;
+      same-room = c.pass_pair-v.auto.room;
+      same-amounts = c.pass_pair-v.auto.amounts;
     })
 
 pub loop-k-preserved : goal.loop-k-preserved

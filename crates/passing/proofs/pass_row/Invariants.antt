@@ -1,20 +1,8 @@
 -- `passing::pass_row` meets its contract. Assumes nothing.
-use mathlib.Core.Path.{◌≡◌, sym, ap, ◌∙◌, subst}
-use borrow.Author.Rules.{rules}
-use Prim.Native.Nat.{ℕ, ◌+◌, ◌-◌, ◌*◌, ◌≤◌, ◌<◌}
-use native.Mathlib.Omega.{arith}
-use native.Mathlib.Nat.{mul-le-mul, le_of_lt}
-use lib.ListN.{length, get_or}
-use Rattle.simulation.specs.Limits.{most_states, most_pairs}
-use Rattle.simulation.specs.Round.{rank}
-use Rattle.form.specs.Tables.{first_table, contract_table}
-use Rattle.form.proofs.Contract.{contract-few}
+use Prim.Native.Nat.{◌-◌, ◌≤◌}
 use Rattle.set.specs.Words.{words, after, rest}
-use Rattle.set.proofs.Sets.{walk_done}
-use Rattle.counting.proofs.Pairs.{rank_asked}
 use Rattle.passing.specs.Passing.{trail}
-use Rattle.passing.proofs.Parts.{todo_row}
-use Rattle.passing.proofs.Walks.{RowAt, row-start, row_into, row_on, low-lost, low-rank, low_pair, row-over, row_next, row-end}
+use Rattle.passing.proofs.Walks.{RowAt}
 use Rattle.passing.proofs.pass_row.Given as goal
 
 abbrev pub invariant-loop-left : goal.invariant-loop-left

@@ -1,15 +1,12 @@
 -- `witness::flow_room` meets its contract: the loop sums up what the transitions before j need.
 -- Assumes nothing.
-use mathlib.Core.Path.{◌≡◌, ◌∙◌}
-use Prim.Native.Nat.{◌+◌, ◌-◌, ◌*◌, ◌≤◌}
+use mathlib.Core.Path.{◌∙◌}
+use Prim.Native.Nat.{◌+◌, ◌*◌, ◌≤◌}
 use native.Mathlib.Omega.{arith}
-use borrow.Author.Rules.{rules}
 use Rattle.simulation.specs.Limits.{most_entries}
-use Rattle.form.specs.Form.{start_of}
-use Rattle.form.specs.Tables.{first_form}
 use Rattle.form.proofs.FormLaws.{limits, starts_ascend}
 use Rattle.flows.specs.Flow.{most_flow}
-use Rattle.witness.proofs.Room.{so_far, room-start, room-end, room-number, room-added, room_small}
+use Rattle.witness.proofs.Room.{room-start, room-end, room-number, room-added, room_small}
 use Rattle.witness.proofs.flow_room.Goals as goal
 use Rattle.witness.proofs.flow_room.Goals.{After-entries_listed}
 
@@ -23,12 +20,11 @@ pub start_of-j-requires : goal.start_of-j-requires
 start_of-j-requires c = (c.requires.0.first, omega (arith, c.requires.1))
 
 pub loop-j-init : goal.loop-j-init
-loop-j-init c =
-    (
-      omega (arith, c.start_of-j.ensures),
-      omega (arith, c.start_of-j.ensures, c.start_of-end.ensures, starts_ascend _ c.requires.0.first c.args.s (c.args.s + 1) (omega arith) (omega (arith, c.requires.1))),
-      room-start _ c.requires.0 _ c.requires.1 c.start_of-j.ensures,
-    )
+loop-j-init c = (
+  omega (arith, c.start_of-j.ensures),
+  omega (arith, c.start_of-j.ensures, c.start_of-end.ensures, starts_ascend _ c.requires.0.first c.args.s (c.args.s + 1) (omega arith) (omega (arith, c.requires.1))),
+  room-start _ c.requires.0 _ c.requires.1 c.start_of-j.ensures,
+)
 
 pub entries_listed-requires : goal.entries_listed-requires
 entries_listed-requires c =
@@ -54,12 +50,6 @@ overflow_add-room c = omega (arith, (small c).1)
 
 pub overflow_add-room-in-loop-j : goal.overflow_add-room-in-loop-j
 overflow_add-room-in-loop-j c = omega (arith, (small c).1)
-
-pub overflow_add-j : goal.overflow_add-j
-overflow_add-j c = omega arith
-
-pub loop-j-smaller : goal.loop-j-smaller
-loop-j-smaller c = omega arith
 
 pub loop-j-preserved : goal.loop-j-preserved
 loop-j-preserved c =

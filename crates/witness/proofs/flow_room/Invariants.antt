@@ -1,15 +1,10 @@
 -- `witness::flow_room` meets its contract: the loop sums up what the transitions before j need.
 -- Assumes nothing.
-use mathlib.Core.Path.{◌≡◌, ◌∙◌}
-use Prim.Native.Nat.{◌+◌, ◌-◌, ◌*◌, ◌≤◌}
-use native.Mathlib.Omega.{arith}
-use borrow.Author.Rules.{rules}
-use Rattle.simulation.specs.Limits.{most_entries}
+use mathlib.Core.Path.{◌≡◌}
+use Prim.Native.Nat.{◌-◌, ◌≤◌}
 use Rattle.form.specs.Form.{start_of}
 use Rattle.form.specs.Tables.{first_form}
-use Rattle.form.proofs.FormLaws.{limits, starts_ascend}
-use Rattle.flows.specs.Flow.{most_flow}
-use Rattle.witness.proofs.Room.{so_far, room-start, room-end, room-number, room-added, room_small}
+use Rattle.witness.proofs.Room.{so_far}
 use Rattle.witness.proofs.flow_room.Given as goal
 
 abbrev pub invariant-loop-j : goal.invariant-loop-j

@@ -1,7 +1,6 @@
 -- `witness::show_flow` meets its contract.
 -- Assumes nothing.
 use native.Mathlib.Omega.{arith}
-use borrow.Author.Rules.{rules}
 use Rattle.form.proofs.Contract.{contract-states}
 use Rattle.flows.proofs.FlowRoom.{flow-within}
 use Rattle.witness.proofs.Showing.{flow-refused, flow-shown}

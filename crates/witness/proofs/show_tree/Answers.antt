@@ -1,7 +1,6 @@
 -- `witness::show_tree` meets its contract.
 -- Assumes nothing.
 use native.Mathlib.Omega.{arith}
-use borrow.Author.Rules.{rules}
 use Rattle.witness.proofs.Showing.{tree-long, tree-refused, tree-shown}
 use Rattle.witness.proofs.show_tree.Goals as goal
 

@@ -1,7 +1,6 @@
 -- `count::add_counts` meets its contract. Assumes nothing.
-use Prim.Native.Nat.{◌-◌}
 use native.Mathlib.Omega.{arith}
-use Rattle.counting.proofs.Counting.{CountsLoop, counts_start, child-within, counts-next, counts_end}
+use Rattle.counting.proofs.Counting.{counts_start, child-within, counts-next, counts_end}
 use Rattle.counting.proofs.count.add_counts.Goals as goal
 
 pub loop-i-init : goal.loop-i-init
@@ -35,7 +34,7 @@ loop-i-smaller c = omega (arith, c.loop-i-test.true)
 
 pub loop-i-preserved : goal.loop-i-preserved
 loop-i-preserved c =
-    counts-next c.requires c.loop-i.invariant c.loop-i-test.true c.get-members.ensures c.counts-1.given c.add_row.ensures
+    counts-next c.requires c.loop-i.invariant c.loop-i-test.true c.get-members.ensures c.add_row.auto.counts c.add_row.ensures
 
 pub shape_of-counts : goal.shape_of-counts
 shape_of-counts c = c.loop-i.invariant.same-counts

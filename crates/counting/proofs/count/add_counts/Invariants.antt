@@ -1,7 +1,6 @@
 -- `count::add_counts` meets its contract. Assumes nothing.
 use Prim.Native.Nat.{◌-◌}
-use native.Mathlib.Omega.{arith}
-use Rattle.counting.proofs.Counting.{CountsLoop, counts_start, child-within, counts-next, counts_end}
+use Rattle.counting.proofs.Counting.{CountsLoop}
 use Rattle.counting.proofs.count.add_counts.Given as goal
 
 abbrev pub invariant-loop-i : goal.invariant-loop-i

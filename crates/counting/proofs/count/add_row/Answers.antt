@@ -1,13 +1,11 @@
 -- `count::add_row` meets its contract: the members passed are counted. Assumes nothing.
-use mathlib.Core.List.{List}
-use Prim.Native.Nat.{ℕ, ◌+◌, ◌*◌, ◌-◌, ◌≤◌, ◌<◌}
+use Prim.Native.Nat.{ℕ, ◌+◌, ◌*◌, ◌<◌}
 use native.Mathlib.Omega.{arith}
 use native.Mathlib.Nat.{mul-le-mul_left}
 use lib.ListN.{length}
 use Rattle.simulation.specs.Limits.{most_pairs}
-use Rattle.set.specs.Words.{words, mask, after, rest}
+use Rattle.set.specs.Words.{mask, rest}
 use Rattle.set.proofs.Sets.{walk_begin, walk_into, walk_on, walk_done}
-use Rattle.counting.specs.Count.{Within}
 use Rattle.counting.proofs.Counting.{RowLoop, counting_start, member-place, member-small, member-fits, row_turn, counting_end}
 use Rattle.counting.proofs.count.add_row.Goals as goal
 use Rattle.counting.proofs.count.add_row.Goals.{After-lowest}
@@ -32,20 +30,11 @@ loop-w-init c =
     let a = c.args in
     (omega arith, walk_begin a.members (λ (n : ℕ). RowLoop a.width a.s (mask a.members) a.c a.counts.now a.counts.now n) (counting_start _ _ _ _ _))
 
-pub offset_bounds-members-w : goal.offset_bounds-members-w
-offset_bounds-members-w c = omega arith
-
-pub bounds-members-w : goal.bounds-members-w
-bounds-members-w c = omega arith
-
 pub loop-left-init : goal.loop-left-init
 loop-left-init c =
     let a = c.args in
     let o = c.loop-w in
     λ l _ h. walk_into a.members (λ (n : ℕ). RowLoop a.width a.s (mask a.members) a.c l o.counts n) o.w h
-
-pub lowest-requires : goal.lowest-requires
-lowest-requires c = (omega arith, omega arith)
 
 pub overflow_add-at : goal.overflow_add-at
 overflow_add-at c = omega (arith, small c)
@@ -76,12 +65,6 @@ pub loop-left-preserved : goal.loop-left-preserved
 loop-left-preserved c =
     let low = c.lowest.ensures.1 in
     λ l g h. row_turn g (c.loop-left.invariant l g h) low (c.without_lowest-left.ensures.0 _ low)
-
-pub overflow_step-w : goal.overflow_step-w
-overflow_step-w c = omega arith
-
-pub loop-w-smaller : goal.loop-w-smaller
-loop-w-smaller c = omega arith
 
 pub loop-w-preserved : goal.loop-w-preserved
 loop-w-preserved c =

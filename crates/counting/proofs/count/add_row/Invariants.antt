@@ -1,14 +1,9 @@
 -- `count::add_row` meets its contract: the members passed are counted. Assumes nothing.
 use mathlib.Core.List.{List}
-use Prim.Native.Nat.{ℕ, ◌+◌, ◌*◌, ◌-◌, ◌≤◌, ◌<◌}
-use native.Mathlib.Omega.{arith}
-use native.Mathlib.Nat.{mul-le-mul_left}
-use lib.ListN.{length}
-use Rattle.simulation.specs.Limits.{most_pairs}
+use Prim.Native.Nat.{ℕ, ◌-◌, ◌≤◌}
 use Rattle.set.specs.Words.{words, mask, after, rest}
-use Rattle.set.proofs.Sets.{walk_begin, walk_into, walk_on, walk_done}
 use Rattle.counting.specs.Count.{Within}
-use Rattle.counting.proofs.Counting.{RowLoop, counting_start, member-place, member-small, member-fits, row_turn, counting_end}
+use Rattle.counting.proofs.Counting.{RowLoop}
 use Rattle.counting.proofs.count.add_row.Given as goal
 
 abbrev pub invariant-loop-left : goal.invariant-loop-left

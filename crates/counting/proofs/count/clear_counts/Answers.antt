@@ -1,7 +1,6 @@
 -- `count::clear_counts` meets its contract. Assumes nothing.
-use Prim.Native.Nat.{◌-◌}
 use native.Mathlib.Omega.{arith}
-use Rattle.counting.proofs.Counting.{Emptied, emptied_start, emptied_next}
+use Rattle.counting.proofs.Counting.{emptied_start, emptied_next}
 use Rattle.counting.proofs.count.clear_counts.Goals as goal
 
 pub loop-i-init : goal.loop-i-init

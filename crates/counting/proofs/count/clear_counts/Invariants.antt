@@ -1,7 +1,6 @@
 -- `count::clear_counts` meets its contract. Assumes nothing.
 use Prim.Native.Nat.{◌-◌}
-use native.Mathlib.Omega.{arith}
-use Rattle.counting.proofs.Counting.{Emptied, emptied_start, emptied_next}
+use Rattle.counting.proofs.Counting.{Emptied}
 use Rattle.counting.proofs.count.clear_counts.Given as goal
 
 abbrev pub invariant-loop-i : goal.invariant-loop-i

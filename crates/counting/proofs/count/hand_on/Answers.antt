@@ -28,7 +28,7 @@ few c = few-targets (hand_choice c.requires) c.targets-targets.ensures
 
 fits : (c : After-targets-targets) → let a = c.args in
     a.bytes + get_or a.counts.now (a.s * c.width-width.result + a.t) 0 * (head_length + 4 * length c.targets-targets.result.now) < 2 ^ 30
-fits c = hand_fits c.requires ((let it : c.args.bytes ≤ longest = omega (arith, c.if-bytes-gt-LONGEST.false) in it)) c.targets-targets.ensures _ c.width-width.ensures
+fits c = hand_fits c.requires (omega (arith, c.if-bytes-gt-LONGEST.false)) c.targets-targets.ensures _ c.width-width.ensures
 
 pub returns-then-bytes-gt-LONGEST : goal.returns-then-bytes-gt-LONGEST
 returns-then-bytes-gt-LONGEST c = record { tally = c.requires.tally; total = refl }
@@ -77,7 +77,7 @@ pub overflow_add-result-2 : goal.overflow_add-result-2
 overflow_add-result-2 c = record { fits = omega (arith, fits (goal.at.overflow_add-result-2 c).After-targets-targets) }
 
 pub shape_of-counts : goal.shape_of-counts
-shape_of-counts c = c.counts-1.given ∙ simp length-set
+shape_of-counts c = c.add_counts.auto.counts ∙ simp length-set
 
 pub returns : goal.returns
 returns c =

@@ -4,7 +4,6 @@ use mathlib.Core.Path.{◌≡◌, ap}
 use Prim.Native.Nat.{ℕ, ◌+◌, ◌-◌, ◌*◌, ◌≤◌, ◌<◌}
 use native.Mathlib.Omega.{arith}
 use native.Mathlib.Nat.{mul-le-mul_left}
-use borrow.Author.Rules.{rules}
 use Rattle.simulation.specs.Limits.{most_states, most_pairs}
 use Rattle.simulation.specs.Table.{states_of}
 use Rattle.form.specs.Tables.{contract_table, BothLoaded}

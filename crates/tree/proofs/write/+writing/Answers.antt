@@ -1,8 +1,6 @@
 -- A node holds transitions and a transition holds nodes: each part of the buffer is written, and what is longer than half is left.
 -- Assumes nothing.
-use Rattle.std.proofs.Common.{◌≡◌, ℕ, ◌+◌, ◌-◌, ◌≤◌, List, length, take, drop, refl, sym, ap, ◌∙◌, arith}
-use native.Mathlib.Nat.{le_refl, pos_of_ne-zero}
-use lib.ListN.{length-set}
+use Rattle.std.proofs.Common.{◌≡◌, ℕ, ◌+◌, ◌-◌, ◌≤◌, List, length, take, drop, sym, ap, ◌∙◌, arith}
 use Rattle.form.specs.Tables.{first_step}
 use Rattle.form.proofs.FormLaws.{targets-length}
 use Rattle.set.proofs.Sets.{after-all, after-rest, walk_done}
@@ -11,7 +9,7 @@ use Rattle.buffer.proofs.Parts.{part-size, part_length}
 use Rattle.tree.proofs.Slots.{slot_lent}
 use Rattle.tree.proofs.Nodes.{count-byte, word_next, word_done, kept-all, kept_then, Next, node_room, node_begins, node_same, node_asked, turn_slot, node_step, node_joins, node_next, node_ends}
 use Rattle.tree.proofs.Steps.{Child, step-long, begin_given, around_begins, children_few, stack_room, number-known, place-known, entry_slot, sum-given, child_slot, child_fits, child-given, join-fits, around_next, around_ends}
-use Rattle.tree.proofs.Holes.{hole_begins, hole_room, hole_step, hole_short, hole_less, hole_fits, hole_next, hole_ends}
+use Rattle.tree.proofs.Holes.{hole_next, hole_ends}
 use Rattle.tree.proofs.write.+writing.Goals as goal
 use Rattle.tree.proofs.write.+writing.Goals.{write_around-After-get-members, write_node-After-pair_length}
 
@@ -45,7 +43,7 @@ write_around-loop-i-init t c =
     let p = c.requires in
     around_begins p.0 p.1 c.begin_transition-j.ensures _ (ap length c.targets-n.ensures ∙ targets-length (first_step c.args.tables.now c.begin_transition-j.result))
     (record { same-amounts = c.begin_transition-j.auto.amounts; same_stack = c.begin_transition-j.auto.stack; same_buf = c.begin_transition-j.auto.buf })
-    c.well_formed.1.1.1.1.1.1.1.0.0 c.nothing-rest.ensures
+    (omega arith) c.nothing-rest.ensures
 
 pub write_around-slice_bounds-put_entry-end : goal.write_around-slice_bounds-put_entry-end
 write_around-slice_bounds-put_entry-end t c = (entry_slot c.loop-i.invariant c.loop-i-test.true).room
@@ -78,11 +76,10 @@ write_around-slice_bounds-out-end t c =
     (child_slot _ (child_of t (goal.at.write_around-slice_bounds-out-end t c).After-get-members) c.node_length.ensures).room
 
 pub write_around-write_node-hole-requires : goal.write_around-write_node-hole-requires
-write_around-write_node-hole-requires t c =
-    (
-      omega (arith, c.decreases, step-long c.requires.0 c.requires.1),
-      child-given _ (child_of t (goal.at.write_around-write_node-hole-requires t c).After-get-members) c.node_length.ensures,
-    )
+write_around-write_node-hole-requires t c = (
+  omega (arith, c.decreases, step-long c.requires.0 c.requires.1),
+  child-given _ (child_of t (goal.at.write_around-write_node-hole-requires t c).After-get-members) c.node_length.ensures,
+)
 
 pub write_around-join-rest-requires : goal.write_around-join-rest-requires
 write_around-join-rest-requires t c =
@@ -137,8 +134,7 @@ write_node-loop-left-preserved t c =
 
 pub write_node-loop-w-preserved : goal.write_node-loop-w-preserved
 write_node-loop-w-preserved t c =
-    let l = c.loop-left.invariant in
-    (
+    let l = c.loop-left.invariant in (
       (word_next _ c.loop-w-test.true).2,
       node_same l _ (word_done _ c.loop-w.w _ c.loop-left-test.false) (kept_then c.loop-w.invariant.1.kept l.kept),
     )

@@ -3,7 +3,6 @@ use mathlib.Core.Path.{◌≡◌, sym, ap, ◌∙◌, subst}
 use mathlib.Core.List.{List}
 use Prim.Native.Nat.{ℕ}
 use native.Mathlib.Omega.{arith}
-use borrow.Author.Rules.{rules}
 use lib.ListN.{get_or}
 use Rattle.simulation.specs.Table.{Transition}
 use Rattle.buffer.specs.Buffer.{over}
@@ -19,9 +18,6 @@ chosen_at {tables} {s} {t} choices e w = subst (λ (j : ℕ). Choice tables s t 
 
 pub number-p-requires : goal.number-p-requires
 number-p-requires c = let p = c.requires in number_asked p.lost p.ranked.loaded
-
-pub overflow_cast-j : goal.overflow_cast-j
-overflow_cast-j c = omega (arith, c.shared_slice_known-4-1.given c.number-p.result)
 
 pub bounds-ranks-p : goal.bounds-ranks-p
 bounds-ranks-p c =

@@ -3,7 +3,6 @@ use mathlib.Core.Path.{ap, ◌∙◌}
 use mathlib.Core.List.{List}
 use Prim.Native.Nat.{ℕ, ◌%◌, ◌/◌}
 use native.Mathlib.Omega.{arith}
-use borrow.Author.Rules.{rules}
 use lib.ListN.{get_or, length-set}
 use Rattle.form.specs.Tables.{first_form}
 use Rattle.buffer.specs.Buffer.{over}
@@ -37,20 +36,8 @@ overflow_cast-buf c =
     let p = c.requires in
     record { fits = omega (arith, target-byte (first_form c.args.tables.now) c.args.j p.0.first p.1 c.args.i p.2 _ c.targets.ensures) }
 
-pub overflow_cast-buf-2 : goal.overflow_cast-buf-2
-overflow_cast-buf-2 c =
-    record { fits = omega (arith, c.shared_slice_known-3-1.given c.args.i) }
-
 pub bounds-buf-1 : goal.bounds-buf-1
 bounds-buf-1 c = rw length-set (omega arith)
-
-pub overflow_cast-buf-3 : goal.overflow_cast-buf-3
-overflow_cast-buf-3 c =
-    record { fits = omega (arith, c.shared_slice_known-3-1.given c.args.i) }
-
-pub overflow_cast-result : goal.overflow_cast-result
-overflow_cast-result c =
-    record { fits = omega (arith, c.shared_slice_known-2-1.given c.args.i) }
 
 pub returns : goal.returns
 returns c =

@@ -2,7 +2,6 @@
 use mathlib.Core.Path.{refl}
 use native.Mathlib.Nat.{le_refl}
 use native.Mathlib.Omega.{arith}
-use borrow.Author.Rules.{rules}
 use Rattle.tree.proofs.Holes.{root_asked, root-short, set_room, root-step, root_kept, root-filled}
 use Rattle.tree.proofs.write.tree.Goals as goal
 
@@ -23,9 +22,9 @@ write_transition-requires c =
 pub shape_of-buf : goal.shape_of-buf
 shape_of-buf c =
     let g = c.requires in
-    root_kept g _ c.pair_length-end.ensures _ c.write_transition.ensures c.buf-1.given.0
+    root_kept g _ c.pair_length-end.ensures _ c.write_transition.ensures c.write_transition.auto.buf
 
 pub returns : goal.returns
 returns c =
     let g = c.requires in
-    root-filled g _ c.pair_length-end.ensures _ c.write_transition.ensures c.buf-1.given.0 refl
+    root-filled g _ c.pair_length-end.ensures _ c.write_transition.ensures c.write_transition.auto.buf refl
