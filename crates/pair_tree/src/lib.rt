@@ -17,6 +17,26 @@ use form::{Form, tables};
 use simulation::Table;
 use tree::write;
 
+// The same where an order of few pairs has room for all: an array of a function of its own, so that the two lie in the same place of the stack.
+fn tree_length_of_few(
+    tables: &[u16],
+    ranks: &[u16],
+    s: usize,
+    t: usize,
+    choices: &mut [u8],
+    lengths: &mut [u32],
+    amounts: &mut [u32],
+) -> u32
+    requires { RanksRight tables.now ranks.now × Lost tables.now s t × (most_pairs ≤ length amounts.old)
+        × (pairs (first_table tables.now) (contract_table tables.now) ≤ length choices.old)
+        × (pairs (first_table tables.now) (contract_table tables.now) ≤ length lengths.old)
+        × (pairs (first_table tables.now) (contract_table tables.now) ≤ few_pairs) }
+    ensures { TreeMeasured tables.now choices.new lengths.new s t result }
+{
+    let mut order = [1u16; Table::FEW_PAIRS];
+    measure::tree_length(tables, ranks, s, t, &mut order, choices, lengths, amounts)
+}
+
 // How many bytes the tree of the pair takes, LONGEST + 1 for any number above LONGEST, with the transitions and the lengths of the pairs
 // that it meets. Their order lives here only.
 fn tree_length(
@@ -34,8 +54,7 @@ fn tree_length(
     ensures { TreeMeasured tables.now choices.new lengths.new s t result }
 {
     if tables::states(tables, Form::FIRST) * tables::width(tables) <= Table::FEW_PAIRS {
-        let mut order = [1u16; Table::FEW_PAIRS];
-        return measure::tree_length(tables, ranks, s, t, &mut order, choices, lengths, amounts);
+        return tree_length_of_few(tables, ranks, s, t, choices, lengths, amounts);
     }
     let mut order = [1u16; Table::PAIRS];
     measure::tree_length(tables, ranks, s, t, &mut order, choices, lengths, amounts)
