@@ -1,7 +1,7 @@
 -- `cut::is_cut` meets its contract. Assumes nothing.
 use mathlib.Core.Path.{sym}
 use mathlib.Core.Bool.{true≢false}
-use Rattle.set.proofs.Sets.{is_none, not_none}
+use Rattle.set.proofs.Sets.{is_none}
 use Rattle.cut.proofs.QuickLaws.{settled_none, settled_alike}
 use Rattle.cut.proofs.is_cut.Goals as goal
 
@@ -13,5 +13,5 @@ returns-then-not-is_empty c = λ e. absurd (true≢false (sym e))
 
 pub returns : goal.returns
 returns c =
-    let none = not_none c.is_empty-2.ensures c.if-not-is_empty.false-raw in
+    let none = is_none c.is_empty-2.ensures c.if-not-is_empty.false in
     λ e. settled_alike _ _ _ _ _ _ _ c.intersection.ensures none c.below.ensures c.difference.ensures (is_none c.is_empty-3.ensures e)

@@ -2,7 +2,7 @@
 use mathlib.Core.Path.{refl, sym, ◌∙◌, subst}
 use Prim.Native.Nat.{ℕ}
 use Rattle.set.specs.Words.{mask}
-use Rattle.set.proofs.Sets.{mask_lt, not_none, not_some}
+use Rattle.set.proofs.Sets.{mask_lt, is_none, is_some}
 use Rattle.search.specs.Links.{from, via}
 use Rattle.search.proofs.SearchLaws.{Frontier, frontier_none, frontier_next, frontier_found, frontier_end, frontier_rows, unreached_most, unreached_falls}
 use native.Mathlib.Omega.{arith}
@@ -36,7 +36,7 @@ overflow_add-depth c = omega (arith, c.loop-free.invariant.2)
 
 pub loop-free-smaller : goal.loop-free-smaller
 loop-free-smaller c =
-    let n = not_some {m = mask c.loop-free.rows} c.is_empty.ensures c.loop-free-test.true-raw in
+    let n = is_some {m = mask c.loop-free.rows} c.is_empty.ensures c.loop-free-test.true in
     omega (arith, n, unreached_falls _ _ (mask c.difference-rows.result) (mask_lt c.difference-rows.result) c.level-next.ensures.grows.kept c.difference-rows.ensures)
 
 pub loop-free-preserved : goal.loop-free-preserved
@@ -51,4 +51,4 @@ pub shape_of-links : goal.shape_of-links
 shape_of-links c = c.loop-free.invariant.0
 
 pub returns : goal.returns
-returns c = frontier_end (not_none c.is_empty.ensures c.loop-free-test.false-raw) c.loop-free.invariant.1
+returns c = frontier_end (is_none c.is_empty.ensures c.loop-free-test.false) c.loop-free.invariant.1
