@@ -1,4 +1,6 @@
 // What every call answers, and what it hands on of it: numbers for a caller in C, bytes for the display.
+#![tactic(auto)]
+
 mod answer;
 mod display;
 

@@ -3,7 +3,6 @@
 use mathlib.Core.Path.{◌≡◌, refl, ◌∙◌}
 use Prim.Native.Nat.{◌+◌, ◌<◌}
 use native.Mathlib.Omega.{arith}
-use borrow.Author.Tests.{not-true, not-false}
 use Rattle.form.specs.Form.{start_of}
 use Rattle.form.specs.Tables.{second_form}
 use Rattle.form.proofs.FormLaws.{limits}
@@ -22,7 +21,7 @@ fits : (c : After-by_flow) → let a = c.args in c.by_flow.result ≡ fits_step_
 fits c =
     let a = c.args in
     fits-coded a.tables.now a.rows.now a.j a.t c.code-code.ensures c.loop-l.l
-    (c.loop-l.invariant.3 (omega (arith, (let it : c.loop-l.l < start_of (second_form c.args.tables.now) (c.args.t + 1) = seek_within c.requires c.loop-l.invariant.0 c.loop-l.invariant.2 in it), c.start_of-end.ensures))) c.by_flow.ensures.answer
+    (c.loop-l.invariant.3 (omega (arith, seek_within c.requires c.loop-l.invariant.0 c.loop-l.invariant.2, c.start_of-end.ensures))) c.by_flow.ensures.answer
 
 pub start_of-start-requires : goal.start_of-start-requires
 start_of-start-requires c = (c.requires.loaded.second, omega (arith, c.requires.state))
@@ -71,9 +70,9 @@ loop-l-preserved c =
     let a = c.args in
     let n = c.next_coded-l-in-loop-l.ensures in (
       omega (arith, c.loop-l.invariant.0, n.from),
-      c.amounts-1.given ∙ c.loop-l.invariant.1,
+      c.by_flow.auto.amounts ∙ c.loop-l.invariant.1,
       unfitted_coded a.tables.now a.rows.now a.j a.t c.code-code.ensures n
-          (unfitted_next a.tables.now a.rows.now a.j a.t c.loop-l.invariant.2 (fits (goal.at.loop-l-preserved c).After-by_flow) (not-true c.by_flow.result c.loop-l-test.true-raw)),
+          (unfitted_next a.tables.now a.rows.now a.j a.t c.loop-l.invariant.2 (fits (goal.at.loop-l-preserved c).After-by_flow) c.loop-l-test.true),
       n.found,
     )
 
@@ -81,9 +80,9 @@ pub overflow_sub-result : goal.overflow_sub-result
 overflow_sub-result c = omega (arith, c.loop-l.invariant.0, c.start_of-start.ensures)
 
 pub shape_of-amounts : goal.shape_of-amounts
-shape_of-amounts c = c.amounts-1.given ∙ c.loop-l.invariant.1
+shape_of-amounts c = c.by_flow.auto.amounts ∙ c.loop-l.invariant.1
 
 pub returns : goal.returns
 returns c =
     seek_found c.requires c.loop-l.invariant.0 c.loop-l.invariant.2 c.start_of-start.ensures (fits (goal.at.returns c).After-by_flow) c.by_flow.ensures
-    (not-false c.by_flow.result c.loop-l-test.false-raw)
+    c.loop-l-test.false

@@ -20,7 +20,7 @@ target-set n = subst (SetOf _ _) (sym n.get-to.ensures) (set_at n.requires.0.tar
 -- what the bounds tell
 told : (n : After-by_bounds-told) → let a = n.args in Tells (fitting a.tables.now a.rows.now a.j a.l) n.by_bounds-told.result
 told n =
-    by_sets (lent_asked n.requires.0 n.args.j n.args.l n.requires.1 n.requires.2) ((let it : let ts = targets (second_step n.args.tables.now n.args.l) in SetOf ts (length ts) (mask n.get-to.result) = subst (SetOf _ _) (sym n.get-to.ensures) (set_at n.requires.0.target_sets n.args.l n.requires.2) in it)) n.requires.3 n.by_bounds-told.result n.by_bounds-told.ensures
+    by_sets (lent_asked n.requires.0 n.args.j n.args.l n.requires.1 n.requires.2) (subst (SetOf _ _) (sym n.get-to.ensures) (set_at n.requires.0.target_sets n.args.l n.requires.2)) n.requires.3 n.by_bounds-told.result n.by_bounds-told.ensures
 
 pub decide-requires : goal.decide-requires
 decide-requires c =

@@ -12,7 +12,7 @@ use Rattle.fit.specs.Known.{Tried}
 use Rattle.fit.proofs.Steps.{one_passes, none_passes}
 use Rattle.fit.proofs.Trying.{lent_again, place-room, guess_room, tried_guess, start-few, Unfitted, unfitted_start, unfitted_next, unfitted_coded, unfitted_end, fits-coded, tried-next}
 use Rattle.fit.proofs.fits_some.Goals as goal
-use Rattle.fit.proofs.fits_some.Goals.{else-l-end-2-via-then-l-end-2+else-fits_known, else-l-end-2-via-else-l-end-2, After-next_coded-l, After-slice_known-3-1, Joined-l-end, Start}
+use Rattle.fit.proofs.fits_some.Goals.{else-l-end-2-via-then-l-end-2+else-fits_known, else-l-end-2-via-else-l-end-2, After-next_coded-l, After-code-code, Joined-l-end, Start}
 
 -- the places are few, and so are the transitions of t
 place-few : (d : Start) → (d.args.j + 1) * most_states + d.args.t ≤ (most_transitions + 1) * most_states
@@ -27,10 +27,10 @@ end-bound : (d : Start) → start_of (second_form d.args.tables.now) (d.args.t +
 end-bound d = start-bound (second_form d.args.tables.now) d.requires.0.loaded.second (d.args.t + 1) (omega (arith, d.requires.3))
 
 -- a search begins among the few transitions, or less than a byte behind
-begin_few : (s : After-slice_known-3-1)
+begin_few : (s : After-code-code)
     → s.start_of-start.result + get_or s.args.tried.now ((s.args.j + 1) * most_states + s.args.t) 0 ≤ most_transitions + most_of_state
 begin_few s =
-    omega (arith, s.slice_known-3-1.given ((s.args.j + 1) * most_states + s.args.t), s.start_of-start.ensures, (let it : start_of (second_form s.args.tables.now) s.args.t ≤ most_transitions = start-few (second_form s.args.tables.now) s.requires.0.loaded.second s.args.t (omega (arith, s.requires.3)) in it))
+    omega (arith, s.type_inv.tried ((s.args.j + 1) * most_states + s.args.t), s.start_of-start.ensures, start-few (second_form s.args.tables.now) s.requires.0.loaded.second s.args.t (omega (arith, s.requires.3)))
 
 -- the next with the code: those before it are passed, and it is behind the start and counted by a byte
 next_unfitted : (n : After-next_coded-l) → let a = n.args in Unfitted a.tables.now a.rows.now a.j a.t n.next_coded-l.result
@@ -80,30 +80,30 @@ pub bounds-tried-place : goal.bounds-tried-place
 bounds-tried-place c = place-room c.requires.0.loaded c.requires.1 c.args.j c.args.t c.requires.2 c.requires.3
 
 pub overflow_cast-l : goal.overflow_cast-l
-overflow_cast-l c = omega (arith, begin_few c)
+overflow_cast-l c = omega (arith, begin_few (goal.at.overflow_cast-l c).After-code-code)
 
 pub overflow_add-l : goal.overflow_add-l
-overflow_add-l c = omega (arith, begin_few c)
+overflow_add-l c = omega (arith, begin_few (goal.at.overflow_add-l c).After-code-code)
 
 pub overflow_add-l-2 : goal.overflow_add-l-2
-overflow_add-l-2 c = omega (arith, begin_few c)
+overflow_add-l-2 c = omega (arith, begin_few (goal.at.overflow_add-l-2 c).After-code-code)
 
 pub bounds-tried-t : goal.bounds-tried-t
 bounds-tried-t c = guess_room c.requires.0.loaded c.requires.1 c.args.t c.requires.3
 
 pub overflow_cast-guess : goal.overflow_cast-guess
-overflow_cast-guess c = omega (arith, c.slice_known-then-l-end-1.given c.args.t)
+overflow_cast-guess c = omega (arith, c.type_inv.tried c.args.t)
 
 pub overflow_add-guess : goal.overflow_add-guess
 overflow_add-guess c =
-    omega (arith, c.slice_known-then-l-end-1.given c.args.t, c.start_of-start.ensures, start_small (goal.at.overflow_add-guess c).Start)
+    omega (arith, c.type_inv.tried c.args.t, c.start_of-start.ensures, start_small (goal.at.overflow_add-guess c).Start)
 
 pub fits_guess-requires : goal.fits_guess-requires
 fits_guess-requires c =
     (c.requires.0, c.requires.2, omega (arith, c.start_of-end.ensures, end-bound (goal.at.fits_guess-requires c).Start))
 
 pub shape_of-amounts-then-fits_guess : goal.shape_of-amounts-then-fits_guess
-shape_of-amounts-then-fits_guess c = c.amounts-1.given
+shape_of-amounts-then-fits_guess c = c.fits_guess.auto.amounts
 
 pub returns-then-fits_guess : goal.returns-then-fits_guess
 returns-then-fits_guess c =
@@ -158,7 +158,7 @@ shape_of-tried-then-fits_known c = simp length-set (ap length c.loop-l.invariant
 
 pub shape_of-amounts-then-fits_known : goal.shape_of-amounts-then-fits_known
 shape_of-amounts-then-fits_known c =
-    omega (arith, c.amounts-then-l-end-2-1.given, c.loop-l.invariant.2, same-room (goal.at.shape_of-amounts-then-fits_known c).Joined-l-end)
+    omega (arith, c.fits_known.auto.amounts, c.loop-l.invariant.2, same-room (goal.at.shape_of-amounts-then-fits_known c).Joined-l-end)
 
 pub returns-then-fits_known : goal.returns-then-fits_known
 returns-then-fits_known c =

@@ -3,7 +3,7 @@
 use mathlib.Core.Path.{sym, ap, ◌∙◌}
 use mathlib.Core.Bool.{false}
 use native.Mathlib.Omega.{arith}
-use borrow.Author.Tests.{not-true, not-false}
+use borrow.Author.Tests.{eq-eqb, ne_eqb}
 use lib.Dec.{eqb}
 use Rattle.form.specs.Tables.{second_step}
 use Rattle.fit.proofs.Steps.{upto_next}
@@ -27,7 +27,7 @@ loop-next-preserved c =
       omega (arith, c.loop-next.invariant.0),
       omega (arith, c.loop-next-test.true),
       upto_next (λ k. eqb a.code (second_step a.tables.now k).code) false a.l c.loop-next.next c.loop-next.invariant.2 (ap (eqb a.code) c.code.ensures)
-          (not-true _ c.if-code.true-raw),
+          (ne_eqb _ _ c.if-code.true),
     )
 
 pub returns-else-code : goal.returns-else-code
@@ -37,7 +37,7 @@ returns-else-code c =
       from = c.loop-next.invariant.0;
       to = c.loop-next.invariant.1;
       passed = c.loop-next.invariant.2;
-      found = λ b. sym (ap (eqb a.code) c.code.ensures) ∙ not-false _ c.if-code.false-raw;
+      found = λ b. sym (ap (eqb a.code) c.code.ensures) ∙ eq-eqb _ _ c.if-code.false;
     }
 
 pub returns-after-loop-next : goal.returns-after-loop-next

@@ -2,7 +2,6 @@
 -- Assumes nothing.
 use native.Mathlib.Omega.{arith}
 use lib.ListN.{length-set}
-use borrow.Author.Rules.{rules}
 use Rattle.buffer.proofs.Buffer.{start, store, finish}
 use Rattle.answer.specs.Numbers.{numbers}
 use Rattle.answer.proofs.answer.put.Goals as goal

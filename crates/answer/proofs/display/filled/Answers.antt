@@ -1,5 +1,4 @@
 -- `answer::display::filled` meets its contract. Assumes nothing.
-use borrow.Author.Rules.{rules}
 use borrow.Author.Tests.{eq-eqb, ne_eqb}
 use Rattle.answer.specs.Display.{filled_part}
 use Rattle.answer.proofs.display.filled.Goals as goal

@@ -1,7 +1,6 @@
 -- `answer::display::first` meets its contract. Assumes nothing.
 use mathlib.Core.Path.{sym}
 use lib.Seq.{length-take-le}
-use borrow.Author.Rules.{rules}
 use borrow.Author.Tests.{le-leb, lt-leb}
 use Rattle.answer.proofs.display.first.Goals as goal
 
