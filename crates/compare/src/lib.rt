@@ -1,5 +1,7 @@
 // The check of two loaded tables: ranks for all pairs, then a flow or a tree for the chosen one.
 // What the array lent as room holds is free. It is made of ones, which the compiler writes in words, where zeros become a call of memset.
+#![tactic(auto)]
+
 ghost use Rattle.std.specs.Prelude.{◌≡◌, ◌||◌, ◌≤◌, ◌<◌, leb, length};
 ghost use Rattle.simulation.specs.Limits.{most_pairs};
 ghost use Rattle.form.specs.Tables.{first_table, contract_table, listed_steps, BothLoaded};

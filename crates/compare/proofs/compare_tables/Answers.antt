@@ -1,10 +1,8 @@
 -- `compare::compare_tables` meets its contract.
 -- Assumes nothing.
 use native.Mathlib.Omega.{arith}
-use Rattle.compare.proofs.Comparing.{not_inside, inside, is-outside, has-short_ranks, has_room}
+use Rattle.compare.proofs.Comparing.{not_inside, inside, is-outside, has-short_ranks}
 use Rattle.pair_tree.proofs.Putting.{count-is, count_small}
-use borrow.Author.Rules.{rules}
-use borrow.Author.Tests.{ltb-true}
 use Rattle.compare.proofs.compare_tables.Goals as goal
 
 pub overflow_mul-pairs : goal.overflow_mul-pairs
@@ -22,7 +20,7 @@ returns-then-short c =
     let ep = c.states-p.ensures in
     let eq = c.width-q.ensures in
     let p = c.requires in
-    has-short_ranks _ _ _ _ _ _ _ (inside ep eq c.is_outside-outside.ensures c.if-outside.false) (count-is p ep eq) (ltb-true _ _ c.if-short.true-raw) c.refused-then-short.ensures
+    has-short_ranks _ _ _ _ _ _ _ (inside ep eq c.is_outside-outside.ensures c.if-outside.false) (count-is p ep eq) (omega (arith, c.if-short.true)) c.refused-then-short.ensures
 
 pub show-requires : goal.show-requires
 show-requires c =
@@ -30,4 +28,4 @@ show-requires c =
     let eq = c.width-q.ensures in
     let p = c.requires in
     let i = inside ep eq c.is_outside-outside.ensures c.if-outside.false in
-    record { loaded = p; first = i.0; second = i.1; ranks_room = has_room (count-is p ep eq) c.if-short.false-raw }
+    record { loaded = p; first = i.0; second = i.1; ranks_room = omega (arith, count-is p ep eq, c.if-short.false) }

@@ -2,7 +2,6 @@
 -- Assumes nothing.
 use Prim.Native.Nat.{◌+◌, ◌*◌, ◌<◌}
 use native.Mathlib.Omega.{arith}
-use borrow.Author.Rules.{rules}
 use Rattle.simulation.specs.Limits.{most_pairs}
 use Rattle.compare.proofs.Comparing.{all_open, place-small, place_after, kept-after, flow-ranked, other-ranked}
 use Rattle.compare.proofs.rank_pairs.Goals as goal

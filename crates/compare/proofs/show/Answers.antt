@@ -1,7 +1,6 @@
 -- `compare::show` meets its contract: with the ranks filled in, what is shown of the pair is what the call does.
 -- Assumes nothing.
 use native.Mathlib.Omega.{arith}
-use borrow.Author.Rules.{rules}
 use Rattle.compare.proofs.Comparing.{ranked-after, lost-after, flow-after, tree-after}
 use Rattle.compare.proofs.show.Goals as goal
 
