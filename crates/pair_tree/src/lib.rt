@@ -17,25 +17,8 @@ use form::{Form, tables};
 use simulation::Table;
 use tree::write;
 
-// The same where an order of few pairs has room for all: an array of a function of its own, so that the two lie in the same place of the stack.
-fn tree_length_of_few(
-    tables: &[u16],
-    ranks: &[u16],
-    s: usize,
-    t: usize,
-    choices: &mut [u8],
-    lengths: &mut [u32],
-    amounts: &mut [u32],
-) -> u32
-    requires { RanksRight tables.now ranks.now × Lost tables.now s t × (most_pairs ≤ length amounts.old)
-        × (pairs (first_table tables.now) (contract_table tables.now) ≤ length choices.old)
-        × (pairs (first_table tables.now) (contract_table tables.now) ≤ length lengths.old)
-        × (pairs (first_table tables.now) (contract_table tables.now) ≤ few_pairs) }
-    ensures { TreeMeasured tables.now choices.new lengths.new s t result }
-{
-    let mut order = [1u16; Table::FEW_PAIRS];
-    measure::tree_length(tables, ranks, s, t, &mut order, choices, lengths, amounts)
-}
+// The most pairs that a short order has room for. It lies beside the long one on the stack, so it is shorter than the other arrays for few pairs.
+const SHORT_ORDER: usize = 256;
 
 // How many bytes the tree of the pair takes, LONGEST + 1 for any number above LONGEST, with the transitions and the lengths of the pairs
 // that it meets. Their order lives here only.
@@ -53,8 +36,9 @@ fn tree_length(
         × (pairs (first_table tables.now) (contract_table tables.now) ≤ length lengths.old) }
     ensures { TreeMeasured tables.now choices.new lengths.new s t result }
 {
-    if tables::states(tables, Form::FIRST) * tables::width(tables) <= Table::FEW_PAIRS {
-        return tree_length_of_few(tables, ranks, s, t, choices, lengths, amounts);
+    if tables::states(tables, Form::FIRST) * tables::width(tables) <= SHORT_ORDER {
+        let mut order = [1u16; SHORT_ORDER];
+        return measure::tree_length(tables, ranks, s, t, &mut order, choices, lengths, amounts);
     }
     let mut order = [1u16; Table::PAIRS];
     measure::tree_length(tables, ranks, s, t, &mut order, choices, lengths, amounts)

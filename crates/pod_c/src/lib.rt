@@ -1,4 +1,6 @@
 // The pod check for firmware in C or Rust: the functions of `pod` under plain names, the answer as eight numbers in a lent buffer.
+#![tactic(auto)]
+
 ghost use Rattle.std.specs.Prelude.{◌≡◌};
 ghost use Rattle.layout.specs.Bytes.{decode};
 ghost use Rattle.pod.specs.Check.{table_answer};

@@ -1,5 +1,7 @@
 // The text that podcheck prints for two tables in its input: the check, and the report of what it answers.
 // Few pairs and short trees have short buffers: most of the work of a small check would else be to clear the largest.
+#![tactic(auto)]
+
 ghost use Rattle.std.specs.Prelude.{◌≢◌, ◌*◌, ◌≤◌, length};
 ghost use Rattle.printout.specs.Printed.{Counted, Printed, Answered, TextWithin};
 ghost use Rattle.simulation.specs.Limits.{few_pairs};

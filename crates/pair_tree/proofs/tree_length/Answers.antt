@@ -8,12 +8,16 @@ use Rattle.pair_tree.proofs.tree_length.Goals as goal
 pub overflow_mul-states : goal.overflow_mul-states
 overflow_mul-states c = omega (arith, count_small c.requires.0.loaded c.states.ensures c.width.ensures)
 
-pub tree_length_of_few-requires : goal.tree_length_of_few-requires
-tree_length_of_few-requires c =
-    let p = c.requires in
-    (p.0, p.1, p.2, p.3, p.4, omega (arith, count-is p.0.loaded c.states.ensures c.width.ensures, c.if-states-width-le-FEW_PAIRS.true))
-
 pub tree_length-requires : goal.tree_length-requires
 tree_length-requires c =
+    let p = c.requires in
+    let n = count-is p.0.loaded c.states.ensures c.width.ensures in (
+      record { ranked = p.0; room = omega (arith, n, c.if-states-width-le-SHORT_ORDER.true); notes = p.3; amounts_room = p.2 },
+      p.1,
+      p.4,
+    )
+
+pub tree_length-requires-2 : goal.tree_length-requires-2
+tree_length-requires-2 c =
     let p = c.requires in
     (record { ranked = p.0; room = omega (arith, contract-pairs _ p.0.loaded); notes = p.3; amounts_room = p.2 }, p.1, p.4)

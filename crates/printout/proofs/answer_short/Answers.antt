@@ -7,12 +7,11 @@ use borrow.Author.Rules.{rules}
 use Rattle.printout.proofs.answer_short.Goals as goal
 
 pub answer-requires : goal.answer-requires
-answer-requires c =
-    (
-      c.requires.0,
-      omega (arith, c.requires.1),
-      omega (arith, c.requires.2, bound-short c.args.p c.args.q short_tree c.requires.0.first_states.few c.requires.1 (le_refl short_tree)),
-    )
+answer-requires c = (
+  c.requires.0,
+  omega (arith, c.requires.1),
+  omega (arith, c.requires.2, bound-short c.args.p c.args.q short_tree c.requires.0.first_states.few c.requires.1 (le_refl short_tree)),
+)
 
 pub returns : goal.returns
 returns c =
