@@ -1,4 +1,4 @@
-/* The pod table check, for firmware in C. Link with target/staticlib/libpod_c.a (rt staticlib pod_c), or on a Cortex-M4
+/* The pod table check, for firmware in C. Link with crates/pod_c/out/libpod_c.a (rt lib in crates/pod_c), or on a Cortex-M4
  * with target/firmware/libpod_c.a (firmware/build).
  *
  * Every call is answered: there is no precondition beyond what C itself asks, that each pointer is good for its length
