@@ -2,3 +2,4 @@
 -- Assumes nothing.
 pub mod Numbers
 pub mod Display
+pub mod Refused

@@ -6,7 +6,7 @@ ghost use Rattle.answer.specs.Numbers.{refusal, with_written, with_answer};
 pub const FIELDS: usize = 8;
 
 // The answer of a call, 01's fields in its order. What a call has nothing for is 0.
-#[derive(Clone, Copy)]
+#[derive(Clone, Copy, Default)]
 pub struct Answer {
     // 0, or the number of the refusal
     pub number: u32,
@@ -32,14 +32,10 @@ impl Answer {
         ensures { result ≡ refusal number table needed }
     {
         Answer {
-            number: number,
-            table: table,
-            needed: needed,
-            rounds: 0,
-            kept: 0,
-            verdict: 0,
-            rank: 0,
-            written: 0,
+            number,
+            table,
+            needed,
+            ..Answer::default()
         }
     }
 }
@@ -48,9 +44,7 @@ impl Answer {
 pub fn with_written(a: Answer, written: u32) -> Answer
     ensures { result ≡ with_written written a }
 {
-    let mut b = a;
-    b.written = written;
-    b
+    Answer { written, ..a }
 }
 
 // The fields of an answer, in their order, from the start of a buffer that has room for them.
@@ -58,12 +52,7 @@ pub fn put(a: Answer, answer: &mut [u32])
     requires { 8 ≤ length answer.old }
     ensures { answer.new ≡ with_answer a answer.old }
 {
-    answer[0] = a.number;
-    answer[1] = a.table;
-    answer[2] = a.needed;
-    answer[3] = a.rounds;
-    answer[4] = a.kept;
-    answer[5] = a.verdict;
-    answer[6] = a.rank;
-    answer[7] = a.written;
+    answer[..FIELDS].copy_from_slice(&[
+        a.number, a.table, a.needed, a.rounds, a.kept, a.verdict, a.rank, a.written,
+    ]);
 }

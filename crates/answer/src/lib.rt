@@ -3,6 +3,8 @@
 
 mod answer;
 mod display;
+mod refusal;
 
 pub use answer::{Answer, FIELDS, put, with_written};
 pub use display::filled;
+pub use refusal::Refusal;

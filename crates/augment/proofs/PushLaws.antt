@@ -14,7 +14,6 @@ use Rattle.set.proofs.Sets.{both_of}
 use Rattle.matrix.specs.Matrix.{AddsAt}
 use Rattle.matrix.specs.Masks.{with_nonzero, MaskOf}
 use Rattle.matrix.specs.Flow.{Flow, Partial, FlowIn}
-use Rattle.search.specs.Links.{HasLinks}
 use Rattle.search.specs.Search.{SearchRoom, Reaches}
 use Rattle.augment.specs.Path.{root, carried, Safe, Movable, Moved}
 use Rattle.augment.specs.Augments.{Augments, Augmented, AugmentsIn, EndsOf, Pushed}
@@ -24,11 +23,8 @@ use Rattle.matrix.proofs.FlowLaws.{improved, missing-falls}
 use Rattle.augment.proofs.PathLaws.{ReachedTree, PathWalk, PathCarries, carries_of, tree_of, tree_safe, tree-root, tree_carries, walk_start, movable, moved}
 
 -- a search has room in a flow
-pub room_of : {p q : ℕ} {rel x a b senders links : List ℕ} {short : ℕ} → Flow p q rel x a b senders → MaskOf p (λ i. get_or a i 0) short
-    → HasLinks links → SearchRoom rel senders links short
-room_of f h l = let z = f.sized in record {
-  columns = z.columns;
-  links_room = l;
+pub room_of : {p q : ℕ} {rel x a b senders : List ℕ} {short : ℕ} → Flow p q rel x a b senders → MaskOf p (λ i. get_or a i 0) short → SearchRoom rel senders short
+room_of f h = let z = f.sized in record {
   starts = λ i m. omega (arith, h.below i m, z.masks);
   rows = λ i j m. omega (arith, sender-row f.used i j m, z.masks);
 }

@@ -10,12 +10,9 @@ use Rattle.matrix.specs.Matrix.{cell, Adds}
 use Rattle.matrix.specs.Masks.{Noted}
 use Rattle.augment.specs.Path.{root, carried, Safe, Movable, Moved}
 
--- a loop counts the steps down
+-- a step is left
 one_more : {k : ℕ} → 0 < k → k ≡ suc (k - 1)
 one_more h = omega arith
-
-none_left : {k : ℕ} → k ≤ 0 → k ≡ 0
-none_left h = omega arith
 
 safe_row : (from via : ℕ → ℕ) (k i : ℕ) → Safe from via k i → i < most_states
 unfolding Safe
@@ -38,31 +35,30 @@ module _ {from via : ℕ → ℕ} {x : List ℕ} {depth r most : ℕ} where
   pub carrying_start : Safe from via depth r → Carrying from via x depth r most depth r most
   carrying_start s = record { row = safe_row from via depth r s; safe = s; same-root = refl; same-least = refl }
 
-  module _ {k i m : ℕ} (s : Carrying from via x depth r most k i m) where
-    carrying_at : {n : ℕ} → k ≡ n → Carrying from via x depth r most n i m
-    carrying_at e = subst (λ (n : ℕ). Carrying from via x depth r most n i m) e s
+  module _ {i m : ℕ} where
+    carrying_at : {k n : ℕ} → k ≡ n → Carrying from via x depth r most k i m → Carrying from via x depth r most n i m
+    carrying_at e s = subst (λ (n : ℕ). Carrying from via x depth r most n i m) e s
 
-    pub carrying_column : 0 < k → via i < most_states
-    unfolding Safe
-    carrying_column h = (carrying_at (one_more h)).safe.1
+    module _ {k : ℕ} (s : Carrying from via x depth r most k i m) where
+      pub carrying_column : 0 < k → via i < most_states
+      unfolding Safe
+      carrying_column h = (carrying_at (one_more h) s).safe.1
 
-    pub carrying_next : {i' m' : ℕ} → 0 < k → i' ≡ from i → m' ≡ min m (cell x i (via i)) → Carrying from via x depth r most (k - 1) i' m'
-    unfolding Safe root carried
-    carrying_next h e f = let t = carrying_at (one_more h) in rw (e, f) (record {
-      row = safe_row from via (k - 1) (from i) t.safe.2;
-      safe = t.safe.2;
-      same-root = t.same-root;
-      same-least = t.same-least;
-    })
+      pub carrying_next : {k' m' : ℕ} → k ≡ suc k' → m' ≡ min m (cell x i (via i)) → Carrying from via x depth r most k' (from i) m'
+      unfolding Safe root carried
+      carrying_next {k'} e g = let t = carrying_at e s in rw g (record {
+        row = safe_row from via k' (from i) t.safe.2;
+        safe = t.safe.2;
+        same-root = t.same-root;
+        same-least = t.same-least;
+      })
 
-    pub carrying_end : k ≤ 0 → (i ≡ root from via depth r) × (m ≡ carried from via x depth r most)
-    unfolding root carried
-    carrying_end h = let t = carrying_at (none_left h) in (t.same-root, t.same-least)
+      pub carrying_end : k ≡ 0 → (i ≡ root from via depth r) × (m ≡ carried from via x depth r most)
+      unfolding root carried
+      carrying_end e = let t = carrying_at e s in (t.same-root, t.same-least)
 
 -- shift: a move along what is left makes a move along the whole path
 pub record Shifting (from via : ℕ → ℕ) (d depth r c : ℕ) (x₀ senders₀ : List ℕ) (k i j : ℕ) (x senders : List ℕ) : Type 0 where
-  pub same-amounts : length x ≡ length x₀
-  pub same_senders : length senders ≡ length senders₀
   pub row : i < most_states
   pub column : j < most_states
   pub safe : Safe from via k i
@@ -72,8 +68,6 @@ pub record Shifting (from via : ℕ → ℕ) (d depth r c : ℕ) (x₀ senders�
 module _ {from via : ℕ → ℕ} {d depth r c : ℕ} {x₀ senders₀ : List ℕ} where
   pub shifting_start : Safe from via depth r → Movable from via d depth r c x₀ → Shifting from via d depth r c x₀ senders₀ depth r c x₀ senders₀
   shifting_start s m = record {
-    same-amounts = refl;
-    same_senders = refl;
     row = safe_row from via depth r s;
     column = movable_column from via d depth r c x₀ m;
     safe = s;
@@ -81,41 +75,40 @@ module _ {from via : ℕ → ℕ} {d depth r c : ℕ} {x₀ senders₀ : List �
     whole = λ x senders w. w;
   }
 
-  module _ {k i j : ℕ} {x senders : List ℕ} (s : Shifting from via d depth r c x₀ senders₀ k i j x senders) where
-    shifting_at : {n : ℕ} → k ≡ n → Shifting from via d depth r c x₀ senders₀ n i j x senders
-    shifting_at e = subst (λ (n : ℕ). Shifting from via d depth r c x₀ senders₀ n i j x senders) e s
+  module _ {i j : ℕ} {x senders : List ℕ} where
+    shifting_at : {k n : ℕ} → k ≡ n → Shifting from via d depth r c x₀ senders₀ k i j x senders → Shifting from via d depth r c x₀ senders₀ n i j x senders
+    shifting_at e s = subst (λ (n : ℕ). Shifting from via d depth r c x₀ senders₀ n i j x senders) e s
 
-    pub shifting_via : 0 < k → via i < most_states
-    unfolding Safe
-    shifting_via h = (shifting_at (one_more h)).safe.1
+    module _ {k : ℕ} (s : Shifting from via d depth r c x₀ senders₀ k i j x senders) where
+      pub shifting_via : 0 < k → via i < most_states
+      unfolding Safe
+      shifting_via h = (shifting_at (one_more h) s).safe.1
 
-    pub shifting_held : 0 < k → d ≤ cell x i (via i)
-    unfolding Movable
-    shifting_held h = (shifting_at (one_more h)).movable.1
-
-    module _ {y : List ℕ} (h : 0 < k) (a : Adds y x i (via i) d) where
-      pub shifting_room : cell y i j + d < 2 ^ 32
+      pub shifting_held : 0 < k → d ≤ cell x i (via i)
       unfolding Movable
-      shifting_room = ((shifting_at (one_more h)).movable.2 y a).0
+      shifting_held h = (shifting_at (one_more h) s).movable.1
 
-      pub shifting_next : {i' : ℕ} {senders₁ z senders₂ : List ℕ} → i' ≡ from i → Noted y senders senders₁ i (via i) → Adds y z i j d
-          → Noted z senders₁ senders₂ i j → length z ≡ length x → length senders₂ ≡ length senders
-          → Shifting from via d depth r c x₀ senders₀ (k - 1) i' (via i) z senders₂
-      unfolding Safe Movable
-      shifting_next {z = z} e n b o lz lu = let t = shifting_at (one_more h) in rw e (record {
-        same-amounts = lz ∙ s.same-amounts;
-        same_senders = lu ∙ s.same_senders;
-        row = safe_row from via (k - 1) (from i) t.safe.2;
-        column = t.safe.1;
-        safe = t.safe.2;
-        movable = (t.movable.2 y a).1 z b;
-        whole = λ x' senders' m. t.whole x' senders' (Moved.next a n b o m);
-      })
+      module _ {y : List ℕ} (a : Adds y x i (via i) d) where
+        pub shifting_room : 0 < k → cell y i j + d < 2 ^ 32
+        unfolding Movable
+        shifting_room h = ((shifting_at (one_more h) s).movable.2 y a).0
 
-    pub shifting_last : k ≤ 0 → cell x i j + d < 2 ^ 32
-    unfolding Movable
-    shifting_last h = (shifting_at (none_left h)).movable.1
+        pub shifting_next : {k' : ℕ} {senders₁ z senders₂ : List ℕ} → k ≡ suc k' → Noted y senders senders₁ i (via i) → Adds y z i j d
+            → Noted z senders₁ senders₂ i j
+            → Shifting from via d depth r c x₀ senders₀ k' (from i) (via i) z senders₂
+        unfolding Safe Movable
+        shifting_next {k'} {z = z} e n b o = let t = shifting_at e s in record {
+          row = safe_row from via k' (from i) t.safe.2;
+          column = t.safe.1;
+          safe = t.safe.2;
+          movable = (t.movable.2 y a).1 z b;
+          whole = λ x' senders' m. t.whole x' senders' (Moved.next a n b o m);
+        }
 
-    pub shifting_end : {x' senders' : List ℕ} → k ≤ 0 → Adds x x' i j d → Noted x' senders senders' i j
-        → Moved from via d depth r c x₀ senders₀ x' senders'
-    shifting_end {x'} {senders'} h a n = (shifting_at (none_left h)).whole x' senders' (Moved.last a n)
+      pub shifting_last : k ≡ 0 → cell x i j + d < 2 ^ 32
+      unfolding Movable
+      shifting_last e = (shifting_at e s).movable.1
+
+      pub shifting_end : {x' senders' : List ℕ} → k ≡ 0 → Adds x x' i j d → Noted x' senders senders' i j
+          → Moved from via d depth r c x₀ senders₀ x' senders'
+      shifting_end {x'} {senders'} e a n = (shifting_at e s).whole x' senders' (Moved.last a n)

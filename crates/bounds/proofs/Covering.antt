@@ -18,7 +18,7 @@ use Rattle.relation.specs.Rows.{row_of}
 use Rattle.word.proofs.Mask.{member-none, member-high, some-member}
 use Rattle.relation.proofs.RowLaws.{row_lt}
 use Rattle.relation.specs.Related.{holds}
-use Rattle.bounds.specs.Quick.{RowMissing, Bounding}
+use Rattle.bounds.specs.Quick.{Unrelated, Bounding}
 
 first_fails : (a b : Bool) → (a && b) ≡ false → b ≡ true → a ≡ false
 first_fails true b e h = absurd (true≢false (sym h ∙ e))
@@ -100,7 +100,7 @@ module _ (rows ms : List ℕ) where
         within = λ i u _ s. absurd (true≢false (sym s ∙ ap (λ (x : ℕ). member x u) z ∙ member-none u));
       }
 
-  -- a target with nothing near
-  pub row-missing : (to n near : ℕ) → member near ≡ both (member (row_of rows (get_or ms n 0))) (member to) → n < length ms → near ≡ 0 → RowMissing rows ms to
-  row-missing to n near e a z =
-      (n, a, λ u t. first_fails (holds rows (get_or ms n 0) u) (member to u) (sym (ap (λ (X : Test). X u) e) ∙ ap (λ (x : ℕ). member x u) z ∙ member-none u) t)
+-- a state with nothing near
+pub unrelated : (rows : List ℕ) (s to near : ℕ) → member near ≡ both (member (row_of rows s)) (member to) → near ≡ 0 → Unrelated rows s to
+unrelated rows s to near e z u t =
+    first_fails (holds rows s u) (member to u) (sym (ap (λ (X : Test). X u) e) ∙ ap (λ (x : ℕ). member x u) z ∙ member-none u) t

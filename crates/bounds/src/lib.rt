@@ -9,7 +9,7 @@ ghost use Rattle.set.specs.Words.{mask};
 ghost use Rattle.relation.specs.Rows.{height};
 ghost use Rattle.relation.specs.Related.{holds};
 ghost use Rattle.gather.specs.Places.{Places};
-ghost use Rattle.bounds.specs.Quick.{SetOf, RowMissing, Bounding, Settles};
+ghost use Rattle.bounds.specs.Quick.{SetOf, Unrelated, RowMissing, Bounding, Settles};
 
 use relation::rows;
 use set::Set;
@@ -21,41 +21,31 @@ pub fn set_of(to: &[u16]) -> Set
     requires { Places most_states to.now }
     ensures { SetOf to.now (length to.now) (mask result) }
 {
-    let mut r = set::empty();
-    let mut i = 0;
-    while i < to.len() {
-        r = set::insert(r, to[i] as usize);
-        i += 1;
+    let mut set = Set::empty();
+    for t in to {
+        set = set.insert(*t as usize);
     }
-    r
+    set
 }
 
 // A transition with more targets than this is compared by the corner rule first: sets of targets take a step for each target as well, and
 // settle less.
 pub const MANY: usize = 16;
 
+// The state s is related to one of a set.
+fn reaches(rows: &[Word], s: usize, to: Set) -> bool
+    requires { s < height rows.now }
+    ensures { result ≡ false → Unrelated rows.now s (mask to) }
+{
+    !rows::get(rows, s).intersection(to).is_empty()
+}
+
 // Each target of m is related to one of n, whose targets are `to`.
 pub fn meets(from: &[u16], rows: &[Word], to: Set) -> bool
     requires { Places (height rows.now) from.now }
     ensures { result ≡ false → RowMissing rows.now from.now (mask to) }
 {
-    let mut i = 0;
-    while i < from.len() {
-        let near = set::intersection(rows::get(rows, from[i] as usize), to);
-        if set::is_empty(near) {
-            return false;
-        }
-        i += 1;
-    }
-    true
-}
-
-// What bounds on the related states tell of a fit, before any flow.
-#[derive(Clone, Copy)]
-pub enum FromBounds {
-    Fits,
-    Misfits,
-    Open,
+    from.iter().all(|s| reaches(rows, *s as usize, to))
 }
 
 // What every, and what some of the targets of a transition are related to, so far as it is known: each is related to all of `every`, and
@@ -66,17 +56,19 @@ pub struct Bounds {
     pub every: Set,
 }
 
-// `to` has the targets of n.
-pub fn by_bounds(known: Bounds, to: Set) -> FromBounds
-    ensures { Settles (mask known.some) (mask known.every) (mask to) result }
-{
-    if set::is_empty(set::difference(to, known.every)) {
-        return FromBounds::Fits;
+impl Bounds {
+    // Whether m fits n, whose targets are `to`, as far as the bounds tell.
+    pub fn settle(self, to: Set) -> Option<bool>
+        ensures { Settles (mask self.some) (mask self.every) (mask to) result }
+    {
+        if to.difference(self.every).is_empty() {
+            return Some(true);
+        }
+        if !to.difference(self.some).is_empty() {
+            return Some(false);
+        }
+        None
     }
-    if !set::is_empty(set::difference(to, known.some)) {
-        return FromBounds::Misfits;
-    }
-    FromBounds::Open
 }
 
 // The bounds by all rows of the targets.
@@ -84,14 +76,12 @@ fn row_bounds(from: &[u16], rows: &[Word]) -> Bounds
     requires { Places (height rows.now) from.now }
     ensures { Bounding rows.now from.now (mask result.some) (mask result.every) }
 {
-    let mut some = set::empty();
-    let mut every = set::below(Table::STATES);
-    let mut i = 0;
-    while i < from.len() {
-        let near = rows::get(rows, from[i] as usize);
-        some = set::union(some, near);
-        every = set::intersection(every, near);
-        i += 1;
+    let mut some = Set::empty();
+    let mut every = Set::below(Table::STATES);
+    for s in from {
+        let near = rows::get(rows, *s as usize);
+        some = some.union(near);
+        every = every.intersection(near);
     }
     Bounds { some, every }
 }
@@ -101,11 +91,9 @@ pub fn common(from: &[u16], rows: &[Word]) -> Set
     requires { Places (height rows.now) from.now }
     ensures { (u : ℕ) → u < most_states → member (mask result) u ≡ all_of (λ s. holds rows.now s u) from.now }
 {
-    let mut every = set::below(Table::STATES);
-    let mut i = 0;
-    while i < from.len() {
-        every = set::intersection(every, rows::get(rows, from[i] as usize));
-        i += 1;
+    let mut every = Set::below(Table::STATES);
+    for s in from {
+        every = every.intersection(rows::get(rows, *s as usize));
     }
     every
 }
@@ -117,8 +105,8 @@ pub fn bounds_of(from: &[u16], rows: &[Word]) -> Bounds
 {
     if MANY < from.len() {
         return Bounds {
-            some: set::below(Table::STATES),
-            every: set::empty(),
+            some: Set::below(Table::STATES),
+            every: Set::empty(),
         };
     }
     row_bounds(from, rows)

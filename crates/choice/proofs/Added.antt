@@ -1,5 +1,6 @@
 -- The targets of a transition tested one by one against a state whose transition to itself it is to fit, and what that tells of the contract.
 -- Assumes nothing.
+use Rattle.form.specs.declared.tables.Tables.{Tables}
 use mathlib.Core.Path.{◌≡◌, refl, sym, ap, ap₂, ◌∙◌, subst}
 use mathlib.Core.Bool.{Bool, true, false, not, ◌&&◌, ◌||◌, and_comm, or-false}
 use mathlib.Core.List.{List}
@@ -10,7 +11,8 @@ use native.Mathlib.Omega.{arith}
 use borrow.Author.Tests.{not-false}
 use lib.Dec.{T, eqb, eqb→eq}
 use lib.ListN.{length, get_or}
-use mir.Val.{bool_byte}
+use Rattle.std.specs.Prelude.{Option}
+use Rattle.std.specs.Bool.{then_some}
 use Rattle.simulation.specs.Sum.{when}
 use Rattle.simulation.specs.Table.{Transition, targets, target_at, states_of}
 use Rattle.simulation.specs.Round.{Relation, related, round}
@@ -36,7 +38,7 @@ use Rattle.choice.proofs.Choices.{pair_lost}
 use Rattle.choice.proofs.Choosing.{eqb_flip, number_of, second-state, LostPair, tested_one, tested_none}
 
 -- the target at place i of the transition j: 1 if the round before round r does not relate it to t, by its rank
-module _ {tables ranks : List ℕ} (g : RanksRight tables ranks) (j t r : ℕ) (own : j < transitions_of (first_form tables)) (state : t < states_of (contract_table tables)) (later : 0 < r)
+module _ {tables : Tables} {ranks : List ℕ} (g : RanksRight tables ranks) (j t r : ℕ) (own : j < transitions_of (first_form tables)) (state : t < states_of (contract_table tables)) (later : 0 < r)
     {ts : List ℕ} (e : ts ≡ targets (first_step tables j)) (i : ℕ) (lt : i < length ts) where
   pub lost-is : {k b : ℕ} → k ≡ get_or ranks (get_or ts i 0 * states_of (contract_table tables) + t) 0 → b ≡ when (lasts r k) 1
       → 1 - b ≡ when (not (related (round (first_table tables) (contract_table tables) (pred r)) (target_at (first_step tables j) i) t)) 1
@@ -110,7 +112,7 @@ module _ (R : Relation) (m : Transition) (t : ℕ) where
             ∙ sum-zero i)
 
 -- what was found for a code that the second table does not list
-module _ {tables ranks : List ℕ} {s t r j : ℕ} (p : LostPair tables ranks s t r) (low : start_of (first_form tables) s ≤ j) (high : j < start_of (first_form tables) (s + 1))
+module _ {tables : Tables} {ranks : List ℕ} {s t r j : ℕ} (p : LostPair tables ranks s t r) (low : start_of (first_form tables) s ≤ j) (high : j < start_of (first_form tables) (s + 1))
     (missing : ¬ T (lists (second_table tables).codes (first_step tables j).code)) where
   abbrev before-rank : Relation
   before-rank = round (first_table tables) (contract_table tables) (pred r)
@@ -130,9 +132,11 @@ module _ {tables ranks : List ℕ} {s t r j : ℕ} (p : LostPair tables ranks s 
   answered : {b : Bool} {sets : List ℕ} → PartedAdded before-rank (first_step tables j) t b sets → round_fits_some tables t r j ≡ b
   answered a = answered-added tables loaded j t own state missing before-rank ∙ sym a.fit
 
-  pub tested_added : (b : Bool) {end : ℕ} {sets : List ℕ} → PartedAdded before-rank (first_step tables j) t b sets → end ≡ start_of (second_form tables) (t + 1)
-      → Tested tables s t r j (end + bool_byte b) sets
-  tested_added true a e = tested_one tables s t loaded.first p.lost p.its_rank (omega (arith, after)) (λ q. omega (arith, q)) (answered a)
-  tested_added false a e =
-      tested_none tables s t loaded.first p.lost p.its_rank (omega (arith, after)) (omega arith) (answered a)
-      (λ i b u. a.apart i b u ∙ sym (apart_by-loop tables loaded j t own state missing before-rank i u (omega (arith, weights-length (first_step tables j)))))
+  pub tested_added : (b : Bool) {l : Option ℕ} {end : ℕ} {sets : List ℕ} → PartedAdded before-rank (first_step tables j) t b sets → end ≡ start_of (second_form tables) (t + 1)
+      → l ≡ then_some b end → Tested tables s t r j l sets
+  tested_added true {end = end} {sets} a e h =
+      subst (λ (l : Option ℕ). Tested tables s t r j l sets) (sym h) (tested_one tables s t loaded.first p.lost p.its_rank (omega (arith, after, e)) (answered a))
+  tested_added false {sets = sets} a e h =
+      subst (λ (l : Option ℕ). Tested tables s t r j l sets) (sym h)
+      (tested_none tables s t loaded.first p.lost p.its_rank (answered a)
+      (λ i b u. a.apart i b u ∙ sym (apart_by-loop tables loaded j t own state missing before-rank i u (omega (arith, weights-length (first_step tables j))))))

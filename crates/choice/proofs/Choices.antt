@@ -1,5 +1,6 @@
 -- What holds of the transition chosen for a pair, by its number.
 -- Assumes nothing.
+use Rattle.form.specs.declared.tables.Tables.{Tables}
 use mathlib.Core.Path.{◌≡◌, ap, ap₂, ◌∙◌, subst}
 use mathlib.Core.Bool.{Bool, not}
 use mathlib.Core.List.{List}
@@ -25,7 +26,7 @@ use Rattle.relate.specs.Ranked.{RanksRight}
 use Rattle.relate.proofs.Laws.{lasts-round}
 use Rattle.choice.specs.Choice.{Lost, Choice}
 
-module _ (tables : List ℕ) (l : Loaded (first_form tables)) (s t j : ℕ) (in_range : s < states_of (first_table tables)) (w : Choice tables s t j) where
+module _ (tables : Tables) (l : Loaded (first_form tables)) (s t j : ℕ) (in_range : s < states_of (first_table tables)) (w : Choice tables s t j) where
   pub choice-number : j < transitions_of (first_form tables)
   choice-number = omega (arith, w.high, start-bound (first_form tables) l (s + 1) (omega arith))
 
@@ -33,14 +34,14 @@ module _ (tables : List ℕ) (l : Loaded (first_form tables)) (s t j : ℕ) (in_
   choice_width = ap (λ (m : Transition). length m.entries) w.is
 
 -- where a pair's rank stands
-module _ {tables ranks : List ℕ} (g : RanksRight tables ranks) {s t : ℕ} (a : s < states_of (first_table tables)) (b : t < states_of (contract_table tables)) where
+module _ {tables : Tables} {ranks : List ℕ} (g : RanksRight tables ranks) {s t : ℕ} (a : s < states_of (first_table tables)) (b : t < states_of (contract_table tables)) where
   pub pair_place : s * states_of (contract_table tables) + t < length ranks
   pair_place =
       let row : suc s * states_of (contract_table tables) ≤ states_of (first_table tables) * states_of (contract_table tables) = mul-le-mul_right (states_of (contract_table tables)) a in
       omega (arith, row, suc-mul s (states_of (contract_table tables)), g.enough)
 
 -- 1 if the round before round r does not relate two states, by their rank
-module _ {tables ranks : List ℕ} (g : RanksRight tables ranks) (r u v : ℕ) (later : 0 < r) (a : u < states_of (first_table tables)) (b : v < states_of (contract_table tables)) where
+module _ {tables : Tables} {ranks : List ℕ} (g : RanksRight tables ranks) (r u v : ℕ) (later : 0 < r) (a : u < states_of (first_table tables)) (b : v < states_of (contract_table tables)) where
   abbrev kept : Bool
   kept = related (round (first_table tables) (contract_table tables) (pred r)) u v
 
@@ -60,7 +61,7 @@ set-in_range M N sound s t i t' h =
     subst (λ (u : ℕ). u < states_of N) p.target (sound.target_bound t r.0 p.place r.1 p.bound)
 
 -- a pair met below a pair is not kept either, and its rank is lower
-pub below-lost : (tables : List ℕ) → BothLoaded tables → (s t : ℕ) → Lost tables s t → (i t' : ℕ)
+pub below-lost : (tables : Tables) → BothLoaded tables → (s t : ℕ) → Lost tables s t → (i t' : ℕ)
     → i < length (chosen (first_table tables) (contract_table tables) s t).entries → T (set_of (first_table tables) (contract_table tables) s t i t')
     → Lost tables (target_at (chosen (first_table tables) (contract_table tables) s t) i) t'
     × (rank (first_table tables) (contract_table tables) (target_at (chosen (first_table tables) (contract_table tables) s t) i) t' < rank (first_table tables) (contract_table tables) s t)

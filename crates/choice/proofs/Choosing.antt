@@ -1,10 +1,12 @@
 -- How the chosen transition and its sets are found: the walks over the members of a mask, what one transition adds to the sets of another,
 -- the rows that are lent beside the sets, and the walks over the transitions of a state.
 -- Assumes nothing.
+use Rattle.form.specs.declared.tables.Tables.{Tables}
 use mathlib.Core.Path.{◌≡◌, refl, sym, ap, ap₂, ◌∙◌, subst, subst₂, fun_ext}
 use mathlib.Core.Bool.{Bool, true, false, not, ◌&&◌, ◌||◌, and_comm}
 use mathlib.Core.List.{List, [], ◌∷◌}
-use mathlib.Core.Logic.{◌⊎◌, inl, inr, ⊎_elim, ◌≢◌}
+use mathlib.Core.Logic.{◌⊎◌, inl, inr, ⊎_elim}
+use Rattle.std.specs.Prelude.{Some, None}
 use Prim.Native.Nat.{ℕ, zero, suc, ◌+◌, ◌-◌, ◌*◌, ◌/◌, ◌≤◌, ◌<◌, pred}
 use native.Mathlib.Nat.{zero-add, not-suc-le-zero, le_of_suc-le-suc, sub_self}
 use native.Mathlib.Omega.{arith}
@@ -39,7 +41,6 @@ use Rattle.matrix.proofs.MaskedLaws.{true_or_false, neither, except-at, either-a
 use Rattle.buffer.specs.Buffer.{with_part}
 use Rattle.buffer.proofs.Parts.{part-size, part-is, part_length, part-before}
 use Rattle.relate.specs.Ranked.{RanksRight}
-use Rattle.fit.specs.Partner.{NextCoded}
 use Rattle.fit.specs.Ranked.{InRound, Cut}
 use Rattle.fit.proofs.Codes.{other-code}
 use Rattle.fit.proofs.Comparing.{cut_fits}
@@ -62,54 +63,54 @@ any_wider p q f g le same none =
     let w = any_some q g t in
     ⊎_elim (λ l. some-any p f w.0 l (subst T (sym (same w.0 l)) w.2)) (λ l. absurd (subst T (none w.0 l) w.2)) (below_or_not w.0 p))
 
--- what is left is a part of the mask
-next-part : (mask left left' t : ℕ) → ((i : ℕ) → member left i ≡ true → member mask i ≡ true) → member left' ≡ without_member t (member left)
-    → (i : ℕ) → member left' i ≡ true → member mask i ≡ true
-next-part mask left left' t part e i h = part i (drop_at (member left) t i e h).0
+-- what is left is a part of the set
+next-part : (X : Test) (left left' t : ℕ) → ((i : ℕ) → member left i ≡ true → X i ≡ true) → member left' ≡ without_member t (member left)
+    → (i : ℕ) → member left' i ≡ true → X i ≡ true
+next-part X left left' t part e i h = part i (drop_at (member left) t i e h).0
 
 -- acc is the union of the sets of the members passed
-pub record Uniting (sets : ℕ → Test) (mask left acc : ℕ) : Type 0 where
-  pub part : (i : ℕ) → member left i ≡ true → member mask i ≡ true
-  pub from : (u : ℕ) → member acc u ≡ true → (i : ℕ) × (member mask i ≡ true) × (sets i u ≡ true)
-  pub all : (i u : ℕ) → member mask i ≡ true → member left i ≡ false → sets i u ≡ true → member acc u ≡ true
+pub record Uniting (sets : ℕ → Test) (X : Test) (left acc : ℕ) : Type 0 where
+  pub part : (i : ℕ) → member left i ≡ true → X i ≡ true
+  pub from : (u : ℕ) → member acc u ≡ true → (i : ℕ) × (X i ≡ true) × (sets i u ≡ true)
+  pub all : (i u : ℕ) → X i ≡ true → member left i ≡ false → sets i u ≡ true → member acc u ≡ true
 
-module _ {sets : ℕ → Test} {mask : ℕ} where
-  pub uniting_start : Uniting sets mask mask 0
-  uniting_start = record {
-    part = λ i t. t;
-    from = λ u t. absurd (neither t (member-none u));
-    all = λ i u t f. absurd (neither t f);
+module _ {sets : ℕ → Test} {X : Test} where
+  pub uniting_start : {left acc : ℕ} → member left ≡ X → acc ≡ 0 → Uniting sets X left acc
+  uniting_start e z = record {
+    part = λ i t. sym (ap (λ X. X i) e) ∙ t;
+    from = λ u t. absurd (neither t (no_members z u));
+    all = λ i u t f. absurd (neither (ap (λ X. X i) e ∙ t) f);
   }
 
-  pub uniting_next : {left acc left' acc' t : ℕ} → Uniting sets mask left acc → Lowest (member left) t → member left' ≡ without_member t (member left)
-      → member acc' ≡ either (sets t) (member acc) → Uniting sets mask left' acc'
+  pub uniting_next : {left acc left' acc' t : ℕ} → Uniting sets X left acc → Lowest (member left) t → member left' ≡ without_member t (member left)
+      → member acc' ≡ either (sets t) (member acc) → Uniting sets X left' acc'
   uniting_next {left} {acc} {left'} {acc'} {t} g low e u = record {
-    part = next-part mask left left' t g.part e;
+    part = next-part X left left' t g.part e;
     from = λ k m. ⊎_elim (λ h. (t, g.part t low.here, h)) (g.from k) (either-at (sets t) (member acc) k u m);
     all = λ i k m f h.
         ⊎_elim (λ c. either_left (sets t) (member acc) k u (subst (λ (i : ℕ). sets i k ≡ true) c h)) (λ o. either-right (sets t) (member acc) k u (g.all i k m o h))
         (drop-out (member left) t i e f);
   }
 
-  pub uniting_end : {left acc : ℕ} (n : ℕ) → left ≡ 0 → Names mask n → Uniting sets mask left acc → (u : ℕ) → member acc u ≡ any n (λ i. member mask i && sets i u)
+  pub uniting_end : {left acc : ℕ} (n : ℕ) → left ≡ 0 → ((i : ℕ) → X i ≡ true → i < n) → Uniting sets X left acc → (u : ℕ) → member acc u ≡ any n (λ i. X i && sets i u)
   uniting_end {acc = acc} n z inside g u =
-      same_test (member acc u) (any n (λ i. member mask i && sets i u))
-      (λ t. let w = g.from u (is_true (member acc u) t) in some-any n (λ i. member mask i && sets i u) w.0 (inside w.0 w.1) (subst T (sym (ap₂ ◌&&◌ w.1 w.2)) tt))
+      same_test (member acc u) (any n (λ i. X i && sets i u))
+      (λ t. let w = g.from u (is_true (member acc u) t) in some-any n (λ i. X i && sets i u) w.0 (inside w.0 w.1) (subst T (sym (ap₂ ◌&&◌ w.1 w.2)) tt))
       (λ t.
-      let w = any_some n (λ i. member mask i && sets i u) t in
+      let w = any_some n (λ i. X i && sets i u) t in
       let i = w.0 in
-      subst T (sym (g.all i u (is_true (member mask i) (and_left (member mask i) (sets i u) w.2)) (no_members z i) (is_true (sets i u) (and_right (member mask i) (sets i u) w.2)))) tt)
+      subst T (sym (g.all i u (is_true (X i) (and_left (X i) (sets i u) w.2)) (no_members z i) (is_true (sets i u) (and_right (X i) (sets i u) w.2)))) tt)
 
--- the places below q that a mask doesn't name
-module _ (q all mask left : ℕ) (ea : member all ≡ up_to q) (el : member left ≡ except (member all) (member mask)) where
-  pub outside_names : Names left q
-  outside_names i t = ltb-true i q (sym (ap (λ X. X i) ea) ∙ (except-at (member all) (member mask) i el t).0)
+-- the places below q that are not in X
+module _ (q : ℕ) (X : Test) where
+  pub outside_names : (i : ℕ) → except (up_to q) X i ≡ true → i < q
+  outside_names i t = ltb-true i q (except-at (up_to q) X i refl t).0
 
-  pub outside-any : (ts : List ℕ) (u : ℕ) → any q (λ j. member left j && eqb u (get_or ts j 0)) ≡ any q (λ j. eqb (get_or ts j 0) u && not (member mask j))
+  pub outside-any : (ts : List ℕ) (u : ℕ) → any q (λ j. except (up_to q) X j && eqb u (get_or ts j 0)) ≡ any q (λ j. eqb (get_or ts j 0) u && not (X j))
   outside-any ts u =
       any_ext q _ _ (λ j l.
-      ap₂ ◌&&◌ (ap (λ X. X j) el ∙ ap (λ b. b && not (member mask j)) (ap (λ X. X j) ea ∙ lt-ltb j q l)) (eqb_flip u (get_or ts j 0))
-      ∙ and_comm (not (member mask j)) (eqb (get_or ts j 0) u))
+      ap₂ ◌&&◌ (ap (λ b. b && not (X j)) (lt-ltb j q l)) (eqb_flip u (get_or ts j 0))
+      ∙ and_comm (not (X j)) (eqb (get_or ts j 0) u))
 
 -- the sets of the members passed are joined, the others as they were
 pub record Joining (mask more : ℕ) (sets sets' : List ℕ) (left : ℕ) : Type 0 where
@@ -119,16 +120,13 @@ pub record Joining (mask more : ℕ) (sets sets' : List ℕ) (left : ℕ) : Type
   pub waiting : (i : ℕ) → member left i ≡ true → row_of sets' i ≡ row_of sets i
   pub others : (i : ℕ) → member mask i ≡ false → row_of sets' i ≡ row_of sets i
 
-pub joining_start : (mask more : ℕ) (sets : List ℕ) → Joining mask more sets sets mask
-joining_start mask more sets = record { size = refl; part = λ i t. t; joined = λ i t f. absurd (neither t f); waiting = λ i _. refl; others = λ i _. refl }
-
 pub joining_next : {mask more left left' t : ℕ} {sets sets' : List ℕ} (v : Set) → Joining mask more sets sets' left → Names mask (height sets)
     → Lowest (member left) t → member left' ≡ without_member t (member left) → member (mask-of v) ≡ either (member more) (member (row_of sets' t))
     → Joining mask more sets (put_row sets' t v) left'
 joining_next {mask} {more} {left} {left'} {t} {sets} {sets'} v j names low e hv =
     record {
       size = length_put sets' t v ∙ j.size;
-      part = next-part mask left left' t j.part e;
+      part = next-part (member mask) left left' t j.part e;
       joined = λ i m f u. at i m u (ℕ_discrete i t) (drop-out (member left) t i e f);
       waiting = λ i h. let w = drop_at (member left) t i e h in row_put_other sets' t i v w.1 ∙ j.waiting i w.0;
       others = λ i f. row_put_other sets' t i v (λ c. neither (ap (member mask) c ∙ j.part t low.here) f) ∙ j.others i f;
@@ -261,11 +259,11 @@ module _ (f : List ℕ) (l : Loaded f) (t : ℕ) (b : t < states_of (table_of f)
 -- ---- what the contract's transitions of a state answer
 
 -- a state of the contract is one of the second table
-pub second-state : (tables : List ℕ) {t : ℕ} → t < states_of (contract_table tables) → t < states_of (second_table tables)
+pub second-state : (tables : Tables) {t : ℕ} → t < states_of (contract_table tables) → t < states_of (second_table tables)
 second-state tables b = omega (arith, contract-states tables)
 
 -- m fits the listed transition l of t
-pub listed_answers : (tables : List ℕ) → Loaded (second_form tables) → (R : Relation) (m : Transition) (t l : ℕ) → t < states_of (contract_table tables)
+pub listed_answers : (tables : Tables) → Loaded (second_form tables) → (R : Relation) (m : Transition) (t l : ℕ) → t < states_of (contract_table tables)
     → start_of (second_form tables) t ≤ l → l < start_of (second_form tables) (t + 1) → {b : Bool} → b ≡ fits_step R m (second_step tables l) → b ≡ true
     → any_of (fits_step R m) (steps (contract_table tables) t) ≡ true
 listed_answers tables loaded R m t l b low high e h =
@@ -277,13 +275,13 @@ listed_answers tables loaded R m t l b low high e h =
 
 -- ---- a pair that is not kept, with its rank
 
-pub record LostPair (tables ranks : List ℕ) (s t r : ℕ) : Type 0 where
+pub record LostPair (tables : Tables) (ranks : List ℕ) (s t r : ℕ) : Type 0 where
   pub ranked : RanksRight tables ranks
   pub lost : Lost tables s t
   pub its_rank : r ≡ rank (first_table tables) (contract_table tables) s t
 
 -- a transition of the first table and one of t are compared in the round before its rank
-pub lost_compared : {tables ranks : List ℕ} {s t r : ℕ} → LostPair tables ranks s t r → (j l : ℕ) (amounts : List ℕ) → j < transitions_of (first_form tables)
+pub lost_compared : {tables : Tables} {ranks : List ℕ} {s t r : ℕ} → LostPair tables ranks s t r → (j l : ℕ) (amounts : List ℕ) → j < transitions_of (first_form tables)
     → start_of (second_form tables) t ≤ l → l < start_of (second_form tables) (t + 1) → most_pairs ≤ length amounts → InRound tables ranks r j l amounts
 lost_compared {tables} {t = t} p j l amounts b low high room =
     record {
@@ -296,7 +294,7 @@ lost_compared {tables} {t = t} p j l amounts b low high room =
 
 -- ---- the first transition that fits none
 
-module _ (tables : List ℕ) (s t : ℕ) where
+module _ (tables : Tables) (s t : ℕ) where
   -- m fits some transition of t in the round before the pair's rank
   abbrev pub matches : Transition → Bool
   matches m = any_of (fits_step (before (first_table tables) (contract_table tables) s t) m) (steps (contract_table tables) t)
@@ -321,23 +319,21 @@ module _ (tables : List ℕ) (s t : ℕ) where
 
     -- j fits one, so it is not the chosen one
     pub tested_one : {r j l : ℕ} {sets : List ℕ} → r ≡ rank (first_table tables) (contract_table tables) s t → start_of (second_form tables) t ≤ l
-        → l ≢ start_of (second_form tables) (t + 1) → round_fits_some tables t r j ≡ true → Tested tables s t r j l sets
-    tested_one e a h f = record { low = a; one = λ _. f; none = λ q. absurd (h q); found = λ w. absurd (chosen_unfit e w f) }
+        → round_fits_some tables t r j ≡ true → Tested tables s t r j (Some l) sets
+    tested_one e a f = record { low = a; fits = sym f; found = λ w. absurd (chosen_unfit e w f) }
 
     -- j fits none, and the sets are those that its targets have among the contract's transitions of t
-    pub tested_none : {r j l : ℕ} {sets : List ℕ} → r ≡ rank (first_table tables) (contract_table tables) s t → start_of (second_form tables) t ≤ l
-        → l ≡ start_of (second_form tables) (t + 1) → round_fits_some tables t r j ≡ false
+    pub tested_none : {r j : ℕ} {sets : List ℕ} → r ≡ rank (first_table tables) (contract_table tables) s t → round_fits_some tables t r j ≡ false
         → ((i : ℕ) → i < length (first_step tables j).entries → (u : ℕ)
         → member (row_of sets i) u ≡ apart (round (first_table tables) (contract_table tables) (pred r)) (first_step tables j) (steps (contract_table tables) t) i u)
-        → Tested tables s t r j l sets
-    tested_none {j = j} e a h f sets =
+        → Tested tables s t r j None sets
+    tested_none {j = j} e f h =
         record {
-          low = a;
-          one = λ q. absurd (q h);
-          none = λ _. f;
+          low = tt;
+          fits = sym f;
           found = λ w. record {
             set = λ i b.
-                fun_ext (sets i (omega (arith, choice_width tables l s t j p.left w)))
+                fun_ext (h i (omega (arith, choice_width tables l s t j p.left w)))
                 ∙ ap₂ (λ (q : ℕ) (m : Transition). apart (round (first_table tables) (contract_table tables) (pred q)) m (steps (contract_table tables) t) i) e w.is;
           };
         }
@@ -402,12 +398,12 @@ unfolding apart
 apart-is R m ns i u = refl
 
 -- m fits none of the listed transitions of t before number k, and the sets hold what those add
-pub record SetsGathering (R : Relation) (m : Transition) (tables : List ℕ) (t k : ℕ) (sets : List ℕ) : Type 0 where
+pub record SetsGathering (R : Relation) (m : Transition) (tables : Tables) (t k : ℕ) (sets : List ℕ) : Type 0 where
   pub scan : Scan (second_form tables) t (fits_step R m) k
   pub gathered : (i : ℕ) → i < length m.entries → (u : ℕ)
       → member (row_of sets i) u ≡ any_of (λ n. apart_by R m i n u) (take (k - start_of (second_form tables) t) (steps (second_table tables) t))
 
-module _ (R : Relation) (m : Transition) (tables : List ℕ) (l : Loaded (second_form tables)) (t : ℕ) (b : t < states_of (second_table tables)) where
+module _ (R : Relation) (m : Transition) (tables : Tables) (l : Loaded (second_form tables)) (t : ℕ) (b : t < states_of (second_table tables)) where
   pub gathering_start : (sets : List ℕ) → ((i : ℕ) → i < length m.entries → row_of sets i ≡ 0) → SetsGathering R m tables t (start_of (second_form tables) t) sets
   gathering_start sets z =
       record {
@@ -432,9 +428,9 @@ module _ (R : Relation) (m : Transition) (tables : List ℕ) (l : Loaded (second
       }
 
   -- those with another code add nothing
-  pub gathering_coded : {c k e r : ℕ} {sets : List ℕ} → c ≡ m.code → NextCoded tables c k e r → e ≡ start_of (second_form tables) (t + 1) → SetsGathering R m tables t k sets
+  pub gathering_coded : {c k e r : ℕ} {sets : List ℕ} → c ≡ m.code → k ≤ r → r ≤ e → ((q : ℕ) → k ≤ q → q < r → eqb c (second_step tables q).code ≡ false) → e ≡ start_of (second_form tables) (t + 1) → SetsGathering R m tables t k sets
       → SetsGathering R m tables t r sets
-  gathering_coded {c} {k} {e} {r} {sets} code next end g = passed (r - k) r (omega (arith, next.from)) (omega arith)
+  gathering_coded {c} {k} {e} {r} {sets} code from to others end g = passed (r - k) r (omega arith) (omega arith)
     where
       move : {q q' : ℕ} → q ≡ q' → SetsGathering R m tables t q sets → SetsGathering R m tables t q' sets
       move = subst (λ (q : ℕ). SetsGathering R m tables t q sets)
@@ -442,8 +438,8 @@ module _ (R : Relation) (m : Transition) (tables : List ℕ) (l : Loaded (second
       passed : (n q : ℕ) → q ≡ k + n → q ≤ r → SetsGathering R m tables t q sets
       passed zero q w le = move (omega arith) g
       passed (suc n) q w le =
-          let other : m.code ≡ (second_step tables (k + n)).code → ⊥ = λ d. eqb-false c (second_step tables (k + n)).code (next.passed (k + n) (omega arith) (omega arith)) (code ∙ d) in
-          move (omega arith) (gathering_next (passed n (k + n) refl (omega arith)) (omega (arith, next.to)) (parted_other R m (second_step tables (k + n)) other sets) refl)
+          let other : m.code ≡ (second_step tables (k + n)).code → ⊥ = λ d. eqb-false c (second_step tables (k + n)).code (others (k + n) (omega arith) (omega arith)) (code ∙ d) in
+          move (omega arith) (gathering_next (passed n (k + n) refl (omega arith)) (omega arith) (parted_other R m (second_step tables (k + n)) other sets) refl)
 
   pub gathering_end : {k : ℕ} {sets : List ℕ} → SetsGathering R m tables t k sets → start_of (second_form tables) (t + 1) ≤ k → (i : ℕ) → i < length m.entries
       → (u : ℕ) → member (row_of sets i) u ≡ apart R m (steps (second_table tables) t) i u

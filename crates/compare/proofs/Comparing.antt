@@ -1,21 +1,21 @@
 -- From what the functions below give to what a call on two accepted tables does.
 -- Assumes nothing.
+use Rattle.form.specs.declared.tables.Tables.{Tables}
 use mathlib.Core.Path.{◌≡◌, refl, sym, ap, ap₂, ◌∙◌, subst}
-use mathlib.Core.Bool.{Bool, true, false, cond, ◌||◌, ◌&&◌}
+use mathlib.Core.Bool.{cond, ◌&&◌}
 use mathlib.Core.List.{List}
-use mathlib.Core.Logic.{◌≢◌, ⊎_elim}
+use mathlib.Core.Logic.{◌≢◌}
 use Prim.Native.Nat.{ℕ, ◌+◌, ◌*◌, ◌≤◌, ◌<◌}
 use native.Mathlib.Nat.{zero-mul}
 use native.Mathlib.Omega.{arith}
 use native.Mathlib.Decide.{dec_lt, ℕ_discrete}
-use lib.Dec.{T, not_T, leb, ltb, eqb, leb→le, nleb→lt}
-use borrow.Author.Tests.{ltb-false, lt-ltb}
+use lib.Dec.{eqb}
+use borrow.Author.Tests.{lt-ltb}
 use lib.ListN.{length, get_or, drop, length-append, get_or-append}
 use Rattle.simulation.specs.Fit.{Amounts}
 use Rattle.simulation.specs.Table.{Table, states_of}
 use Rattle.simulation.specs.Round.{pairs, rank, rank_list, maximum, zeros}
 use Rattle.simulation.specs.Demands.{Kept}
-use Rattle.simulation.proofs.Finite.Tests.{or_cases, or_left, or_right}
 use Rattle.simulation.proofs.Simulation.RankList.{rank_list-length, rank_list-at}
 use Rattle.form.specs.Tables.{first_table, contract_table}
 use Rattle.form.proofs.Contract.{contract-states}
@@ -36,30 +36,15 @@ use Rattle.counting.proofs.Pairs.{place-below}
 use Rattle.compare.specs.Outcome.{Buffers, Result, success, lent, left}
 use Rattle.simulation.specs.Tree.{tree_bytes}
 use Rattle.witness.specs.Shown.{FlowShown, TreeShown}
+use Rattle.std.specs.Prelude.{Ok, Err}
 use Rattle.answer.specs.Numbers.{refusal}
+use Rattle.answer.specs.Refused.{refused, Answered, answer_of}
+use Rattle.answer.specs.declared.refusal.Refusal.{Refusal}
+use Rattle.answer.specs.declared.refusal.Refusal.TheVariants.{OutsidePair, ShortRanks}
 use Rattle.compare.specs.Steps.{RightIfKept, Compared, Chosen, PairRanked, found_answer}
 use Rattle.compare.specs.Condition.{Inside, Ready, outside, flow_fits, tree_fits, Condition, short_ranks, short_flow, short_tree, long_tree, result_of}
 use Rattle.answer.specs.declared.answer.Answer.{Answer}
 use Rattle.compare.proofs.Outcome.{met}
-
--- the test of whether a pair lies outside; p and q are counts of states
-module _ {p q P Q s t : ℕ} {o : Bool} (ep : p ≡ P) (eq : q ≡ Q) (eo : o ≡ (leb p s || leb q t)) where
-  pub not_inside : o ≡ true → ¬ (s < P × t < Q)
-  not_inside z i =
-      ⊎_elim (λ y. omega (arith, i.0, leb→le p s y)) (λ y. omega (arith, i.1, leb→le q t y))
-      (or_cases (leb p s) (leb q t) (subst T (sym z ∙ eo) tt))
-
-  pub inside : o ≡ false → (s < P) × (t < Q)
-  inside z = (
-    omega (arith, nleb→lt p s (not_T (leb p s) (λ y. none (or_left (leb p s) (leb q t) y)))),
-    omega (arith, nleb→lt q t (not_T (leb q t) (λ y. none (or_right (leb p s) (leb q t) y)))),
-  )
-    where
-      none : ¬ T (leb p s || leb q t)
-      none y = subst T (sym eo ∙ z) y
-
-pub has_room : {k n N : ℕ} → n ≡ N → ltb k n ≡ false → N ≤ k
-has_room {k} {n} e z = omega (arith, ltb-false k n z)
 
 -- no amounts
 abbrev pub none-sent : ℕ → Amounts
@@ -81,37 +66,37 @@ module _ (M N : Table) (room listed s t : ℕ) (b : Buffers) where
   by_condition : {n : ℕ} (c : Condition M N room s t b n) {r : Result} (x : ℕ → Amounts) → RightIfKept M N s t x → r ≡ result_of M N room s t b listed x c → Compared M N room listed s t b r
   by_condition c x f e = record { amounts = x; right = f; result = e ∙ sym (met M N room listed s t b x c) }
 
-  pub is-outside : {r : Answer} → ¬ Inside M N s t b → r ≡ refusal 11 0 0 → Compared M N room listed s t b (left r b)
-  is-outside h e = let x = fair_amounts M N s t in by_condition (outside h) x.0 x.1 (ap (λ (q : Answer). left q b) e)
+  pub is-outside : ¬ Inside M N s t b → Compared M N room listed s t b (left (refused OutsidePair) b)
+  is-outside h = let x = fair_amounts M N s t in by_condition (outside h) x.0 x.1 refl
 
-  pub has-short_ranks : {r : Answer} {n : ℕ} → Inside M N s t b → n ≡ pairs M N → length b.ranks < n → r ≡ refusal 20 0 n → Compared M N room listed s t b (left r b)
-  has-short_ranks i en h e =
+  pub has-short_ranks : {n : ℕ} → Inside M N s t b → n ≡ pairs M N → length b.ranks < n → Compared M N room listed s t b (left (refused (ShortRanks n)) b)
+  has-short_ranks i en h =
       let x = fair_amounts M N s t in
-      by_condition (short_ranks i (omega arith)) x.0 x.1 (ap (λ (q : Answer). left q b) (e ∙ ap (refusal 20 0) en))
+      by_condition (short_ranks i (omega arith)) x.0 x.1 (ap (λ (n : ℕ). left (refusal 20 0 n) b) en)
 
-  module _ (ready : Ready M N s t b) {r : Answer} where
+  module _ (ready : Ready M N s t b) {r : Answered} where
     -- a kept pair: what was shown of its flow is what the call does
-    flow_compared : Kept M N s t → {flow' : List ℕ} → FlowShown M N room listed s t (success M N s t 0) r b.flow flow' → Compared M N room listed s t b (left r (lent (over (rank_list M N) b.ranks) flow' b.tree))
+    flow_compared : Kept M N s t → {flow' : List ℕ} → FlowShown M N room listed s t (success M N s t 0) r b.flow flow' → Compared M N room listed s t b (left (answer_of r) (lent (over (rank_list M N) b.ranks) flow' b.tree))
     unfolding success
     flow_compared k {flow'} f = go (dec_lt (length b.flow) room)
       where
         x : ℕ → Amounts
         x = f.amounts
 
-        at : Answer → List ℕ → Result
-        at q l = left q (lent (over (rank_list M N) b.ranks) l b.tree)
+        at : Answered → List ℕ → Result
+        at q l = left (answer_of q) (lent (over (rank_list M N) b.ranks) l b.tree)
 
         go : Dec (length b.flow < room) → Compared M N room listed s t b (at r flow')
         go (yes h) = by_condition (short_flow ready k h) x (λ _ _ _. f.right) (ap₂ at (f.refused h).0 (f.refused h).1)
         go (no h) = let w = f.written (omega arith) in by_condition (flow_fits ready k (omega arith)) x (λ _ _ _. f.right) (ap₂ at w.0 w.1)
 
     -- a pair that is not kept
-    tree_compared : ¬ Kept M N s t → {tree' : List ℕ} → TreeShown M N s t (success M N s t 0) r b.tree tree' → Compared M N room listed s t b (left r (lent (over (rank_list M N) b.ranks) b.flow tree'))
+    tree_compared : ¬ Kept M N s t → {tree' : List ℕ} → TreeShown M N s t (success M N s t 0) r b.tree tree' → Compared M N room listed s t b (left (answer_of r) (lent (over (rank_list M N) b.ranks) b.flow tree'))
     unfolding success
     tree_compared k {tree'} f = go (dec_lt longest (length (tree_bytes M N s t))) (dec_lt (length b.tree) (length (tree_bytes M N s t)))
       where
-        at : Answer → List ℕ → Result
-        at q l = left q (lent (over (rank_list M N) b.ranks) b.flow l)
+        at : Answered → List ℕ → Result
+        at q l = left (answer_of q) (lent (over (rank_list M N) b.ranks) b.flow l)
 
         fair : RightIfKept M N s t none-sent
         fair _ _ k' = absurd (k k')
@@ -131,11 +116,11 @@ all_open r e room =
     }
 
 -- an accepted call's answer by its parts, but for what is written; z is the rank of (0, 0)
-abbrev answer_of : (rounds kept z rank : ℕ) → Answer
-answer_of r k z p = record { number = 0; table = 0; needed = 0; rounds = r; kept = k; verdict = cond (eqb z 0) 1 0; rank = p; written = 0 }
+abbrev found_by : (rounds kept z rank : ℕ) → Answer
+found_by r k z p = record { number = 0; table = 0; needed = 0; rounds = r; kept = k; verdict = cond (eqb z 0) 1 0; rank = p; written = 0 }
 
 -- the chosen pair
-module _ {tables old : List ℕ} {s t : ℕ} (chosen : Chosen tables old s t) where
+module _ {tables : Tables} {old : List ℕ} {s t : ℕ} (chosen : Chosen tables old s t) where
   abbrev M : Table
   M = first_table tables
 
@@ -190,8 +175,8 @@ module _ {tables old : List ℕ} {s t : ℕ} (chosen : Chosen tables old s t) wh
       unfolding success
       answer-after =
           is
-          ∙ ap₂ (λ (r k : ℕ). answer_of r k (get_or new 0 0) (get_or new (s * w + t) 0)) found.rounds_are found.kept_are
-          ∙ ap₂ (λ (z p : ℕ). answer_of (maximum (rank_list M N)) (zeros (rank_list M N)) z p) start rank-here
+          ∙ ap₂ (λ (r k : ℕ). found_by r k (get_or new 0 0) (get_or new (s * w + t) 0)) found.rounds_are found.kept_are
+          ∙ ap₂ (λ (z p : ℕ). found_by (maximum (rank_list M N)) (zeros (rank_list M N)) z p) start rank-here
         where
           start : get_or new 0 0 ≡ rank M N 0 0
           start =
@@ -200,7 +185,7 @@ module _ {tables old : List ℕ} {s t : ℕ} (chosen : Chosen tables old s t) wh
 
       -- what ranking leaves, of a kept pair and of another
       module _ {room listed : ℕ} {flow : List ℕ} where
-        pub flow-ranked : {r : Answer} {flow' : List ℕ} → get_or new (s * w + t) 0 ≡ 0 → FlowShown M N room listed s t a r flow flow' → PairRanked M N room listed s t r old new flow flow'
+        pub flow-ranked : {r : Answered} {flow' : List ℕ} → get_or new (s * w + t) 0 ≡ 0 → FlowShown M N room listed s t a r flow flow' → PairRanked M N room listed s t r old new flow flow'
         flow-ranked {r} {flow'} z h =
             record {
               ranks_are = found.ranks_are;
@@ -208,44 +193,57 @@ module _ {tables old : List ℕ} {s t : ℕ} (chosen : Chosen tables old s t) wh
               if_fallen = λ n. absurd (n (sym rank-here ∙ z));
             }
 
-        pub other-ranked : get_or new (s * w + t) 0 ≢ 0 → PairRanked M N room listed s t a old new flow flow
-        other-ranked z = record { ranks_are = found.ranks_are; if_kept = λ k. absurd (z (rank-here ∙ k)); if_fallen = λ _. (answer-after, refl) }
+        pub other-ranked : get_or new (s * w + t) 0 ≢ 0 → PairRanked M N room listed s t (Ok a) old new flow flow
+        other-ranked z = record { ranks_are = found.ranks_are; if_kept = λ k. absurd (z (rank-here ∙ k)); if_fallen = λ _. (ap Ok answer-after, refl) }
+
+  ready : (flow tree : List ℕ) → Ready M N s t (lent old flow tree)
+  ready flow tree = ((chosen.first, chosen.second), chosen.ranks_room)
 
   -- what there is to show after that
-  module _ {room listed : ℕ} {a : Answer} {new flow flow' : List ℕ} (ranked : PairRanked M N room listed s t a old new flow flow') where
-    -- the answer's rank tells whether the pair is kept
+  module _ {room listed : ℕ} {r : Answered} {new flow flow' : List ℕ} (ranked : PairRanked M N room listed s t r old new flow flow') {tree : List ℕ} where
+    -- of a kept pair, all is shown
+    pub flow-after : Kept M N s t → Compared M N room listed s t (lent old flow tree) (left (answer_of r) (lent new flow' tree))
+    flow-after k =
+        subst (λ (l : List ℕ). Compared M N room listed s t (lent old flow tree) (left (answer_of r) (lent l flow' tree))) (sym ranked.ranks_are)
+        (flow_compared M N room listed s t (lent old flow tree) (ready flow tree) k (ranked.if_kept k))
+
+    -- of another, its tree is shown
+    pub tree-after : {a : Answer} {q : Answered} {tree' : List ℕ} → r ≡ Ok a → ¬ Kept M N s t → TreeShown M N s t a q tree tree'
+        → Compared M N room listed s t (lent old flow tree) (left (answer_of q) (lent new flow' tree'))
+    tree-after {q = q} {tree'} is n h =
+        let e = ranked.if_fallen n in
+        subst (λ (l : List ℕ). Compared M N room listed s t (lent old flow tree) (left (answer_of q) (lent new l tree'))) (sym e.1)
+        (subst (λ (l : List ℕ). Compared M N room listed s t (lent old flow tree) (left (answer_of q) (lent l flow tree'))) (sym ranked.ranks_are)
+        (tree_compared M N room listed s t (lent old flow tree) (ready flow tree) n (subst (λ (p : Answer). TreeShown M N s t p q tree tree') (cc (is, e.0)) h)))
+
+  -- only a kept pair is refused
+  pub kept-refused : {room listed : ℕ} {e : Refusal} {new flow flow' : List ℕ} → PairRanked M N room listed s t (Err e) old new flow flow' → Kept M N s t
+  kept-refused ranked = go (ℕ_discrete (rank M N s t) 0)
+    where
+      go : Dec (Kept M N s t) → Kept M N s t
+      go (yes k) = k
+      go (no n) = absurd (cc (ranked.if_fallen n).0)
+
+  -- the answer's rank tells whether the pair is kept
+  module _ {room listed : ℕ} {a : Answer} {new flow flow' : List ℕ} (ranked : PairRanked M N room listed s t (Ok a) old new flow flow') where
     rank-told : Kept M N s t → a.rank ≡ 0
     unfolding success
     rank-told k = go (dec_lt (length flow) room)
       where
         go : Dec (length flow < room) → a.rank ≡ 0
-        go (yes h) = ap (λ (q : Answer). q.rank) ((ranked.if_kept k).refused h).0
-        go (no h) = ap (λ (q : Answer). q.rank) ((ranked.if_kept k).written (omega arith)).0 ∙ k
+        go (yes h) = absurd (cc ((ranked.if_kept k).refused h).0)
+        go (no h) = ap (λ (q : Answered). (answer_of q).rank) ((ranked.if_kept k).written (omega arith)).0 ∙ k
 
-    is-kept : a.rank ≡ 0 → Kept M N s t
+    pub is-kept : a.rank ≡ 0 → Kept M N s t
     unfolding success
     is-kept z = go (ℕ_discrete (rank M N s t) 0)
       where
         go : Dec (Kept M N s t) → Kept M N s t
         go (yes k) = k
-        go (no n) = sym (ap (λ (q : Answer). q.rank) (ranked.if_fallen n).0) ∙ z
+        go (no n) = sym (ap (λ (q : Answered). (answer_of q).rank) (ranked.if_fallen n).0) ∙ z
+
+    pub is-fallen : a.rank ≢ 0 → ¬ Kept M N s t
+    is-fallen z k = z (rank-told k)
 
     pub lost-after : a.rank ≢ 0 → Lost tables s t
-    lost-after z = record { left = chosen.first; right = chosen.second; fell = let n : rank M N s t ≢ 0 = λ k. z (rank-told k) in omega (arith, n) }
-
-    ready : (tree : List ℕ) → Ready M N s t (lent old flow tree)
-    ready tree = ((chosen.first, chosen.second), chosen.ranks_room)
-
-    module _ {tree : List ℕ} where
-      pub flow-after : a.rank ≡ 0 → Compared M N room listed s t (lent old flow tree) (left a (lent new flow' tree))
-      flow-after z =
-          subst (λ (l : List ℕ). Compared M N room listed s t (lent old flow tree) (left a (lent l flow' tree))) (sym ranked.ranks_are)
-          (flow_compared M N room listed s t (lent old flow tree) (ready tree) (is-kept z) (ranked.if_kept (is-kept z)))
-
-      pub tree-after : {q : Answer} {tree' : List ℕ} → a.rank ≢ 0 → TreeShown M N s t a q tree tree' → Compared M N room listed s t (lent old flow tree) (left q (lent new flow' tree'))
-      tree-after {q} {tree'} z h =
-          let n : ¬ Kept M N s t = λ k. z (rank-told k) in
-          let e = ranked.if_fallen n in
-          subst (λ (l : List ℕ). Compared M N room listed s t (lent old flow tree) (left q (lent new l tree'))) (sym e.1)
-          (subst (λ (l : List ℕ). Compared M N room listed s t (lent old flow tree) (left q (lent l flow tree'))) (sym ranked.ranks_are)
-          (tree_compared M N room listed s t (lent old flow tree) (ready tree) n (subst (λ (p : Answer). TreeShown M N s t p q tree tree') e.0 h)))
+    lost-after z = record { left = chosen.first; right = chosen.second; fell = let n : rank M N s t ≢ 0 = is-fallen z in omega (arith, n) }

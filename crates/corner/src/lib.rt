@@ -5,29 +5,31 @@
 
 ghost use Rattle.std.specs.Prelude.{◌≡◌, true};
 ghost use Rattle.simulation.specs.Fit.{fits?};
-ghost use Rattle.matrix.specs.Problem.{Sides, joins};
+ghost use Rattle.relation.specs.Rows.{HasRows};
+ghost use Rattle.matrix.specs.Problem.{joins};
 
+use form::Distribution;
 use greedy::total_weight;
 use relation::rows;
 use word::Word;
 
 // Whether the rule meets related pairs alone: then m fits n. The shares of the first i targets of m end at a, of the first j of n at b.
 // Pairs that aren't related are no reason to stop: nothing branches on whether a pair is related.
-pub fn corner(from: &[u16], m: &[u16], to: &[u16], n: &[u16], rows: &[Word]) -> bool
-    requires { Sides from.now m.now to.now n.now rows.now }
-    ensures { result ≡ true → fits? (joins rows.now from.now to.now) m.now n.now ≡ true }
+pub fn corner(m: Distribution, n: Distribution, rows: &[Word]) -> bool
+    requires { HasRows rows.now m.targets.now }
+    ensures { result ≡ true → fits? (joins rows.now m.entry.targets.now n.entry.targets.now) m.entry.weights.now n.entry.weights.now ≡ true }
 {
-    let t = total_weight(m);
-    let u = total_weight(n);
+    let t = total_weight(m.weights);
+    let u = total_weight(n.weights);
     let mut i = 0;
     let mut j = 0;
     let mut a = 0u32;
     let mut b = 0u32;
     let mut related: Word = 1;
-    while i < m.len() {
-        related = related & rows::bit(rows, from[i] as usize, to[j] as usize);
-        let x = a + m[i] as u32 * u;
-        let y = b + n[j] as u32 * t;
+    while i < m.weights.len() {
+        related &= rows::bit(rows, m.targets[i] as usize, n.targets[j] as usize);
+        let x = a + m.weights[i] as u32 * u;
+        let y = b + n.weights[j] as u32 * t;
         if x == y {
             i += 1;
             j += 1;

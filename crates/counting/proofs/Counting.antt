@@ -1,10 +1,11 @@
 -- How counts are handed on: to the members of a set, to the pairs below all targets of a transition, and from a pair to those below it.
 -- Assumes nothing.
+use Rattle.form.specs.declared.tables.Tables.{Tables}
 use mathlib.Core.Path.{◌≡◌, refl, sym, ap, ap₂, ◌∙◌, subst}
 use mathlib.Core.Bool.{Bool, true, false, not, ◌&&◌, and-true, and-false}
 use mathlib.Core.List.{List}
 use Prim.Native.Nat.{ℕ, zero, suc, ◌+◌, ◌*◌, ◌^◌, ◌≤◌, ◌<◌, zero-le}
-use native.Mathlib.Nat.{mul-le-mul_left, mul-le-mul_right}
+use native.Mathlib.Nat.{mul-le-mul_right}
 use native.Mathlib.Omega.{arith}
 use native.Mathlib.Decide.{ℕ_discrete}
 use lib.Dec.{T, eqb}
@@ -43,10 +44,6 @@ pub record RowLoop (width s members c : ℕ) (counts₀ counts : List ℕ) (left
       → get_or counts (u * width + v) 0 + when (eqb s u && member left v) c ≡ get_or counts₀ (u * width + v) 0 + when (eqb s u && member members v) c
   pub kept : (t : ℕ) → T (member left t) → T (member members t)
 
--- at first all members are left
-pub counting_start : (width s members c : ℕ) (counts : List ℕ) → RowLoop width s members c counts counts members
-counting_start width s members c counts = record { size = refl; due = λ u v _. refl; kept = λ t h. h }
-
 module _ {width s members c : ℕ} {counts₀ counts : List ℕ} {left : ℕ} (w : Within counts₀ width s members c) (l : RowLoop width s members c counts₀ counts left)
     {t : ℕ} (low : Lowest (member left) t) where
   -- the lowest member left is inside the row, has its place, and its count can be raised
@@ -56,15 +53,8 @@ module _ {width s members c : ℕ} {counts₀ counts : List ℕ} {left : ℕ} (w
   pub member-place : s * width + t < length counts
   member-place = omega (arith, member-inside, w.room, l.size)
 
-  pub member-small : s * width + t < most_pairs
-  member-small = omega (arith, member-inside, w.narrow, w.low, mul-le-mul_left s w.narrow)
-
   due_here : (b : Bool) → b ≡ true → get_or counts (s * width + t) 0 + when (b && member left t) c ≡ get_or counts (s * width + t) 0 + c
   due_here b e = ap₂ (λ p q. get_or counts (s * width + t) 0 + when (p && q) c) e low.here
-
-  pub member-fits : get_or counts (s * width + t) 0 + c < 2 ^ 32
-  member-fits =
-      omega (arith, due_here (eqb s s) (eq-eqb s s refl), l.due s t member-inside, when-most (eqb s s && member members t) c, w.small t member-inside)
 
   -- it is counted and is no longer left
   pub row_turn : {left' : ℕ} → member left' ≡ without_member t (member left)
@@ -115,23 +105,6 @@ counting_end {s = s} {c = c} {left = left} l z =
           omega (arith, l.due u v b, ap (λ p. when (eqb s u && p) c) (ap (λ (k : ℕ). member k v) z ∙ member-none v), ap (λ p. when p c) (and-false (eqb s u)));
     }
 
--- ---- the counts emptied from the first
-
-pub record Emptied (n : ℕ) (counts₀ counts : List ℕ) (i : ℕ) : Type 0 where
-  pub inside : i ≤ n
-  pub size : length counts ≡ length counts₀
-  pub empty : (k : ℕ) → k < i → get_or counts k 0 ≡ 0
-
-pub emptied_start : (n : ℕ) (counts : List ℕ) → Emptied n counts counts 0
-emptied_start n counts = record { inside = zero-le; size = refl; empty = λ k h. absurd (omega arith) }
-
-pub emptied_next : {n : ℕ} {counts₀ counts : List ℕ} {i : ℕ} → Emptied n counts₀ counts i → i < n → n ≤ length counts₀ → Emptied n counts₀ (set counts i 0) (i + 1)
-emptied_next {counts = counts} {i} e lt room = record { inside = omega arith; size = length-set counts i 0 ∙ e.size; empty = λ k h. at k h (ℕ_discrete k i) }
-  where
-    at : (k : ℕ) → k < i + 1 → Dec (k ≡ i) → get_or (set counts i 0) k 0 ≡ 0
-    at k h (yes q) = ap (λ (k : ℕ). get_or (set counts i 0) k 0) q ∙ get_or-set_same counts i 0 0 (omega (arith, e.size))
-    at k h (no d) = get_or-set_other counts i k 0 0 d ∙ e.empty k (omega (arith, d))
-
 -- ---- the targets of a transition
 
 -- the counts of the targets before i are raised
@@ -174,25 +147,19 @@ module _ {targets sets : List ℕ} {width c : ℕ} {counts₀ counts : List ℕ}
         added = record { at = λ u v b. omega (arith, r.at u v b, ap (λ (k : ℕ). when (eqb (get_or targets i 0) u && member k v) c) is, l.added.at u v b, sum_more i (λ k. when (child targets sets u v k) c) refl) };
       }
 
--- after the last target the counts of all are raised
-pub counts_end : {targets sets : List ℕ} {width c : ℕ} {counts₀ counts : List ℕ} {i : ℕ} → CountsLoop targets sets width c counts₀ counts i → length targets ≤ i
-    → CountsAdded targets sets width c (length targets) counts₀ counts
-counts_end {targets} {sets} {width} {c} {counts₀} {counts} {i} l h =
-    subst (λ (n : ℕ). CountsAdded targets sets width c n counts₀ counts) (let e : i ≡ length targets = omega (arith, l.inside) in e) l.added
-
 -- ---- transitions counted one after another
 
 -- at first no transition is counted, and then some more are
-pub tallied-start : {tables counts : List ℕ} {bytes : ℕ} → Tally tables counts bytes → Tallied tables counts bytes counts bytes
+pub tallied-start : {tables : Tables} {counts : List ℕ} {bytes : ℕ} → Tally tables counts bytes → Tallied tables counts bytes counts bytes
 tallied-start t = record { tally = t; total = refl }
 
-pub tallied-next : {tables counts₀ : List ℕ} {bytes₀ : ℕ} {counts : List ℕ} {bytes : ℕ} {counts' : List ℕ} {bytes' : ℕ}
+pub tallied-next : {tables : Tables} {counts₀ : List ℕ} {bytes₀ : ℕ} {counts : List ℕ} {bytes : ℕ} {counts' : List ℕ} {bytes' : ℕ}
     → Tallied tables counts₀ bytes₀ counts bytes → Tallied tables counts bytes counts' bytes' → Tallied tables counts₀ bytes₀ counts' bytes'
 tallied-next p q = record { tally = q.tally; total = q.total ∙ p.total }
 
 -- ---- a pair hands on its count
 
-module _ {tables : List ℕ} {s t j : ℕ} {sets counts : List ℕ} {bytes : ℕ} (g : HandGiven tables s t j sets counts bytes) where
+module _ {tables : Tables} {s t j : ℕ} {sets counts : List ℕ} {bytes : ℕ} (g : HandGiven tables s t j sets counts bytes) where
   abbrev M : Table
   M = first_table tables
 
@@ -274,7 +241,7 @@ module _ {tables : List ℕ} {s t j : ℕ} {sets counts : List ℕ} {bytes : ℕ
           total = omega (arith, owed-less, owed_children M N ts sets due (length ts) cleared counts' (state-at hand_choice et) a.at, ap (λ (n : ℕ). due * n) split_length);
         }
 
-module _ {tables : List ℕ} {s t j : ℕ} {sets counts : List ℕ} {bytes : ℕ} (g : HandGiven tables s t j sets counts bytes) (under : bytes ≤ longest)
+module _ {tables : Tables} {s t j : ℕ} {sets counts : List ℕ} {bytes : ℕ} (g : HandGiven tables s t j sets counts bytes) (under : bytes ≤ longest)
     {ts : List ℕ} (et : ts ≡ targets (first_step tables j)) (width : ℕ) (e : width ≡ states_of (contract_table tables)) where
   -- the bytes stay small, the counts below can be raised, and what is owed goes down by what is counted
   pub hand_fits : bytes + get_or counts (s * width + t) 0 * (head_length + 4 * length ts) < 2 ^ 30
@@ -293,7 +260,7 @@ module _ {tables : List ℕ} {s t j : ℕ} {sets counts : List ℕ} {bytes : ℕ
 
 -- ---- the root
 
-module _ {tables : List ℕ} {s t : ℕ} (lost : Lost tables s t) (counts : List ℕ) (room : pairs (first_table tables) (contract_table tables) ≤ length counts)
+module _ {tables : Tables} {s t : ℕ} (lost : Lost tables s t) (counts : List ℕ) (room : pairs (first_table tables) (contract_table tables) ≤ length counts)
     (none : (k : ℕ) → k < pairs (first_table tables) (contract_table tables) → get_or counts k 0 ≡ 0) where
   -- the root's count has its place; set to 1 among zeros, it makes the root's length owed
   pub root_in : s * states_of (contract_table tables) + t < length counts

@@ -1,5 +1,6 @@
 -- The number of a pair, the place of a pair that is not kept, and a set without a member.
 -- Assumes nothing.
+use Rattle.form.specs.declared.tables.Tables.{Tables}
 use mathlib.Core.Path.{◌≡◌, sym, ap, ◌∙◌, subst}
 use mathlib.Core.Bool.{not, ◌&&◌, and-true}
 use mathlib.Core.List.{List}
@@ -35,7 +36,7 @@ same_pair s t u v n a b e = (
 pub place-below : (s t m n : ℕ) → s < m → t < n → s * n + t < m * n
 place-below s t m n a b = let row : suc s * n ≤ m * n = mul-le-mul_right n a in omega (arith, suc-mul s n)
 
-module _ (tables : List ℕ) (P : ℕ → ℕ → Type 0) (s t : ℕ) where
+module _ (tables : Tables) (P : ℕ → ℕ → Type 0) (s t : ℕ) where
   -- what holds at a pair holds at its number's row and column
   pub at-number : t < states_of (contract_table tables) → P s t → P (row tables (number tables s t)) (column tables (number tables s t))
   at-number b h = subst (λ (u : ℕ). P u (column tables (number tables s t))) (sym (digits_div s b)) (subst (P s) (sym (digits_mod s b)) h)
@@ -46,7 +47,7 @@ module _ (tables : List ℕ) (P : ℕ → ℕ → Type 0) (s t : ℕ) where
 
 -- ---- a pair that is not kept
 
-module _ {tables : List ℕ} {s t : ℕ} (p : Lost tables s t) where
+module _ {tables : Tables} {s t : ℕ} (p : Lost tables s t) where
   -- its number is below the number of pairs
   pub lost-place : number tables s t < pairs (first_table tables) (contract_table tables)
   lost-place = place-below s t (states_of (first_table tables)) (states_of (contract_table tables)) p.left p.right
@@ -63,7 +64,7 @@ module _ {tables : List ℕ} {s t : ℕ} (p : Lost tables s t) where
   rank_asked g = let low = lost-low g.loaded in (g.loaded, low.0, low.1, pair_place g p.left p.right)
 
 -- the same for a pair that is given by its number
-pub number-place : (tables : List ℕ) (p : ℕ) → Lost tables (row tables p) (column tables p) → p < pairs (first_table tables) (contract_table tables)
+pub number-place : (tables : Tables) (p : ℕ) → Lost tables (row tables p) (column tables p) → p < pairs (first_table tables) (contract_table tables)
 number-place tables p l = subst (λ (k : ℕ). k < pairs (first_table tables) (contract_table tables)) (div-add-mod' p (states_of (contract_table tables))) (lost-place l)
 
 -- ---- sets

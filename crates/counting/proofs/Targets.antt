@@ -1,5 +1,6 @@
 -- The targets of the transition chosen for a pair, and the pairs below it.
 -- Assumes nothing.
+use Rattle.form.specs.declared.tables.Tables.{Tables}
 use mathlib.Core.Path.{◌≡◌, sym, ap, ap₂, ◌∙◌, subst}
 use mathlib.Core.List.{List}
 use Prim.Native.Nat.{ℕ, ◌+◌, ◌*◌, ◌≤◌, ◌<◌}
@@ -25,12 +26,12 @@ use Rattle.relate.proofs.Places.{targets-count, target-state, target_small, few_
 use Rattle.choice.proofs.Choices.{choice-number, choice_width, below-lost}
 
 -- a pair that is not kept, and the number of the transition chosen for it
-pub record ChoiceGiven (tables : List ℕ) (s t j : ℕ) : Type 0 where
+pub record ChoiceGiven (tables : Tables) (s t j : ℕ) : Type 0 where
   pub loaded : BothLoaded tables
   pub lost : Lost tables s t
   pub choice : Choice tables s t j
 
-module _ {tables : List ℕ} {s t j : ℕ} (g : ChoiceGiven tables s t j) where
+module _ {tables : Tables} {s t j : ℕ} (g : ChoiceGiven tables s t j) where
   abbrev M : Table
   M = first_table tables
 

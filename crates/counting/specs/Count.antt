@@ -1,5 +1,6 @@
 -- The bytes of a tree, counted from its root down: how often the transition of each pair still has to be counted.
 -- Assumes nothing.
+use Rattle.form.specs.declared.tables.Tables.{Tables}
 use Rattle.std.specs.Prelude.{◌≡◌, Bool, ◌&&◌, List, ℕ, ◌+◌, ◌*◌, ◌^◌, ◌≤◌, ◌<◌, T, eqb, length, get_or}
 use Rattle.simulation.specs.Limits.{most_states, most_tree_bytes}
 use Rattle.simulation.specs.Sum.{sum, when}
@@ -49,7 +50,7 @@ pub record CountsAdded (targets sets : List ℕ) (width c n : ℕ) (counts count
 abbrev pub longest : ℕ
 longest = most_tree_bytes
 
-module _ (tables : List ℕ) where
+module _ (tables : Tables) where
   -- a count for each pair, none above the bytes so far
   pub record Tally (counts : List ℕ) (bytes : ℕ) : Type 0 where
     pub room : pairs (first_table tables) (contract_table tables) ≤ length counts

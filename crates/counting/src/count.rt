@@ -1,13 +1,12 @@
 // How often the transition of each pair occurs in a tree, from the root down: a pair hands its count on to the pairs below it.
 // The bytes counted are never more than the tree's, so one that is too long shows before all its pairs are looked at.
-ghost use Rattle.std.specs.Prelude.{◌≡◌, ℕ, ◌≤◌, ◌<◌, length, get_or};
-ghost use Rattle.simulation.specs.Limits.{most_pairs};
+ghost use Rattle.std.specs.Prelude.{length};
 ghost use Rattle.set.specs.Words.{mask};
 ghost use Rattle.counting.specs.Count.{Within, RowAdded, CountsGiven, CountsAdded, HandGiven, Tallied};
 
-use form::{Form, tables};
+use form::Tables;
 use relation::rows;
-use set::{Set, walk};
+use set::Set;
 use simulation::{Table, Width};
 use word::Word;
 
@@ -23,14 +22,8 @@ fn add_row(counts: &mut [u32], width: usize, s: usize, members: Set, c: u32)
     ensures { RowAdded width s (mask members) c counts.old counts.new }
 {
     let base = s * width;
-    for w in 0..Set::WORDS {
-        let mut left = members.words[w];
-        while left != 0 {
-            let at = base + walk::lowest(members, w, left);
-            let more = counts[at] + c;
-            counts[at] = more;
-            left = walk::without_lowest(members, w, left);
-        }
+    for t in members {
+        counts[base + t] += c;
     }
 }
 
@@ -40,17 +33,15 @@ fn add_counts(targets: &[u16], sets: &[Word], width: usize, c: u32, counts: &mut
     ensures { CountsAdded targets.now sets.now width c (length targets.now)
         counts.old counts.new }
 {
-    for i in 0..targets.len() {
-        let s = targets[i] as usize;
-        let members = rows::get(sets, i);
-        add_row(counts, width, s, members, c);
+    for (i, &s) in targets.iter().enumerate() {
+        add_row(counts, width, s as usize, rows::get(sets, i), c);
     }
 }
 
 // Counts the transition j of the pair (s, t) as often as it is due, and hands its count on to the pairs below it. Returns the bytes counted.
 // Nothing is counted once they are too many.
 pub fn hand_on(
-    tables: &[u16],
+    tables: &Tables,
     s: usize,
     t: usize,
     j: usize,
@@ -64,21 +55,11 @@ pub fn hand_on(
     if LONGEST < bytes {
         return bytes;
     }
-    let width = tables::width(tables);
-    let targets = tables::targets(tables, Form::FIRST, j);
+    let width = tables.width();
+    let targets = tables.first.targets(j);
     let at = s * width + t;
     let c = counts[at];
     counts[at] = 0;
     add_counts(targets, sets, width, c, counts);
     bytes + c * ((HEAD + 4 * targets.len()) as u32)
-}
-
-// Empties the first n counts.
-pub fn clear_counts(counts: &mut [u32], n: usize)
-    requires { (n ≤ most_pairs) × (n ≤ length counts.old) }
-    ensures { (i : ℕ) → i < n → get_or counts.new i 0 ≡ 0 }
-{
-    for i in 0..n {
-        counts[i] = 0;
-    }
 }

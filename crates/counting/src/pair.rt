@@ -4,12 +4,12 @@ ghost use Rattle.simulation.specs.Limits.{most_states, most_pairs};
 ghost use Rattle.form.specs.Tables.{BothLoaded};
 ghost use Rattle.counting.specs.Pair.{number};
 
-use form::tables;
+use form::Tables;
 
 // The number of the pair (s, t).
-pub fn number(tables: &[u16], s: usize, t: usize) -> usize
+pub fn number(tables: &Tables, s: usize, t: usize) -> usize
     requires { BothLoaded tables.now × (s < most_states) × (t < most_states) }
     ensures { (result ≡ number tables.now s t) × (result < most_pairs + most_states) }
 {
-    s * tables::width(tables) + t
+    s * tables.width() + t
 }

@@ -12,7 +12,7 @@ ghost use Rattle.cut.specs.Quick.{CutOf, Lacking, IsCut, heavier};
 
 use greedy::total_weight;
 use relation::rows;
-use set::{Set, walk};
+use set::Set;
 use transport::maximum_flow;
 use word::Word;
 
@@ -30,15 +30,15 @@ fn with_row(s: Short, rel: &[Word], q: usize, i: usize, all: Set) -> Short
         × Lacking rel.now i q (mask s.rows) (mask s.has) (mask s.lacks) }
     ensures { Lacking rel.now (i + 1) q (mask result.rows) (mask result.has) (mask result.lacks) }
 {
-    let gap = set::difference(all, rows::get(rel, i));
-    if set::is_empty(gap) {
+    let gap = all.difference(rows::get(rel, i));
+    if gap.is_empty() {
         return s;
     }
-    let row = set::intersection(all, rows::get(rel, i));
+    let row = all.intersection(rows::get(rel, i));
     Short {
-        rows: set::insert(s.rows, i),
-        has: set::union(row, s.has),
-        lacks: set::union(gap, s.lacks),
+        rows: s.rows.insert(i),
+        has: row.union(s.has),
+        lacks: gap.union(s.lacks),
     }
 }
 
@@ -47,11 +47,11 @@ fn short_rows(rel: &[Word], p: usize, q: usize) -> Short
     requires { (p ≤ most_states) × (q ≤ most_states) × (p ≤ height rel.now) }
     ensures { Lacking rel.now p q (mask result.rows) (mask result.has) (mask result.lacks) }
 {
-    let all = set::below(q);
+    let all = Set::below(q);
     let mut s = Short {
-        rows: set::empty(),
-        has: set::empty(),
-        lacks: set::empty(),
+        rows: Set::empty(),
+        has: Set::empty(),
+        lacks: Set::empty(),
     };
     for i in 0..p {
         s = with_row(s, rel, q, i, all);
@@ -64,13 +64,13 @@ fn is_cut(s: Short, p: usize) -> bool
     requires { p ≤ most_states }
     ensures { result ≡ true → IsCut p (mask s.rows) (mask s.has) (mask s.lacks) }
 {
-    if set::is_empty(s.has) {
+    if s.has.is_empty() {
         return true;
     }
-    if !set::is_empty(set::intersection(s.has, s.lacks)) {
+    if !s.has.intersection(s.lacks).is_empty() {
         return false;
     }
-    set::is_empty(set::difference(set::below(p), s.rows))
+    Set::below(p).difference(s.rows).is_empty()
 }
 
 // What the members of a set of places weigh together.
@@ -79,13 +79,8 @@ fn weight_of(weights: &[u16], named: Set) -> u32
     ensures { result ≡ weight_of weights.now (member (mask named)) }
 {
     let mut sum = 0u32;
-    for k in 0..Set::WORDS {
-        let mut left = named.words[k];
-        while left != 0 {
-            let i = walk::lowest(named, k, left);
-            sum = sum + weights[i] as u32;
-            left = walk::without_lowest(named, k, left);
-        }
+    for i in named {
+        sum += weights[i] as u32;
     }
     sum
 }
@@ -97,10 +92,9 @@ fn by_weight(m: &[u16], n: &[u16], s: Short) -> Set
     ensures { mask result ≡ heavier m.now n.now (mask s.rows) (mask s.has) }
 {
     if weight_of(n, s.has) * total_weight(m) < weight_of(m, s.rows) * total_weight(n) {
-        let rows = s.rows;
-        return rows;
+        return s.rows;
     }
-    set::empty()
+    Set::empty()
 }
 
 // 01's smallest of the sets with the largest excess: empty exactly if m fits n. amounts is what a flow works in.
@@ -111,13 +105,10 @@ pub fn smallest_cut(m: &[u16], n: &[u16], rel: &[Word], amounts: &mut [u32]) -> 
     let p = m.len();
     let s = short_rows(rel, p, n.len());
     if is_cut(s, p) {
-        let rows = s.rows;
-        return rows;
+        return s.rows;
     }
-    if set::is_empty(set::intersection(s.has, s.lacks)) {
+    if s.has.intersection(s.lacks).is_empty() {
         return by_weight(m, n, s);
     }
-    let flow = maximum_flow(m, n, rel, amounts);
-    let cut = flow.cut;
-    cut
+    maximum_flow(m, n, rel, amounts).cut
 }

@@ -1,5 +1,6 @@
 -- The targets of two transitions, and whether one fits the other.
 -- Assumes nothing.
+use Rattle.form.specs.declared.tables.Tables.{Tables}
 use mathlib.Core.Path.{◌≡◌, sym, ap, ◌∙◌, subst, subst₂}
 use mathlib.Core.Bool.{Bool, true, false}
 use mathlib.Core.List.{List}
@@ -8,6 +9,7 @@ use native.Mathlib.Omega.{arith}
 use borrow.Author.Tests.{eqb-true}
 use lib.Dec.{T, eqb}
 use lib.ListN.{length}
+use Rattle.std.specs.Prelude.{Option, Some, None}
 use Rattle.simulation.specs.Limits.{most_states}
 use Rattle.simulation.specs.Fit.{total, fits?}
 use Rattle.simulation.specs.Table.{Transition, weights, targets, target_at, states_of}
@@ -16,22 +18,17 @@ use Rattle.simulation.proofs.Simulation.Relation.{relation-at}
 use Rattle.simulation.proofs.Fit.Agree.{Agree, fits_agree}
 use Rattle.simulation.proofs.Fit.Quick.{fits_full, misfit_row, misfit_column}
 use Rattle.word.specs.Mask.{member}
-use Rattle.relation.specs.Rows.{height}
+use Rattle.relation.specs.Rows.{height, HasRows}
 use Rattle.relation.specs.Related.{holds}
-use Rattle.matrix.specs.Problem.{Sides, joins}
+use Rattle.matrix.specs.Problem.{joins}
 use Rattle.form.specs.Form.{Loaded, transitions_of, transition_at}
 use Rattle.form.specs.Tables.{first_form, second_form, first_table, contract_table, first_step, second_step}
 use Rattle.form.proofs.FormLaws.{limits, limited_at, distribution-at, positive-at, weights-length, targets-length}
 use Rattle.form.proofs.Contract.{contract-states}
 use Rattle.transport.specs.Answer.{MaximumFlow}
-use Rattle.gather.specs.Places.{Places, Ascending, Gathered}
+use Rattle.gather.specs.Places.{Places, Gathered}
 use Rattle.decision.specs.Fitting.{relation_of, fitting, Asked, SharedOut}
 use Rattle.bounds.specs.Quick.{SetOf, RowMissing, Settles, Bounding}
-use Rattle.bounds.specs.declared.FromBounds.{FromBounds}
-use Rattle.bounds.specs.declared.FromBounds.TheVariants.{Fits, Misfits, Open}
-
-pub targets_ascend : (f : List ℕ) (loaded : Loaded f) (j : ℕ) → j < transitions_of f → Ascending (targets (transition_at f j))
-targets_ascend f loaded j b i h = (distribution-at f loaded j b).ascending i (omega (arith, targets-length (transition_at f j)))
 
 -- the targets of a transition of a form
 pub places_of : (n : ℕ) (f : List ℕ) (loaded : Loaded f) (j : ℕ) → j < transitions_of f → most_states ≤ n → Places n (targets (transition_at f j))
@@ -51,12 +48,11 @@ total-at : (f : List ℕ) (loaded : Loaded f) (j : ℕ) → j < transitions_of f
 total-at f loaded j b = (distribution-at f loaded j b).counted
 
 -- a test as it was told
-abbrev pub Tells : Bool → FromBounds → Type 0
-Tells b Fits = true ≡ b
-Tells b Misfits = false ≡ b
-Tells b Open = Unit {0}
+abbrev pub Tells : Bool → Option Bool → Type 0
+Tells b (Some told) = told ≡ b
+Tells b None = Unit {0}
 
-module _ {tables rows amounts : List ℕ} {j l : ℕ} (asked : Asked tables rows amounts j l) where
+module _ {tables : Tables} {rows amounts : List ℕ} {j l : ℕ} (asked : Asked tables rows amounts j l) where
   abbrev R : Relation
   R = relation_of tables rows
 
@@ -76,8 +72,8 @@ module _ {tables rows amounts : List ℕ} {j l : ℕ} (asked : Asked tables rows
   pub first_places : Places (height rows) (targets m)
   first_places = places_of (height rows) (first_form tables) first j asked.from_first asked.rows_room
 
-  pub second_places : Places most_states (targets n)
-  second_places = places_of most_states (second_form tables) second l asked.from_second (omega arith)
+  pub first_rows : {ms : List ℕ} → ms ≡ targets m → HasRows rows ms
+  first_rows e = subst (HasRows rows) (sym e) first_places.below
 
   first-paired : length (targets m) ≡ length (weights m)
   first-paired = (limited_at (first_form tables) first j asked.from_first).paired
@@ -110,25 +106,6 @@ module _ {tables rows amounts : List ℕ} {j l : ℕ} (asked : Asked tables rows
 
   -- the weights and targets of the two, under the names that a function has for them
   module _ {ms ws ns vs : List ℕ} (a : ms ≡ targets m) (b : ws ≡ weights m) (c : ns ≡ targets n) (d : vs ≡ weights n) where
-    pub sides_of : Sides ms ws ns vs rows
-    sides_of =
-        let x = limited_at (first_form tables) first j asked.from_first in
-        let y = limited_at (second_form tables) second l asked.from_second in
-        rw (a, b, c, d) (record {
-          rows_paired = x.paired;
-          columns_paired = y.paired;
-          few_rows = x.few;
-          few_columns = y.few;
-          some_rows = x.some;
-          some_columns = y.some;
-          row_states = first_places.below;
-          column_states = second_places.below;
-          positive_ws = positive-at (first_form tables) first j asked.from_first;
-          positive_vs = positive-at (second_form tables) second l asked.from_second;
-          total_ws = x.total-small;
-          total_vs = y.total-small;
-        })
-
     -- a fit over the rows themselves decides
     pub by_sides : {r : Bool} → r ≡ fits? (joins rows ms ns) ws vs → r ≡ fitting tables rows j l
     by_sides {r} e =
@@ -148,12 +125,12 @@ module _ {tables rows amounts : List ℕ} {j l : ℕ} (asked : Asked tables rows
         (total-at (second_form tables) second l asked.from_second) (λ k b. related_at i k c b ∙ h (target_at n k) (target_in k b)))
 
     module _ {some every : ℕ} (h : Bounding rows (targets m) some every) where
-      all_fit : Settles some every to Fits → true ≡ fitting tables rows j l
+      all_fit : Settles some every to (Some true) → true ≡ fitting tables rows j l
       all_fit s =
           sym (fits_full (between R m n) (weights m) (weights n)
           (λ i k a b. related_at i k a b ∙ h.within i (target_at n k) (omega (arith, first-paired)) (s (target_at n k) (target_in k b))))
 
-      column_misfits : Settles some every to Misfits → false ≡ fitting tables rows j l
+      column_misfits : Settles some every to (Some false) → false ≡ fitting tables rows j l
       column_misfits (u, t, o) =
           let w = set.only u t in
           let c : w.0 < length (weights n) = omega (arith, w.1, second-paired) in
@@ -161,7 +138,7 @@ module _ {tables rows amounts : List ℕ} {j l : ℕ} (asked : Asked tables rows
           (total-at (first_form tables) first j asked.from_first)
           (λ i a. related_at i w.0 a c ∙ ap (holds rows (target_at m i)) w.2 ∙ h.others i u (omega (arith, first-paired)) o))
 
-      pub by_sets : (r : FromBounds) → Settles some every to r → Tells (fitting tables rows j l) r
-      by_sets Fits s = all_fit s
-      by_sets Misfits s = column_misfits s
-      by_sets Open s = tt
+      pub by_sets : (r : Option Bool) → Settles some every to r → Tells (fitting tables rows j l) r
+      by_sets (Some true) s = all_fit s
+      by_sets (Some false) s = column_misfits s
+      by_sets None s = tt

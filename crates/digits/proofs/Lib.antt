@@ -1,4 +1,4 @@
--- Laws of digits, and of writing one thing after the other.
+-- Laws of digits, and of appending one thing after the other.
 -- Assumes nothing.
 pub mod Digits
-pub mod Writing
+pub mod Appending

@@ -1,4 +1,4 @@
 -- The definitions, in reading order.
 -- Assumes nothing.
 pub mod Digits
-pub mod Writes
+pub mod Appending

@@ -1,5 +1,6 @@
 -- The states of a set that do not answer a transition, by whether the second table lists its code.
 -- Assumes nothing.
+use Rattle.form.specs.declared.tables.Tables.{Tables}
 use mathlib.Core.Path.{◌≡◌, refl, sym, ap, ◌∙◌, subst}
 use mathlib.Core.Bool.{Bool, true, false, not, ◌&&◌}
 use mathlib.Core.List.{List}
@@ -41,14 +42,14 @@ on-set true e = ap not (e tt)
 on-set false e = refl
 
 -- the second table lists the code of the transition j
-abbrev pub code-listed : (tables : List ℕ) (j : ℕ) → Bool
+abbrev pub code-listed : (tables : Tables) (j : ℕ) → Bool
 code-listed tables j = lists (second_table tables).codes (first_step tables j).code
 
 -- its targets have rows
-pub target_places : {tables sets rows amounts ts : List ℕ} (j : ℕ) → Lent tables sets rows amounts → j < transitions_of (first_form tables) → ts ≡ targets (first_step tables j) → Places (height rows) ts
+pub target_places : {tables : Tables} {sets rows amounts ts : List ℕ} (j : ℕ) → Lent tables sets rows amounts → j < transitions_of (first_form tables) → ts ≡ targets (first_step tables j) → Places (height rows) ts
 target_places {tables} {rows = rows} j h own e = subst (Places (height rows)) (sym e) (places_of (height rows) (first_form tables) h.loaded.first j own h.rows_room)
 
-module _ (tables rows : List ℕ) (j near : ℕ) where
+module _ (tables : Tables) (rows : List ℕ) (j near : ℕ) where
   -- those of near that do not answer it
   abbrev Unanswering : Test → Type 0
   Unanswering fallen = (t : ℕ) → fallen t ≡ (member near t && not (answered tables rows j t))

@@ -1,15 +1,14 @@
 -- Those that fall, gathered member by member from a set, and the pairs that a round drops, row by row.
 -- Assumes nothing.
+use Rattle.form.specs.declared.tables.Tables.{Tables}
 use mathlib.Core.Path.{◌≡◌, refl, sym, ap, ◌∙◌, subst, fun_ext}
 use mathlib.Core.Bool.{Bool, true, false, not, ◌&&◌, ◌||◌, and-true, and-false, or-true, or-false, true≢false}
 use mathlib.Core.List.{List}
 use mathlib.Core.Logic.{◌≢◌}
-use Prim.Native.Nat.{ℕ, ◌+◌, ◌<◌}
-use native.Mathlib.Omega.{arith}
+use Prim.Native.Nat.{ℕ, ◌<◌}
 use native.Mathlib.Decide.{ℕ_discrete, dec_lt}
 use borrow.Author.Tests.{eq-eqb, ne_eqb}
 use lib.Dec.{T, T_not, eqb}
-use lib.ListN.{length}
 use Rattle.simulation.specs.Limits.{most_states}
 use Rattle.simulation.specs.Sum.{when}
 use Rattle.simulation.specs.Table.{Table, states_of}
@@ -21,8 +20,7 @@ use Rattle.set.specs.Words.{mask}
 use Rattle.relation.specs.Rows.{row_of, height, put_row}
 use Rattle.set.specs.declared.Set.{Set}
 use Rattle.set.proofs.Sets.{mask_lt}
-use Rattle.relation.proofs.RowLaws.{length_put, row_put, row_put_other}
-use Rattle.relation.proofs.Parts.{part-height, part_put, part_put_before, part_put_after}
+use Rattle.relation.proofs.RowLaws.{row_put, row_put_other}
 use Rattle.word.proofs.Mask.{member-none, no_member, one-is, some-member}
 use Rattle.relation.specs.Related.{holds}
 use Rattle.form.specs.Tables.{first_table, contract_table}
@@ -30,7 +28,7 @@ use Rattle.decision.specs.Fitting.{held, relation_of}
 use Rattle.fit.specs.Held.{matched}
 use Rattle.dropping.specs.Falling.{falls, Doubtless, Judged, Fallen, StatesOnly, Falling, DoubtsKnown}
 use Rattle.dropping.specs.Dropping.{Dropping}
-use Rattle.links.specs.Places.{HasMarks, doubt_in, lost_in}
+use Rattle.links.specs.declared.Marks.{Marks}
 use Rattle.links.specs.Links.{Empty}
 use Rattle.links.proofs.Walks.{left_self, left_other, left-member}
 
@@ -140,7 +138,7 @@ finding_start {M} {N} {R} none empty kept =
     }
 
 -- one row more is judged
-finding_next : {M N : Table} {R : Relation} {waits later : Test} {s fell : ℕ} {lost : List ℕ} (row fell' : Set) → s < states_of M → s < height lost
+pub finding_next : {M N : Table} {R : Relation} {waits later : Test} {s fell : ℕ} {lost : List ℕ} (row fell' : Set) → s < states_of M → s < height lost
     → ((u : ℕ) → u ≢ s → later u ≡ waits u) → member (mask row) ≡ falls M N R s → Judged (eqb (mask row) 0) s fell (mask fell')
     → Finding M N R waits lost fell → Finding M N R later (put_row lost s row) (mask fell')
 finding_next {M} {N} {R} {waits} {later} {s} {fell} {lost} row fell' a room e d judged h =
@@ -173,15 +171,6 @@ finding_next {M} {N} {R} {waits} {later} {s} {fell} {lost} row fell' a room e d 
     found (yes y) n = h.some (λ q. n (no_member most_states (mask fell') (mask_lt fell') (λ t _. judged_same judged (eq-eqb (mask row) 0 y) t ∙ ap (λ (x : ℕ). member x t) q ∙ member-none t)))
     found (no y) n = let x = some-member most_states (mask row) (mask_lt row) y in (s, x.0, a, subst T (sym x.1 ∙ ap (λ (X : Test). X x.0) d) tt)
 
--- the same where the lost pairs lie among the marks
-pub finding_marks : {M N : Table} {R : Relation} {waits later : Test} {s fell : ℕ} {marks' : List ℕ} (marks : List ℕ) (row fell' : Set) → s < states_of M → s < most_states
-    → HasMarks marks → marks' ≡ put_row marks (most_states + s) row
-    → ((u : ℕ) → u ≢ s → later u ≡ waits u) → member (mask row) ≡ falls M N R s → Judged (eqb (mask row) 0) s fell (mask fell')
-    → Finding M N R waits (lost_in marks) fell → Finding M N R later (lost_in marks') (mask fell')
-finding_marks {M} {N} {R} {later = later} {s = s} marks row fell' a few room put e d judged h =
-    subst (λ l. Finding M N R later l (mask fell')) (sym (ap (λ l. lost_in l) put ∙ part_put most_states most_states marks s row few))
-    (finding_next row fell' a (omega (arith, part-height most_states most_states marks (omega arith))) e d judged h)
-
 -- no row waits
 pub finding_end : {M N : Table} {R : Relation} {waits : Test} {fell : ℕ} {lost : List ℕ} → ((s : ℕ) → s < states_of M → waits s ≡ false) → Finding M N R waits lost fell → Fallen M N R lost fell
 finding_end {M} {N} {R} {waits} {fell} {lost} e h =
@@ -195,23 +184,21 @@ finding_end {M} {N} {R} {waits} {fell} {lost} e h =
     exact s t a = h.exact s t a (e s a)
 
 -- the rows of `left` wait, with what is in doubt of each
-pub record Waiting (tables rows : List ℕ) (left : ℕ) (marks : List ℕ) (fell : ℕ) : Type 0 where
-  pub room : HasMarks marks
+pub record Waiting (tables : Tables) (rows : List ℕ) (left : ℕ) (marks : Marks) (fell : ℕ) : Type 0 where
   pub waits : (s : ℕ) → member left s ≡ true
-      → (s < states_of (first_table tables)) × Doubtless (first_table tables) (contract_table tables) (relation_of tables rows) s (holds (doubt_in marks) s)
-  pub found : Finding (first_table tables) (contract_table tables) (relation_of tables rows) (member left) (lost_in marks) fell
+      → (s < states_of (first_table tables)) × Doubtless (first_table tables) (contract_table tables) (relation_of tables rows) s (holds marks.doubt s)
+  pub found : Finding (first_table tables) (contract_table tables) (relation_of tables rows) (member left) marks.lost fell
 
 -- at first the rows with a pair in doubt wait, and in no other a pair falls
-pub waiting_start : {tables sets rows marks : List ℕ} {doubtful fell : ℕ} → fell ≡ 0 → Dropping tables sets rows marks doubtful → Waiting tables rows doubtful marks fell
+pub waiting_start : {tables : Tables} {sets rows : List ℕ} {marks : Marks} {doubtful fell : ℕ} → fell ≡ 0 → Dropping tables sets rows marks doubtful → Waiting tables rows doubtful marks fell
 unfolding survives
 waiting_start {tables} {sets} {rows} {marks} {doubtful} none d =
     record {
-      room = d.marks_room;
-      waits = λ s m. (ready.states s m, λ t o h. ready.sure s (ready.states s m) t (ap (λ (b : Bool). b && holds (doubt_in marks) s t) m ∙ o) h);
+      waits = λ s m. (ready.states s m, λ t o h. ready.sure s (ready.states s m) t (ap (λ (b : Bool). b && holds marks.doubt s t) m ∙ o) h);
       found = finding_start none d.none_lost kept;
     }
   where
-    ready : DoubtsKnown (first_table tables) (contract_table tables) rows doubtful (doubt_in marks)
+    ready : DoubtsKnown (first_table tables) (contract_table tables) rows doubtful marks.doubt
     ready = d.ready
 
     kept : (s t : ℕ) → s < states_of (first_table tables) → member doubtful s ≡ false → T (falls (first_table tables) (contract_table tables) (relation_of tables rows) s t) → ⊥
@@ -220,47 +207,29 @@ waiting_start {tables} {sets} {rows} {marks} {doubtful} none d =
         let lives = survives (first_table tables) (contract_table tables) R s t in
         let x : T (related R s t) = and_left (related R s t) (not lives) h in
         T_not lives (and_right (related R s t) (not lives) h)
-        (and_both (related R s t) (matched (first_table tables) (contract_table tables) R s t) x (ready.sure s a t (ap (λ (b : Bool). b && holds (doubt_in marks) s t) m) x))
+        (and_both (related R s t) (matched (first_table tables) (contract_table tables) R s t) x (ready.sure s a t (ap (λ (b : Bool). b && holds marks.doubt s t) m) x))
 
 -- one row more is judged: its doubts are settled, and the pairs that fall are lost
-pub waiting_next : {tables rows marks marks₁ marks₂ : List ℕ} {left rest s fell : ℕ} (z row fell' : Set) → s < most_states
-    → marks₁ ≡ put_row marks (0 + s) z → marks₂ ≡ put_row marks₁ (most_states + s) row
+pub waiting_next : {tables : Tables} {rows : List ℕ} {marks marks' : Marks} {left rest s fell : ℕ} (z row fell' : Set) → s < height marks.lost
+    → marks'.doubt ≡ put_row marks.doubt s z → marks'.lost ≡ put_row marks.lost s row
     → member left s ≡ true → member rest ≡ without_member s (member left) → member (mask row) ≡ falls (first_table tables) (contract_table tables) (relation_of tables rows) s
-    → Judged (eqb (mask row) 0) s fell (mask fell') → Waiting tables rows left marks fell → Waiting tables rows rest marks₂ (mask fell')
-waiting_next {tables} {rows} {marks} {marks₁} {marks₂} {left} {rest} {s} {fell} z row fell' few p q has e d judged h =
+    → Judged (eqb (mask row) 0) s fell (mask fell') → Waiting tables rows left marks fell → Waiting tables rows rest marks' (mask fell')
+waiting_next {tables} {rows} {marks} {marks'} {left} {rest} {s} {fell} z row fell' room p q has e d judged h =
     record {
-      room = omega (arith, room₁, ap length q, length_put marks₁ (most_states + s) row);
       waits = λ u m. wait u m (ℕ_discrete u s);
-      found = finding_marks marks₁ row fell' (h.waits s has).0 few room₁ q (left_other left rest s e) d judged (subst (λ l. Finding M N R (member left) l fell) (sym lost₁) h.found);
+      found =
+          subst (λ l. Finding (first_table tables) (contract_table tables) (relation_of tables rows) (member rest) l (mask fell')) (sym q)
+          (finding_next row fell' (h.waits s has).0 room (left_other left rest s e) d judged h.found);
     }
   where
-    M : Table
-    M = first_table tables
-
-    N : Table
-    N = contract_table tables
-
-    R : Relation
-    R = relation_of tables rows
-
-    room₁ : HasMarks marks₁
-    room₁ = omega (arith, h.room, ap length p, length_put marks (0 + s) z)
-
-    lost₁ : lost_in marks₁ ≡ lost_in marks
-    lost₁ = ap (λ l. lost_in l) p ∙ part_put_before most_states most_states marks (0 + s) z (omega arith)
-
-    doubt₂ : doubt_in marks₂ ≡ put_row (doubt_in marks) s z
-    doubt₂ =
-        ap (λ l. doubt_in l) q ∙ part_put_after 0 most_states marks₁ (most_states + s) row (omega arith)
-        ∙ ap (λ l. doubt_in l) p ∙ part_put 0 most_states marks s z few
-
-    wait : (u : ℕ) → member rest u ≡ true → Dec (u ≡ s) → (u < states_of M) × Doubtless M N R u (holds (doubt_in marks₂) u)
+    wait : (u : ℕ) → member rest u ≡ true → Dec (u ≡ s)
+        → (u < states_of (first_table tables)) × Doubtless (first_table tables) (contract_table tables) (relation_of tables rows) u (holds marks'.doubt u)
     wait u m (yes c) = absurd (true≢false (sym m ∙ ap (member rest) c ∙ left_self left rest s e))
     wait u m (no c) =
-        subst (λ (x : ℕ). (u < states_of M) × Doubtless M N R u (member x))
-        (sym (ap (λ l. row_of l u) doubt₂ ∙ row_put_other (doubt_in marks) s u z c)) (h.waits u (sym (left_other left rest s e u c) ∙ m))
+        subst (λ (x : ℕ). (u < states_of (first_table tables)) × Doubtless (first_table tables) (contract_table tables) (relation_of tables rows) u (member x))
+        (sym (ap (λ l. row_of l u) p ∙ row_put_other marks.doubt s u z c)) (h.waits u (sym (left_other left rest s e u c) ∙ m))
 
 -- no row waits
-pub waiting_end : {tables rows marks : List ℕ} {left fell : ℕ} → left ≡ 0 → Waiting tables rows left marks fell
-    → Fallen (first_table tables) (contract_table tables) (relation_of tables rows) (lost_in marks) fell
+pub waiting_end : {tables : Tables} {rows : List ℕ} {marks : Marks} {left fell : ℕ} → left ≡ 0 → Waiting tables rows left marks fell
+    → Fallen (first_table tables) (contract_table tables) (relation_of tables rows) marks.lost fell
 waiting_end e h = finding_end (λ s _. ap (λ (n : ℕ). member n s) e ∙ member-none s) h.found

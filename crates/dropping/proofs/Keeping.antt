@@ -1,5 +1,6 @@
 -- What is left of a row, transition by transition: the states that answer each one passed.
 -- Assumes nothing.
+use Rattle.form.specs.declared.tables.Tables.{Tables}
 use mathlib.Core.Path.{◌≡◌, refl, sym, ap, ap₂, ◌∙◌, subst, fun_ext}
 use mathlib.Core.Bool.{Bool, true, false, not, ◌&&◌, and-true, and-false, true≢false}
 use mathlib.Core.List.{List}
@@ -28,7 +29,7 @@ pub record Surviving (P : ℕ → Test) (near a n left : ℕ) : Type 0 where
   pub stays : (t : ℕ) → member near t ≡ true → ((k : ℕ) → a ≤ k → k < n → P k t ≡ true) → member left t ≡ true
 
 -- those that answer each transition of s up to n
-abbrev pub Answering : (tables rows : List ℕ) (s near n left : ℕ) → Type 0
+abbrev pub Answering : (tables : Tables) (rows : List ℕ) (s near n left : ℕ) → Type 0
 Answering tables rows s near n left = Surviving (answered tables rows) near (start_of (first_form tables) s) n left
 
 pub kept-start : (P : ℕ → Test) (near a : ℕ) → Surviving P near a a near
@@ -62,11 +63,11 @@ kept-columns N row doubt columns e h t m =
     columns t (true_T (both_true (member row t) (member doubt t) (sym (ap (λ (X : Test). X t) e) ∙ h.within t (is_true _ m))).0)
 
 -- the states that match the state s
-abbrev matching : (tables rows : List ℕ) (s : ℕ) → Test
+abbrev matching : (tables : Tables) (rows : List ℕ) (s : ℕ) → Test
 matching tables rows s = matched (first_table tables) (contract_table tables) (relation_of tables rows) s
 
 -- all transitions of the state s are passed
-module _ (tables rows : List ℕ) (loaded : Loaded (first_form tables)) (s : ℕ) (a : s < states_of (first_table tables)) where
+module _ (tables : Tables) (rows : List ℕ) (loaded : Loaded (first_form tables)) (s : ℕ) (a : s < states_of (first_table tables)) where
   left_at : {near left : ℕ} → Answering tables rows s near (start_of (first_form tables) (s + 1)) left → (t : ℕ) → member left t ≡ (member near t && matching tables rows s t)
   left_at {near} {left} h t = go (matching tables rows s t) refl
     where

@@ -14,14 +14,13 @@ ghost use Rattle.decision.specs.Fitting.{relation_of};
 ghost use Rattle.fit.specs.Held.{fits_listed, answered};
 ghost use Rattle.fit.specs.Known.{Lent, Tried};
 ghost use Rattle.links.specs.Links.{Empty};
-ghost use Rattle.links.specs.Places.{HasMarks, lost_in};
 ghost use Rattle.dropping.specs.Falling.{falls, Doubtless, Judged, StatesOnly, Fallen};
 ghost use Rattle.dropping.specs.Dropping.{Dropping, Dropped};
 
-use form::{Form, tables};
+use form::Tables;
 use links::Marks;
 use relation::rows;
-use set::{Set, walk};
+use set::Set;
 use word::Word;
 
 // t joins the set unless it passes.
@@ -32,89 +31,7 @@ fn join_unless(passes: bool, set: Set, t: usize) -> Set
     if passes {
         return set;
     }
-    set::insert(set, t)
-}
-
-// The states of a set that list no transition that the transition j fits.
-fn drop_listed(
-    tables: &[u16],
-    j: usize,
-    sets: &[Word],
-    rows: &[Word],
-    near: Set,
-    tried: &mut [u8],
-    amounts: &mut [u32],
-) -> Set
-    requires { Lent tables.now sets.now rows.now amounts.old × Tried tables.now rows.now tried.old
-        × (j < transitions_of (first_form tables.now)) × StatesOnly (contract_table tables.now) (mask near) }
-    ensures { ((t : ℕ) → member (mask result) t ≡ (member (mask near) t && not (fits_listed tables.now rows.now j t)))
-        × Tried tables.now rows.now tried.new }
-{
-    let known = fit::bounds_of(tables::targets(tables, Form::FIRST, j), rows);
-    let mut fallen = set::empty();
-    for w in 0..Set::WORDS {
-        let mut left = near.words[w];
-        while left != 0 {
-            let t = walk::lowest(near, w, left);
-            let fits = fit::fits_some(tables, j, t, sets, rows, tried, amounts, known);
-            fallen = join_unless(fits, fallen, t);
-            left = walk::without_lowest(near, w, left);
-        }
-    }
-    fallen
-}
-
-// The states of a set that do not answer the transition j. Where the second table does not list its code, a state answers by its transition
-// to itself: all targets of j must be related to the state.
-fn drop_step(
-    tables: &[u16],
-    j: usize,
-    sets: &[Word],
-    rows: &[Word],
-    near: Set,
-    tried: &mut [u8],
-    amounts: &mut [u32],
-) -> Set
-    requires { Lent tables.now sets.now rows.now amounts.old × Tried tables.now rows.now tried.old
-        × (j < transitions_of (first_form tables.now)) × StatesOnly (contract_table tables.now) (mask near) }
-    ensures { ((t : ℕ) → member (mask result) t ≡ (member (mask near) t && not (answered tables.now rows.now j t)))
-        × Tried tables.now rows.now tried.new }
-{
-    if tables::lists(tables, Form::SECOND, tables::code(tables, Form::FIRST, j)) {
-        return drop_listed(tables, j, sets, rows, near, tried, amounts);
-    }
-    let from = tables::targets(tables, Form::FIRST, j);
-    set::difference(near, bounds::common(from, rows))
-}
-
-// The pairs of row s that the round drops, transition by transition. Those outside doubt are known to survive.
-fn drop_row(
-    tables: &[u16],
-    s: usize,
-    sets: &[Word],
-    rows: &[Word],
-    doubt: Set,
-    tried: &mut [u8],
-    amounts: &mut [u32],
-) -> Set
-    requires { Lent tables.now sets.now rows.now amounts.old × Tried tables.now rows.now tried.old
-        × (s < states_of (first_table tables.now))
-        × Doubtless (first_table tables.now) (contract_table tables.now) (relation_of tables.now rows.now) s (member (mask doubt))
-        × StatesOnly (contract_table tables.now) (row_of rows.now s) }
-    ensures { (member (mask result)
-        ≡ falls (first_table tables.now) (contract_table tables.now) (relation_of tables.now rows.now) s)
-        × Tried tables.now rows.now tried.new }
-{
-    let near = set::intersection(rows::get(rows, s), doubt);
-    let end = tables::start_of(tables, Form::FIRST, s + 1);
-    let mut left = near;
-    let mut j = tables::start_of(tables, Form::FIRST, s);
-    while j < end {
-        let fallen = drop_step(tables, j, sets, rows, left, tried, amounts);
-        left = set::difference(left, fallen);
-        j += 1;
-    }
-    set::difference(near, left)
+    set.insert(t)
 }
 
 // The row s joins the set unless it has no member.
@@ -122,15 +39,87 @@ fn with_row(fell: Set, s: usize, row: Set) -> Set
     requires { s < most_states }
     ensures { Judged (eqb (mask row) 0) s (mask fell) (mask result) }
 {
-    join_unless(set::is_empty(row), fell, s)
+    join_unless(row.is_empty(), fell, s)
+}
+
+// What a round reads to find the pairs that it drops: two tables, the target sets of the second, and the pairs that are left.
+#[derive(Drop)]
+struct Pairs<'a> {
+    tables: &'a Tables<'a>,
+    sets: &'a [Word],
+    rows: &'a [Word],
+}
+
+impl Pairs<'_> {
+    // The states of a set that list no transition that the transition j fits.
+    fn drop_listed(&self, j: usize, near: Set, tried: &mut [u8], amounts: &mut [u32]) -> Set
+        requires { Lent self.now.tables.now self.now.sets.now self.now.rows.now amounts.old × Tried self.now.tables.now self.now.rows.now tried.old
+            × (j < transitions_of (first_form self.now.tables.now)) × StatesOnly (contract_table self.now.tables.now) (mask near) }
+        ensures { ((t : ℕ) → member (mask result) t ≡ (member (mask near) t && not (fits_listed self.now.tables.now self.now.rows.now j t)))
+            × Tried self.now.tables.now self.now.rows.now tried.new }
+    {
+        let known = fit::bounds_of(self.tables.first.targets(j), self.rows);
+        let mut fallen = Set::empty();
+        for t in near {
+            let fits = fit::fits_some(
+                self.tables,
+                j,
+                t,
+                self.sets,
+                self.rows,
+                tried,
+                amounts,
+                known,
+            );
+            fallen = join_unless(fits, fallen, t);
+        }
+        fallen
+    }
+
+    // The states of a set that do not answer the transition j. Where the second table does not list its code, a state answers by its transition
+    // to itself: all targets of j must be related to the state.
+    fn drop_step(&self, j: usize, near: Set, tried: &mut [u8], amounts: &mut [u32]) -> Set
+        requires { Lent self.now.tables.now self.now.sets.now self.now.rows.now amounts.old × Tried self.now.tables.now self.now.rows.now tried.old
+            × (j < transitions_of (first_form self.now.tables.now)) × StatesOnly (contract_table self.now.tables.now) (mask near) }
+        ensures { ((t : ℕ) → member (mask result) t ≡ (member (mask near) t && not (answered self.now.tables.now self.now.rows.now j t)))
+            × Tried self.now.tables.now self.now.rows.now tried.new }
+    {
+        let code = self.tables.first.code(j);
+        if self.tables.second.lists(code) {
+            return self.drop_listed(j, near, tried, amounts);
+        }
+        let from = self.tables.first.targets(j);
+        near.difference(bounds::common(from, self.rows))
+    }
+
+    // The pairs of row s that the round drops, transition by transition. Those outside doubt are known to survive.
+    fn drop_row(&self, s: usize, doubt: Set, tried: &mut [u8], amounts: &mut [u32]) -> Set
+        requires { Lent self.now.tables.now self.now.sets.now self.now.rows.now amounts.old × Tried self.now.tables.now self.now.rows.now tried.old
+            × (s < states_of (first_table self.now.tables.now))
+            × Doubtless (first_table self.now.tables.now) (contract_table self.now.tables.now) (relation_of self.now.tables.now self.now.rows.now) s (member (mask doubt))
+            × StatesOnly (contract_table self.now.tables.now) (row_of self.now.rows.now s) }
+        ensures { (member (mask result)
+            ≡ falls (first_table self.now.tables.now) (contract_table self.now.tables.now) (relation_of self.now.tables.now self.now.rows.now) s)
+            × Tried self.now.tables.now self.now.rows.now tried.new }
+    {
+        let near = rows::get(self.rows, s).intersection(doubt);
+        let start = self.tables.first.start_of(s);
+        let end = self.tables.first.start_of(s + 1);
+        let mut left = near;
+        for j in start..end {
+            let fallen = self.drop_step(j, left, tried, amounts);
+            left = left.difference(fallen);
+        }
+        near.difference(left)
+    }
 }
 
 // The pairs that the round drops, of the rows that have a pair in doubt. Returns the rows that lose one.
 pub fn drop_rows(
-    tables: &[u16],
+    tables: &Tables,
     sets: &[Word],
     rows: &[Word],
-    marks: &mut [Word],
+    marks: &mut Marks,
     doubtful: Set,
     tried: &mut [u8],
     amounts: &mut [u32],
@@ -139,36 +128,30 @@ pub fn drop_rows(
         × Tried tables.now rows.now tried.old × (most_pairs ≤ length amounts.old) }
     ensures { Dropped tables.now rows.now marks.new tried.new (mask result) }
 {
-    let mut fell = set::empty();
-    for w in 0..Set::WORDS {
-        let mut left = doubtful.words[w];
-        while left != 0 {
-            let s = walk::lowest(doubtful, w, left);
-            let doubt = rows::get(marks, Marks::DOUBT + s);
-            let row = drop_row(tables, s, sets, rows, doubt, tried, amounts);
-            rows::put(marks, Marks::DOUBT + s, set::empty());
-            rows::put(marks, Marks::LOST + s, row);
-            fell = with_row(fell, s, row);
-            left = walk::without_lowest(doubtful, w, left);
-        }
+    let pairs = Pairs { tables, sets, rows };
+    let mut fell = Set::empty();
+    for s in doubtful {
+        let doubt = rows::get(&marks.doubt, s);
+        let row = pairs.drop_row(s, doubt, tried, amounts);
+        rows::put(&mut marks.doubt, s, Set::empty());
+        rows::put(&mut marks.lost, s, row);
+        fell = with_row(fell, s, row);
     }
     fell
 }
 
 // The first round: all pairs are related, so that transitions with the same code fit. Returns the rows that lose a pair.
-pub fn first_round(tables: &[u16], marks: &mut [Word]) -> Set
-    requires { BothLoaded tables.now × HasMarks marks.old × Empty (lost_in marks.old) }
+pub fn first_round(tables: &Tables, marks: &mut Marks) -> Set
+    requires { BothLoaded tables.now × Empty marks.old.lost }
     ensures { Fallen (first_table tables.now) (contract_table tables.now)
-        (round (first_table tables.now) (contract_table tables.now) 0) (lost_in marks.new) (mask result) }
+        (round (first_table tables.now) (contract_table tables.now) 0) marks.new.lost (mask result) }
 {
-    let p = tables::states(tables, Form::FIRST);
-    let mut fell = set::empty();
-    let mut s = 0;
-    while s < p {
+    let p = tables.first.states();
+    let mut fell = Set::empty();
+    for s in 0..p {
         let row = lacking::lacking_one(tables, s);
-        rows::put(marks, Marks::LOST + s, row);
+        rows::put(&mut marks.lost, s, row);
         fell = with_row(fell, s, row);
-        s += 1;
     }
     fell
 }

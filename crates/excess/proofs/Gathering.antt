@@ -4,7 +4,7 @@ use mathlib.Core.Path.{◌≡◌, refl, sym, ap, ◌∙◌, subst}
 use mathlib.Core.Bool.{Bool, true, false}
 use mathlib.Core.List.{List}
 use mathlib.Core.Logic.{◌≢◌, ⊎_elim}
-use Prim.Native.Nat.{ℕ, ◌+◌, ◌*◌, ◌^◌, ◌≤◌, ◌<◌}
+use Prim.Native.Nat.{ℕ, ◌+◌, ◌*◌, ◌^◌, ◌<◌}
 use native.Mathlib.Nat.{mul_comm}
 use native.Mathlib.Omega.{arith}
 use borrow.Author.Tests.{eq-eqb, ne_eqb}
@@ -14,14 +14,12 @@ use lib.Seq.{get_or-set_same, get_or-set_other}
 use Rattle.simulation.specs.Sum.{sum, when}
 use Rattle.simulation.specs.Fit.{weight, total}
 use Rattle.simulation.proofs.Finite.Tests.{same?}
-use Rattle.simulation.proofs.Finite.Sums.{sum_ext, sum_mul, sum_swap, sum_pick, sum_le, sum-none, sum_mono, sum-when, when-most, when-zero}
+use Rattle.simulation.proofs.Finite.Sums.{sum_ext, sum_mul, sum_swap, sum_pick, sum_le, sum_term, sum_change, sum_more, sum-zero, sum-none, sum-when, when-zero}
 use Rattle.matrix.proofs.MatrixLaws.{running}
-use Rattle.word.specs.Mask.{Test, member, part}
-use Rattle.excess.specs.Excess.{set_count, within, under, set_of, NoSums, BySets}
-use Rattle.excess.proofs.Sets.{set-small, set_is}
+use Rattle.excess.specs.Excess.{set_count, within, under, NoSums, BySets}
 
 -- one place more
-by_sets-next : (n : ℕ) {at f : ℕ → ℕ} {l : List ℕ} {k : ℕ} → k ≡ at n → k < set_count → BySets n at f l → BySets (n + 1) at f (set l k (get_or l k 0 + f n))
+pub by_sets-next : (n : ℕ) {at f : ℕ → ℕ} {l : List ℕ} {k : ℕ} → k ≡ at n → k < set_count → BySets n at f l → BySets (n + 1) at f (set l k (get_or l k 0 + f n))
 by_sets-next n {at} {f} {l} {k} e small s =
     record {
       all = length-set l k (get_or l k 0 + f n) ∙ s.all;
@@ -42,59 +40,46 @@ pub sum-weights : (ws : List ℕ) (t : ℕ) → sum (length ws) (λ j. weight ws
 unfolding total
 sum-weights ws t = sum_ext (length ws) _ _ (λ j _. mul_comm (weight ws j) t) ∙ sum_mul (length ws) t (weight ws) ∙ mul_comm t (sum (length ws) (weight ws))
 
--- a loop over the n places of a side, each joined to some of the p places of the other: the first i weights are added
-pub record Summing (p n : ℕ) (ws : List ℕ) (t : ℕ) (X : ℕ → Test) (old : List ℕ) (i : ℕ) (sums : List ℕ) : Type 0 where
-  pub begun : NoSums p n ws t old
-  pub below : i ≤ n
-  pub by_sets : BySets i (λ j. set_of p (X j)) (λ j. weight ws j * t) sums
+-- a loop over weights: the sum of all sets is that of the weights passed, times t
+pub record Summing (ws : List ℕ) (t i : ℕ) (sums : List ℕ) : Type 0 where
+  pub size : length sums ≡ set_count
+  pub all : sum set_count (λ a. get_or sums a 0) ≡ sum i (λ j. weight ws j * t)
 
-module _ {p n : ℕ} {ws : List ℕ} {t : ℕ} {X : ℕ → Test} {old : List ℕ} where
-  pub summing_none : NoSums p n ws t old → Summing p n ws t X old 0 old
-  summing_none h =
+pub summing_none : {ws old : List ℕ} {t : ℕ} → NoSums ws t old → Summing ws t 0 old
+summing_none {ws} {old} {t} h =
+    record { size = h.all; all = sum_ext set_count _ _ (λ a _. h.none a) ∙ sum-zero set_count ∙ sum-none (λ j. weight ws j * t) }
+
+pub by_sets-none : {ws old : List ℕ} {t : ℕ} (at : ℕ → ℕ) → NoSums ws t old → BySets 0 at (λ j. weight ws j * t) old
+by_sets-none {ws} {old} {t} at h = record { all = h.all; at = λ a _. h.none a ∙ sum-none (λ j. when (eqb (at j) a) (weight ws j * t)) }
+
+pub summing_total : {ws sums : List ℕ} {t i : ℕ} → i ≡ length ws → Summing ws t i sums → sum set_count (λ a. get_or sums a 0) ≡ total ws * t
+summing_total {ws} {t = t} e s = s.all ∙ ap (λ (n : ℕ). sum n (λ j. weight ws j * t)) e ∙ sum-weights ws t
+
+module _ {ws : List ℕ} {t i : ℕ} {sums : List ℕ} (s : Summing ws t i sums) (k : ℕ) (small : k < set_count) where
+  -- the sum of a set has room for the next weight
+  pub summing_room : i < length ws → total ws * t < 2 ^ 32 → get_or sums k 0 + weight ws i * t < 2 ^ 32
+  summing_room next fits =
+      omega (
+        arith,
+        s.all,
+        sum_term set_count (λ a. get_or sums a 0) k small,
+        sum_le i (length ws) (λ j. weight ws j * t) next,
+        sum-weights ws t,
+      )
+
+  pub summing_next : Summing ws t (i + 1) (set sums k (get_or sums k 0 + weight ws i * t))
+  summing_next =
+      let new = set sums k (get_or sums k 0 + weight ws i * t) in
       record {
-        begun = h;
-        below = omega arith;
-        by_sets = record { all = h.all; at = λ a _. h.none a ∙ sum-none (λ j. when (eqb (set_of p (X j)) a) (weight ws j * t)) };
+        size = length-set sums k (get_or sums k 0 + weight ws i * t) ∙ s.size;
+        all = omega (
+          arith,
+          s.all,
+          sum_change set_count (λ a. get_or new a 0) (λ a. get_or sums a 0) k small (λ a _ d. get_or-set_other sums k a (get_or sums k 0 + weight ws i * t) 0 d),
+          get_or-set_same sums k (get_or sums k 0 + weight ws i * t) 0 (omega (arith, s.size)),
+          sum_more i (λ j. weight ws j * t) {t = sum i (λ j. weight ws j * t)} refl,
+        );
       }
-
-  module _ {i : ℕ} {l : List ℕ} (s : Summing p n ws t X old i l) where
-    pub summing_size : length l ≡ length old
-    summing_size = s.by_sets.all ∙ sym s.begun.all
-
-    pub summing_all : n ≤ i → BySets n (λ j. set_of p (X j)) (λ j. weight ws j * t) l
-    summing_all le = subst (λ (n : ℕ). BySets n (λ j. set_of p (X j)) (λ j. weight ws j * t) l) (omega (arith, s.below)) s.by_sets
-
-    -- the set of the next place
-    module _ (r : ℕ) (next : i < n) (e : member r ≡ part p (X i)) where
-      set_here : r ≡ set_of p (X i)
-      set_here = set_is p (X i) r e
-
-      set_known : r < set_count
-      set_known = omega (arith, set_here, set-small p (X i) s.begun.small)
-
-      -- its sum has room for the next weight
-      pub summing_room : (r < length l) × (get_or l r 0 + weight ws i * t < 2 ^ 32)
-      summing_room =
-          let f : ℕ → ℕ = λ j. weight ws j * t in
-          let at : ℕ → ℕ = λ j. when (eqb (set_of p (X j)) r) (f j) in (
-            omega (arith, set_known, s.by_sets.all),
-            omega (
-              arith,
-              s.by_sets.at r set_known,
-              sum_mono i at f (λ j _. when-most (eqb (set_of p (X j)) r) (f j)),
-              sum_le i (length ws) f (omega (arith, s.begun.paired)),
-              sum-weights ws t,
-              s.begun.fits,
-            ),
-          )
-
-      pub summing_next : {l' : List ℕ} → l' ≡ set l r (get_or l r 0 + weight ws i * t) → Summing p n ws t X old (i + 1) l'
-      summing_next q =
-          record {
-            begun = s.begun;
-            below = omega arith;
-            by_sets = subst (BySets (i + 1) (λ j. set_of p (X j)) (λ j. weight ws j * t)) (sym q) (by_sets-next i set_here set_known s.by_sets);
-          }
 
 when_swap : (c d : Bool) (m : ℕ) → when c (when d m) ≡ when d (when c m)
 when_swap true d m = refl
@@ -114,6 +99,3 @@ module _ (n : ℕ) (at f : ℕ → ℕ) (l : List ℕ) (small : (j : ℕ) → j 
   pub under-is : (k : ℕ) → under l k ≡ sum n (λ j. when (within (at j) k) (f j))
   unfolding under
   under-is k = passing (λ a. within a k)
-
-  pub all-is : sum set_count (λ a. get_or l a 0) ≡ sum n f
-  all-is = passing (λ _. true)

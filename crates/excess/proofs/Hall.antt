@@ -1,25 +1,23 @@
 -- Whether one distribution fits another, by all sets of places of the first.
 -- Assumes nothing.
-use mathlib.Core.Path.{◌≡◌, sym, ap, ap₂, ◌∙◌, subst}
+use mathlib.Core.Path.{◌≡◌, sym, ap, ap₂, ◌∙◌}
 use mathlib.Core.Bool.{Bool, true, false, not}
 use mathlib.Core.List.{List}
-use Prim.Native.Nat.{ℕ, ◌+◌, ◌*◌, ◌^◌, ◌≤◌, ◌<◌}
+use Prim.Native.Nat.{ℕ, ◌+◌, ◌*◌, ◌≤◌, ◌<◌}
 use native.Mathlib.Nat.{mul_comm}
 use native.Mathlib.Omega.{arith}
 use lib.Dec.{T}
-use lib.ListN.{length, get_or}
-use Rattle.simulation.specs.Limits.{most_total}
-use Rattle.simulation.specs.Sum.{sum, when}
+use lib.ListN.{length}
+use Rattle.simulation.specs.Sum.{when}
 use Rattle.simulation.specs.Fit.{Set, Fits, weight, weight_of, total, touched, gain, fits?}
 use Rattle.simulation.proofs.Finite.Tests.{same_test, by_contradiction, is_true, is_false}
 use Rattle.simulation.proofs.Finite.Sums.{sum_ext, sum_mul, when_mul}
 use Rattle.simulation.proofs.Fit.Gain.{weight_split, gain-is, gain_ext, fits-gain, gain-fits}
 use Rattle.simulation.proofs.Fit.Hall.{fits?→Fits, Fits→fits?}
-use Rattle.greedy.proofs.StartLaws.{supply-fits}
 use Rattle.word.specs.Mask.{member}
-use Rattle.excess.specs.Excess.{few, set_count, under, Carries, set_of, related_to, NoSums, BySets}
+use Rattle.excess.specs.Excess.{few, set_count, under, Carries, set_of, related_to, BySets}
 use Rattle.excess.proofs.Sets.{set-small, member-at, outside, within-is}
-use Rattle.excess.proofs.Gathering.{under-is, all-is, sum-weights}
+use Rattle.excess.proofs.Gathering.{under-is}
 
 -- what place j of the second takes in
 abbrev demand : List ℕ → List ℕ → ℕ → ℕ
@@ -54,55 +52,10 @@ module _ (R : ℕ → ℕ → Bool) (ws vs sums : List ℕ) (small : length ws �
         h k (set-small few (λ i. not (S i)) (omega arith)),
       )
 
-  verdict : {r : Bool} → Carries sums ws (total vs) r → r ≡ fits? R ws vs
+  pub verdict : {r : Bool} → Carries sums ws (total vs) r → r ≡ fits? R ws vs
   verdict {r} c =
       same_test r (fits? R ws vs) (λ t. gain-fits R ws vs (gains_least (c.yes (is_true r t))))
       (λ t. by_contradiction r (λ n. let w = c.no (is_false r n) in omega (arith, w.2, gain-outside w.0, fits-gain R ws vs t (outside w.0))))
-
--- a side with few targets, whose weights are ws, and the other, by the code's own lengths p and q and total t, before any weight is added
-pub record FewSide (ws vs : List ℕ) (p q t : ℕ) (old : List ℕ) : Type 0 where
-  pub rows : p ≡ length ws
-  pub total-rows : t ≡ total ws
-  pub begun : NoSums p q vs t old
-
-pub few_side : {ws vs old : List ℕ} {p q t : ℕ} → p ≡ length ws → q ≡ length vs → t ≡ total ws → length ws ≤ few → total ws ≤ most_total → total vs ≤ most_total
-    → (length old ≡ set_count) × ((i : ℕ) → get_or old i 0 ≡ 0) → FewSide ws vs p q t old
-few_side {vs = vs} {t = t} rows columns total-rows small h l z =
-    record {
-      rows = rows;
-      total-rows = total-rows;
-      begun = record { small = omega arith; paired = columns; fits = supply-fits (total vs) t l (omega arith); all = z.0; none = z.1 };
-    }
-
-module _ {ws vs old : List ℕ} {p q t : ℕ} (w : FewSide ws vs p q t old) (R : ℕ → ℕ → Bool) {sums : List ℕ} {u : ℕ} (total-columns : u ≡ total vs)
-    (s : BySets q (related_to p R) (λ j. weight vs j * t) sums) where
-  as_sides : BySets (length vs) (related_to (length ws) R) (demand ws vs) sums
-  as_sides =
-      subst (λ (k : ℕ). BySets (length vs) (related_to (length ws) R) (λ j. weight vs j * k) sums) w.total-rows
-      (subst (λ (k : ℕ). BySets k (related_to (length ws) R) (λ j. weight vs j * t) sums) w.begun.paired
-      (subst (λ (k : ℕ). BySets q (related_to k R) (λ j. weight vs j * t) sums) w.rows s))
-
-  few_rows : length ws ≤ few
-  few_rows = omega (arith, w.rows, w.begun.small)
-
-  pub decides : {r : Bool} → Carries sums ws u r → r ≡ fits? R ws vs
-  decides {r} c = verdict R ws vs sums few_rows as_sides (subst (λ (k : ℕ). Carries sums ws k r) total-columns c)
-
-  -- the sums and the shares have room
-  pub has_room : (length sums ≡ set_count) × (sum set_count (λ k. get_or sums k 0) < 2 ^ 32) × (length ws ≤ few) × (u * total ws < 2 ^ 32)
-  has_room =
-      let product : total vs * t ≡ u * total ws = ap₂ ◌*◌ (sym total-columns) w.total-rows in (
-        s.all,
-        omega (
-          arith,
-          all-is q (related_to p R) (λ j. weight vs j * t) sums (λ j _. set-small p (λ i. R i j) w.begun.small) s,
-          ap (λ (n : ℕ). sum n (λ j. weight vs j * t)) w.begun.paired,
-          sum-weights vs t,
-          w.begun.fits,
-        ),
-        few_rows,
-        omega (arith, product, w.begun.fits),
-      )
 
 -- what the one sends the other takes, and the other way round
 turned : (R : ℕ → ℕ → Type 0) (ws vs : List ℕ) → Fits R ws vs → Fits (λ j i. R i j) vs ws

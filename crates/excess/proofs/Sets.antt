@@ -57,6 +57,10 @@ set_is n X x e =
     mask_by_members (x + n) x (set_of n X) (below_power x x (x + n) (below-own x) (omega arith)) (below_power (set_of n X) n (x + n) (set_below n X) (omega arith))
     (e ∙ sym (member-set n X))
 
+-- a number whose members are few places
+pub few_members : (n : ℕ) (X : ℕ → Bool) (x : ℕ) → n ≤ few → member x ≡ part n X → x < set_count
+few_members n X x le e = omega (arith, set_is n X x e, set-small n X le)
+
 abbrev pub outside : ℕ → Set
 outside k i = not (member k i)
 

@@ -1,6 +1,7 @@
 -- Sets as numbers, computed: subsets, what a set and its subsets have, and the set of some places.
 -- Assumes nothing.
 use Rattle.std.specs.Prelude.{◌≡◌, refl, true, false, not, List, [], ◌∷◌, map, ℕ, eqb}
+use Rattle.simulation.specs.Sum.{sum}
 use Rattle.word.specs.Mask.{member}
 use Rattle.excess.specs.Excess.{within, under, parts, set_of}
 
@@ -18,6 +19,6 @@ unfolding under member
 under_example = refl
 
 -- the amounts of the places 0 and 3; of three places all but the second
-pub places_example : (parts 1 10 100 1000 9 ≡ 1001) × (set_of 3 (λ i. not (eqb i 1)) ≡ 5)
-unfolding set_of member
+pub places_example : (parts (1 ∷ 10 ∷ 100 ∷ 1000 ∷ []) 9 ≡ 1001) × (set_of 3 (λ i. not (eqb i 1)) ≡ 5)
+unfolding set_of member sum
 places_example = (refl, refl)

@@ -1,11 +1,9 @@
 -- Sets of at most four places as numbers, and sums by sets.
 -- Assumes nothing.
 use Rattle.std.specs.Prelude.{◌≡◌, Bool, true, false, not, ◌&&◌, List, ℕ, zero, suc, ◌+◌, ◌-◌, ◌*◌, ◌^◌, ◌≤◌, ◌<◌, eqb, length, get_or}
-use Rattle.simulation.specs.Limits.{most_states}
 use Rattle.simulation.specs.Sum.{sum, any, when}
 use Rattle.simulation.specs.Fit.{total, weight_of}
 use Rattle.word.specs.Mask.{member}
-use Rattle.relation.specs.Rows.{height}
 
 -- the most places, and how many sets they have
 abbrev pub few : ℕ
@@ -36,9 +34,9 @@ pub record Joined (i : ℕ) (old new : List ℕ) : Type 0 where
 pub record Summed (old new : List ℕ) : Type 0 where
   pub each : (k : ℕ) → k < set_count → get_or new k 0 ≡ under old k
 
--- what the members of a set have of four amounts, one for each place
-abbrev pub parts : (a b c d : ℕ) → ℕ → ℕ
-parts a b c d k = when (member k 0) a + when (member k 1) b + when (member k 2) c + when (member k 3) d
+-- what the members of a set have of some amounts, one for each place
+abbrev pub parts : (shares : List ℕ) → ℕ → ℕ
+parts shares k = sum few (λ i. when (member k i) (get_or shares i 0))
 
 -- r tells whether no set has more than what is given for it
 pub record AtMost (sums : List ℕ) (most : ℕ → ℕ) (r : Bool) : Type 0 where
@@ -59,17 +57,8 @@ set_of (suc n) X = set_of n (λ i. X (suc i)) * 2 + when (X 0) 1
 abbrev pub related_to : ℕ → (ℕ → ℕ → Bool) → ℕ → ℕ
 related_to n R j = set_of n (λ i. R i j)
 
--- the targets are states: of the first table, whose rows there are, or of the second
-abbrev pub HasRows : (rows ms : List ℕ) → Type 0
-HasRows rows ms = (i : ℕ) → i < length ms → get_or ms i 0 < height rows
-
-abbrev pub AreStates : List ℕ → Type 0
-AreStates ts = (j : ℕ) → j < length ts → get_or ts j 0 < most_states
-
--- room for the sums, by sets of p places, of the weights at n places, each times t; so far there are none
-pub record NoSums (p n : ℕ) (ws : List ℕ) (t : ℕ) (sums : List ℕ) : Type 0 where
-  pub small : p ≤ few
-  pub paired : n ≡ length ws
+-- room for the sums, by sets, of some weights, each times t; so far there are none
+pub record NoSums (ws : List ℕ) (t : ℕ) (sums : List ℕ) : Type 0 where
   pub fits : total ws * t < 2 ^ 32
   pub all : length sums ≡ set_count
   pub none : (i : ℕ) → get_or sums i 0 ≡ 0

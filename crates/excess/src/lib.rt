@@ -2,87 +2,48 @@
 // A set of places is a number, and place i is a member if bit i is one.
 #![tactic(auto)]
 
-ghost use Rattle.std.specs.Prelude.{◌≡◌, ℕ, ◌+◌, ◌-◌, ◌*◌, ◌^◌, ◌≤◌, ◌<◌, length, get_or, set};
+ghost use Rattle.std.specs.Prelude.{◌≡◌, Bool, ℕ, ◌+◌, ◌-◌, ◌*◌, ◌^◌, ◌≤◌, ◌<◌, length, get_or};
 ghost use Rattle.simulation.specs.Limits.{most_states};
 ghost use Rattle.simulation.specs.Sum.{sum, when};
 ghost use Rattle.simulation.specs.Fit.{fits?, total, weight};
 ghost use Rattle.word.specs.Mask.{member, part, word_bits};
+ghost use Rattle.relation.specs.Rows.{HasRows};
 ghost use Rattle.relation.specs.Related.{holds};
-ghost use Rattle.matrix.specs.Problem.{Sides, joins};
-ghost use Rattle.excess.specs.Excess.{few, set_count, joined, Joined, Summed, parts, AtMost, Carries, «set_of», «related_to», HasRows};
-ghost use Rattle.excess.specs.Excess.{AreStates, NoSums, BySets};
+ghost use Rattle.matrix.specs.Problem.{joins};
+ghost use Rattle.excess.specs.Excess.{few, set_count, joined, Joined, Summed, parts, AtMost, Carries, NoSums, BySets};
 
+use form::Distribution;
 use gather::row_word;
 use greedy::total_weight;
 use relation::rows;
 use word::Word;
 
-#[derive(Drop)]
-pub struct Few {}
+// The most targets of the side whose sets are looked at.
+pub const FEW: usize = 4;
 
-impl Few {
-    // The most targets of the side whose sets are looked at.
-    pub const TARGETS: usize = 4;
-
-    // How many sets they have.
-    pub const SETS: usize = 16;
-}
-
-fn no_sums() -> [u32; Few::SETS]
-    ensures { (length result ≡ set_count) × ((i : ℕ) → get_or result i 0 ≡ 0) }
-{
-    [0u32; Few::SETS]
-}
+// How many sets they have.
+const SETS: usize = 1 << FEW;
 
 // The places of the targets of m that are related to t.
 fn column(from: &[u16], rows: &[Word], t: usize) -> Word
     requires { HasRows rows.now from.now × (length from.now ≤ few) × (t < most_states) }
     ensures { member result ≡ part (length from.now) (λ i. holds rows.now (get_or from.now i 0) t) }
 {
-    let mut r: Word = 0;
-    let mut i = 0;
-    while i < from.len() {
-        r = word::with_bit(r, i, rows::bit(rows, from[i] as usize, t));
-        i += 1;
-    }
-    r
+    word::from_fn(from.len(), |i| rows::bit(rows, from[i] as usize, t) == 1)
 }
 
-// The weight w, times t, is added to what a set has.
-fn add_weight(sums: &mut [u32], at: usize, w: u16, t: u32)
-    requires { (at < length sums.old) × (get_or sums.old at 0 + w * t < 2 ^ 32) }
-    ensures { sums.new ≡ set sums.old at (get_or sums.old at 0 + w * t) }
+// What places weigh, times t, by the set of each.
+fn gather_sums<F: Fn(usize) -> Word>(weights: &[u16], t: u32, set_of: F, sums: &mut [u32])
+    requires callable { (j : ℕ) → j < length weights.now → F.pre set_of j }
+    requires small { (j a : ℕ) → j < length weights.now → F.post set_of j a → a < set_count }
+    requires none { NoSums weights.now t sums.old }
+    ensures by_sets { (at : ℕ → ℕ) → ((j a : ℕ) → j < length weights.now → F.post set_of j a → a ≡ at j)
+        → BySets (length weights.now) at (λ j. weight weights.now j * t) sums.new }
+    ensures all { (length sums.new ≡ set_count) × (sum set_count (λ a. get_or sums.new a 0) ≡ total weights.now * t) }
 {
-    sums[at] = sums[at] + w as u32 * t;
-}
-
-// What the targets of n weigh, times t, by the set of those of m that are related to them.
-fn column_sums(from: &[u16], to: &[u16], n: &[u16], t: u32, rows: &[Word], sums: &mut [u32])
-    requires { HasRows rows.now from.now × AreStates to.now × NoSums (length from.now) (length to.now) n.now t sums.old }
-    ensures { BySets (length to.now)
-        (related_to (length from.now) (joins rows.now from.now to.now))
-        (λ j. weight n.now j * t) sums.new }
-{
-    let mut j = 0;
-    while j < to.len() {
-        let at = column(from, rows, to[j] as usize) as usize;
-        add_weight(sums, at, n[j], t);
-        j += 1;
-    }
-}
-
-// What the targets of m weigh, times u, by the set of those of n that they are related to.
-fn row_sums(from: &[u16], m: &[u16], to: &[u16], u: u32, rows: &[Word], sums: &mut [u32])
-    requires { HasRows rows.now from.now × AreStates to.now × NoSums (length to.now) (length from.now) m.now u sums.old }
-    ensures { BySets (length from.now)
-        (λ i. set_of (length to.now) (joins rows.now from.now to.now i))
-        (λ i. weight m.now i * u) sums.new }
-{
-    let mut i = 0;
-    while i < from.len() {
-        let at = row_word(rows, from[i] as usize, to) as usize;
-        add_weight(sums, at, m[i], u);
-        i += 1;
+    for (j, w) in weights.iter().enumerate() {
+        let at = set_of(j) as usize;
+        sums[at] += *w as u32 * t;
     }
 }
 
@@ -102,8 +63,8 @@ fn join(sums: &mut [u32], i: usize)
     requires { (length sums.old ≡ set_count) × (i < few) × ((k : ℕ) → k < set_count → joined i sums.old k < 2 ^ 32) }
     ensures { Joined i sums.old sums.new }
 {
-    for k in 0..Few::SETS {
-        sums[k] = sums[k] + without(sums, k, i);
+    for k in 0..SETS {
+        sums[k] += without(sums, k, i);
     }
 }
 
@@ -112,21 +73,21 @@ fn add_subsets(sums: &mut [u32])
     requires { (length sums.old ≡ set_count) × (sum set_count (λ k. get_or sums.old k 0) < 2 ^ 32) }
     ensures { Summed sums.old sums.new }
 {
-    join(sums, 0);
-    join(sums, 1);
-    join(sums, 2);
-    join(sums, 3);
+    for i in 0..FEW {
+        join(sums, i);
+    }
 }
 
-// What place i weighs, times t; nothing past the end.
-fn share(w: &[u16], i: usize, t: u32) -> u32
-    requires { t * weight w.now i < 2 ^ 32 }
-    ensures { result ≡ t * weight w.now i }
+// What each place weighs, times t; nothing past the end.
+fn shares(weights: &[u16], t: u32) -> [u32; FEW]
+    requires { (length weights.now ≤ few) × (t * total weights.now < 2 ^ 32) }
+    ensures { (length result ≡ few) × ((i : ℕ) → get_or result i 0 ≡ t * weight weights.now i) }
 {
-    if i < w.len() {
-        return t * w[i] as u32;
+    let mut shares = [0; FEW];
+    for (i, w) in weights.iter().enumerate() {
+        shares[i] = t * *w as u32;
     }
-    0
+    shares
 }
 
 // d if place i is a member, else 0.
@@ -137,55 +98,58 @@ fn if_member(set: usize, i: usize, d: u32) -> u32
     d * word::bit(set as Word, i) as u32
 }
 
-// No set has more than what its members have of a, b, c and d, each the amount of a place.
-fn at_most(sums: &[u32], a: u32, b: u32, c: u32, d: u32) -> bool
-    requires { (length sums.now ≡ set_count) × (a + b + c + d < 2 ^ 32) }
-    ensures { AtMost sums.now (parts a b c d) result }
+// What the members of a set have of the amounts of all places.
+fn share_of(set: usize, shares: &[u32]) -> u32
+    requires { (length shares.now ≡ few) × (sum few (λ i. get_or shares.now i 0) < 2 ^ 32) }
+    ensures { result ≡ parts shares.now set }
 {
-    for k in 0..Few::SETS {
-        let most = if_member(k, 0, a)
-            + if_member(k, 1, b)
-            + if_member(k, 2, c)
-            + if_member(k, 3, d);
-        if most < sums[k] {
-            return false;
-        }
-    }
-    true
+    (0..FEW).map(|i| if_member(set, i, shares[i])).sum()
+}
+
+// No set has more than what its members have of the amounts of all places.
+fn at_most(sums: &[u32], shares: &[u32]) -> bool
+    requires { (length sums.now ≡ set_count) × (length shares.now ≡ few) × (sum few (λ i. get_or shares.now i 0) < 2 ^ 32) }
+    ensures { AtMost sums.now (parts shares.now) result }
+{
+    (0..SETS).all(|k| sums[k] <= share_of(k, shares))
 }
 
 // Whether no set of places is too light for what can go to its members alone.
-fn carries(sums: &mut [u32], w: &[u16], t: u32) -> bool
+fn carries(sums: &mut [u32], weights: &[u16], t: u32) -> bool
     requires { (length sums.old ≡ set_count) × (sum set_count (λ k. get_or sums.old k 0) < 2 ^ 32)
-        × (length w.now ≤ few) × (t * total w.now < 2 ^ 32) }
-    ensures { Carries sums.old w.now t result }
+        × (length weights.now ≤ few) × (t * total weights.now < 2 ^ 32) }
+    ensures { Carries sums.old weights.now t result }
 {
     add_subsets(sums);
-    at_most(
-        sums,
-        share(w, 0, t),
-        share(w, 1, t),
-        share(w, 2, t),
-        share(w, 3, t),
-    )
+    at_most(sums, &shares(weights, t))
+}
+
+// Whether a distribution that has few places fits the other, as far as the places of the one that are related to a place of the other.
+fn by_sets<F: Fn(usize) -> Word>(one: Distribution, other: Distribution, related: F) -> bool
+    requires callable { (j : ℕ) → j < length other.weights.now → F.pre related j }
+    requires small { (j a : ℕ) → j < length other.weights.now → F.post related j a → a < set_count }
+    requires short { length one.weights.now ≤ few }
+    ensures { (R : ℕ → ℕ → Bool)
+        → ((j a : ℕ) → j < length other.entry.weights.now → F.post related j a → member a ≡ part (length one.entry.weights.now) (λ i. R i j))
+        → result ≡ fits? R one.entry.weights.now other.entry.weights.now }
+{
+    let mut sums = [0; SETS];
+    gather_sums(other.weights, total_weight(one.weights), related, &mut sums);
+    carries(&mut sums, one.weights, total_weight(other.weights))
 }
 
 // Whether m, which has few targets, fits n.
-pub fn by_rows(from: &[u16], m: &[u16], to: &[u16], n: &[u16], rows: &[Word]) -> bool
-    requires { Sides from.now m.now to.now n.now rows.now × (length m.now ≤ few) }
-    ensures { result ≡ fits? (joins rows.now from.now to.now) m.now n.now }
+pub fn by_rows(m: Distribution, n: Distribution, rows: &[Word]) -> bool
+    requires { HasRows rows.now m.targets.now × (length m.weights.now ≤ few) }
+    ensures { result ≡ fits? (joins rows.now m.entry.targets.now n.entry.targets.now) m.entry.weights.now n.entry.weights.now }
 {
-    let mut sums = no_sums();
-    column_sums(from, to, n, total_weight(m), rows, &mut sums);
-    carries(&mut sums, m, total_weight(n))
+    by_sets(m, n, |j| column(m.targets, rows, n.targets[j] as usize))
 }
 
 // Whether m fits n, which has few targets.
-pub fn by_columns(from: &[u16], m: &[u16], to: &[u16], n: &[u16], rows: &[Word]) -> bool
-    requires { Sides from.now m.now to.now n.now rows.now × (length n.now ≤ few) }
-    ensures { result ≡ fits? (joins rows.now from.now to.now) m.now n.now }
+pub fn by_columns(m: Distribution, n: Distribution, rows: &[Word]) -> bool
+    requires { HasRows rows.now m.targets.now × (length n.weights.now ≤ few) }
+    ensures { result ≡ fits? (joins rows.now m.entry.targets.now n.entry.targets.now) m.entry.weights.now n.entry.weights.now }
 {
-    let mut sums = no_sums();
-    row_sums(from, m, to, total_weight(n), rows, &mut sums);
-    carries(&mut sums, n, total_weight(m))
+    by_sets(n, m, |i| row_word(rows, m.targets[i] as usize, n.targets))
 }

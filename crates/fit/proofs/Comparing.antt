@@ -1,5 +1,6 @@
 -- Two transitions compared in the relation of a round, out of ranks: what the cut of the rows says.
 -- Assumes nothing.
+use Rattle.form.specs.declared.tables.Tables.{Tables}
 use mathlib.Core.Path.{◌≡◌, sym, ◌∙◌, subst₂}
 use mathlib.Core.List.{List}
 use Prim.Native.Nat.{ℕ, ◌<◌, pred}
@@ -19,7 +20,7 @@ use Rattle.fit.specs.Ranked.{InRound, Cut}
 use Rattle.fit.proofs.Codes.{same_code}
 
 -- the cut of the rows that were asked for
-pub cut-found : {tables ranks : List ℕ} {r j k : ℕ} {amounts rel rel' ws vs : List ℕ} {mask : ℕ} → InRound tables ranks r j k amounts
+pub cut-found : {tables : Tables} {ranks : List ℕ} {r j k : ℕ} {amounts rel rel' ws vs : List ℕ} {mask : ℕ} → InRound tables ranks r j k amounts
     → Rows ranks (states_of (contract_table tables)) r (targets (first_step tables j)) (targets (second_step tables k)) rel rel'
     → ws ≡ weights (first_step tables j) → vs ≡ weights (second_step tables k) → CutOf ws vs rel' mask
     → Cut (round (first_table tables) (contract_table tables) (pred r)) (first_step tables j) (second_step tables k) rel' mask

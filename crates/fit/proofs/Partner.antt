@@ -1,5 +1,6 @@
 -- The search for the first transition of a state that a transition fits, of which there is one.
 -- Assumes nothing.
+use Rattle.form.specs.declared.tables.Tables.{Tables}
 use mathlib.Core.Path.{◌≡◌, refl, sym, ap, ◌∙◌, subst}
 use mathlib.Core.Bool.{Bool, true, false, cond}
 use mathlib.Core.List.{List, [], ◌∷◌}
@@ -7,9 +8,13 @@ use mathlib.Core.Logic.{⊎_elim}
 use Prim.Native.Nat.{ℕ, zero, suc, ◌+◌, ◌-◌, ◌≤◌, ◌<◌, zero-le, suc-le-suc}
 use native.Mathlib.Nat.{not-suc-le-zero, le_of_suc-le-suc}
 use native.Mathlib.Omega.{arith}
-use borrow.Author.Tests.{lt-ltb, le-ltb}
-use lib.Dec.{T, eqb, ltb}
+use borrow.Author.Tests.{eq-eqb, ne_eqb}
+use lib.Dec.{T, eqb}
 use lib.ListN.{length, get_or}
+use Rattle.std.specs.Prelude.{Option, Some, None, MatchOption, is_some}
+use Rattle.std.specs.List.{AllWithin, HoldsAt, range_with_len}
+use Rattle.std.proofs.lemmas.List.FromFn.{length-range_with_len, get_or-range_with_len}
+use Rattle.form.specs.Tables.{second_step}
 use Rattle.simulation.specs.Table.{Transition, states_of, steps, no_transition, transition}
 use Rattle.simulation.specs.Round.{Relation, fits_step}
 use Rattle.word.proofs.Mask.{below_or_not}
@@ -53,26 +58,59 @@ module _ (R : Relation) (m : Transition) where
   place_is (n ∷ ns) (suc k) b h x =
       placed n ns false (h 0 (suc-le-suc zero-le)) ∙ ap suc (place_is ns k (le_of_suc-le-suc b) (λ i c. h (suc i) (suc-le-suc c)) x)
 
+-- what an iterator finds over the numbers from l on and before the end
+module _ (tables : Tables) (c l end : ℕ) where
+  abbrev numbers : List ℕ
+  numbers = range_with_len l (end - l)
+
+  abbrev pub HasCode : ℕ → Type 0
+  HasCode k = (second_step tables k).code ≡ c
+
+  abbrev pub Other : ℕ → Type 0
+  Other k = ¬ HasCode k
+
+  passed_by : (n r : ℕ) → n ≤ end - l → r ≤ l + n → AllWithin Other numbers 0 n → (k : ℕ) → l ≤ k → k < r → eqb c (second_step tables k).code ≡ false
+  passed_by n r le to others k from below =
+      let here : get_or numbers (k - l) 0 ≡ k = get_or-range_with_len l (end - l) (k - l) 0 (omega arith) ∙ omega arith in
+      ne_eqb c (second_step tables k).code (λ e. (rw here at (others (k - l) 0 zero-le (omega arith))) (sym e))
+
+  pub first_coded : (r : Option ℕ)
+      → MatchOption r (AllWithin Other numbers 0 (length numbers)) (λ x. HasCode x × (i : ℕ) × (i < length numbers) × HoldsAt (λ y. y ≡ x) numbers i × AllWithin Other numbers 0 i)
+      → NextCoded tables c l end r
+  first_coded (Some x) h =
+      let (here, i, lt, at, before) = h in
+      let few : i < end - l = omega (arith, length-range_with_len l (end - l)) in
+      let place : x ≡ l + i = sym (at 0) ∙ get_or-range_with_len l (end - l) i 0 few in
+      record {
+        from = omega arith;
+        to = omega arith;
+        passed = passed_by i x (omega arith) (omega arith) before;
+        found = eq-eqb c (second_step tables x).code (sym here);
+      }
+  first_coded None others =
+      passed_by (length numbers) end (omega (arith, length-range_with_len l (end - l))) (omega (arith, length-range_with_len l (end - l))) others
+
 -- a search over the transitions of the state t
-module _ {tables : List ℕ} {t start end : ℕ} (loaded : BothLoaded tables) (state : t < states_of (second_table tables)) (begin : start ≡ start_of (second_form tables) t)
+module _ {tables : Tables} {t start end : ℕ} (loaded : BothLoaded tables) (state : t < states_of (second_table tables)) (begin : start ≡ start_of (second_form tables) t)
     (stop : end ≡ start_of (second_form tables) (t + 1)) where
-  -- what its first question asks
+  -- what it asks
   pub search_begins : BothLoaded tables × (start ≤ end) × (end ≤ transitions_of (second_form tables))
   search_begins =
       let g = second_form tables in
       (loaded, omega (arith, starts_ascend g loaded.second t (t + 1) (omega arith) (omega arith)), omega (arith, start-bound g loaded.second (t + 1) (omega arith)))
 
+  pub search_asked : BothLoaded tables × (end ≤ transitions_of (second_form tables))
+  search_asked = (loaded, search_begins.2)
+
   -- what it answers
-  pub search_answers : {c r : ℕ} → NextCoded tables c start end r → ltb r end ≡ coded c (steps (second_table tables) t)
-  search_answers {c} {r} next =
-      let g = second_form tables in
-      let code : Transition → Bool = λ n. eqb c n.code in
-      ⊎_elim (λ lt. lt-ltb r end lt ∙ one_passes g loaded.second t state code r (omega (arith, next.from)) (omega arith) refl (next.found lt))
-      (λ le. le-ltb r end le ∙ none_passes g loaded.second t state code (λ k a b. next.passed k (omega arith) (omega arith)))
-      (below_or_not r end)
+  pub search_answers : (c : ℕ) (r : Option ℕ) → NextCoded tables c start end r → is_some r ≡ coded c (steps (second_table tables) t)
+  search_answers c (Some r) next =
+      one_passes (second_form tables) loaded.second t state (λ n. eqb c n.code) r (omega (arith, next.from)) (omega (arith, next.to)) refl next.found
+  search_answers c None passed =
+      none_passes (second_form tables) loaded.second t state (λ n. eqb c n.code) (λ k a b. passed k (omega arith) (omega arith))
 
 -- a search that has come to l, and has found none
-module _ {tables rows amounts : List ℕ} {j t l : ℕ} (q : Sought tables rows amounts j t) (from : start_of (second_form tables) t ≤ l) (none : Unfitted tables rows j t l) where
+module _ {tables : Tables} {rows amounts : List ℕ} {j t l : ℕ} (q : Sought tables rows amounts j t) (from : start_of (second_form tables) t ≤ l) (none : Unfitted tables rows j t l) where
   abbrev start : ℕ
   start = start_of (second_form tables) t
 

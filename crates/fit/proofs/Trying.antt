@@ -1,5 +1,6 @@
 -- What is known of transitions tried before, and what is lent for work.
 -- Assumes nothing.
+use Rattle.form.specs.declared.tables.Tables.{Tables}
 use mathlib.Core.Path.{◌≡◌, refl, sym, ap, ◌∙◌, subst₂}
 use mathlib.Core.Bool.{Bool, true, false}
 use mathlib.Core.List.{List}
@@ -23,11 +24,10 @@ use Rattle.word.proofs.Mask.{below_or_not}
 use Rattle.decision.specs.Fitting.{relation_of, fitting, Asked}
 use Rattle.fit.specs.Held.{fits_step_at}
 use Rattle.fit.specs.Known.{Lent, Tried}
-use Rattle.fit.specs.Partner.{NextCoded}
 use Rattle.fit.proofs.Codes.{other-code, same_code}
 
 -- lengths are all that is asked of what is lent for work
-pub lent-all : {tables sets rows amounts rows' amounts' : List ℕ} → Lent tables sets rows amounts → length rows' ≡ length rows → length amounts' ≡ length amounts → Lent tables sets rows' amounts'
+pub lent-all : {tables : Tables} {sets rows amounts rows' amounts' : List ℕ} → Lent tables sets rows amounts → length rows' ≡ length rows → length amounts' ≡ length amounts → Lent tables sets rows' amounts'
 lent-all l a b =
     record {
       loaded = l.loaded;
@@ -36,15 +36,15 @@ lent-all l a b =
       amounts_room = omega (arith, l.amounts_room);
     }
 
-pub lent_again : {tables sets rows amounts amounts' : List ℕ} → Lent tables sets rows amounts → length amounts' ≡ length amounts → Lent tables sets rows amounts'
+pub lent_again : {tables : Tables} {sets rows amounts amounts' : List ℕ} → Lent tables sets rows amounts → length amounts' ≡ length amounts → Lent tables sets rows amounts'
 lent_again l a = lent-all l refl a
 
 -- what is lent, and two transitions
-pub lent_asked : {tables sets rows amounts : List ℕ} → Lent tables sets rows amounts → (j l : ℕ) → j < transitions_of (first_form tables) → l < transitions_of (second_form tables) → Asked tables rows amounts j l
+pub lent_asked : {tables : Tables} {sets rows amounts : List ℕ} → Lent tables sets rows amounts → (j l : ℕ) → j < transitions_of (first_form tables) → l < transitions_of (second_form tables) → Asked tables rows amounts j l
 lent_asked h j l a b = record { loaded = h.loaded; rows_room = h.rows_room; amounts_room = h.amounts_room; from_first = a; from_second = b }
 
 -- what was tried in a relation was tried in a smaller one
-pub tried-less : {tables rows rows' tried : List ℕ} → ((s t : ℕ) → related (relation_of tables rows') s t ≡ true → related (relation_of tables rows) s t ≡ true)
+pub tried-less : {tables : Tables} {rows rows' tried : List ℕ} → ((s t : ℕ) → related (relation_of tables rows') s t ≡ true → related (relation_of tables rows) s t ≡ true)
     → Tried tables rows tried → Tried tables rows' tried
 tried-less {tables} {rows} {rows'} less h =
     record {
@@ -55,10 +55,10 @@ tried-less {tables} {rows} {rows'} less h =
     }
 
 -- zeros count nothing
-pub none_tried : {tables rows tried : List ℕ} → (transitions_of (first_form tables) + 1) * most_states ≤ length tried → ((i : ℕ) → get_or tried i 0 ≡ 0) → Tried tables rows tried
+pub none_tried : {tables : Tables} {rows tried : List ℕ} → (transitions_of (first_form tables) + 1) * most_states ≤ length tried → ((i : ℕ) → get_or tried i 0 ≡ 0) → Tried tables rows tried
 none_tried room zero_at = record { room = room; passed = λ j t l a b c d. absurd (omega (arith, zero_at ((j + 1) * most_states + t))) }
 
-module _ {tables rows tried : List ℕ} (loaded : BothLoaded tables) (h : Tried tables rows tried) where
+module _ {tables : Tables} {rows tried : List ℕ} (loaded : BothLoaded tables) (h : Tried tables rows tried) where
   -- each pair of a transition and a state has its place
   pub place-room : (j t : ℕ) → j < transitions_of (first_form tables) → t < states_of (second_table tables) → (j + 1) * most_states + t < length tried
   place-room j t a b = omega (arith, h.room, (limits (first_form tables) loaded.first).transitions-few, (limits (second_form tables) loaded.second).states-few)
@@ -67,7 +67,7 @@ module _ {tables rows tried : List ℕ} (loaded : BothLoaded tables) (h : Tried 
   pub guess_room : (t : ℕ) → t < states_of (second_table tables) → t < length tried
   guess_room t b = omega (arith, h.room, (limits (second_form tables) loaded.second).states-few)
 
-pub tried_guess : {tables rows tried : List ℕ} → Tried tables rows tried → (t n : ℕ) → t < most_states → Tried tables rows (set tried t n)
+pub tried_guess : {tables : Tables} {rows tried : List ℕ} → Tried tables rows tried → (t n : ℕ) → t < most_states → Tried tables rows (set tried t n)
 tried_guess {tried = tried} h t n few =
     record {
       room = omega (arith, h.room, length-set tried t n);
@@ -79,10 +79,10 @@ pub start-few : (g : List ℕ) → Loaded g → (t : ℕ) → t ≤ states_of (t
 start-few g loaded t a = omega (arith, start-bound g loaded t a, (limits g loaded).transitions-few)
 
 -- of the transitions of the state t, those before l are not fitted by the transition j
-abbrev pub Unfitted : (tables rows : List ℕ) (j t l : ℕ) → Type 0
+abbrev pub Unfitted : (tables : Tables) (rows : List ℕ) (j t l : ℕ) → Type 0
 Unfitted tables rows j t l = (k : ℕ) → start_of (second_form tables) t ≤ k → k < l → k < start_of (second_form tables) (t + 1) → fits_step_at tables rows j k ≡ false
 
-module _ (tables rows : List ℕ) (j t : ℕ) where
+module _ (tables : Tables) (rows : List ℕ) (j t : ℕ) where
   abbrev starts : ℕ → ℕ
   starts = start_of (second_form tables)
 
@@ -99,18 +99,14 @@ module _ (tables rows : List ℕ) (j t : ℕ) where
 
   -- a transition with another code is passed, and one with the same code fits as its targets do
   module _ {c : ℕ} (code : c ≡ (first_step tables j).code) where
-    pub unfitted_coded : {l end r : ℕ} → NextCoded tables c l end r → Unfitted tables rows j t l → Unfitted tables rows j t r
-    unfitted_coded {l} next h k from to bound =
+    pub unfitted_coded : {l r : ℕ} → ((k : ℕ) → l ≤ k → k < r → eqb c (second_step tables k).code ≡ false) → Unfitted tables rows j t l → Unfitted tables rows j t r
+    unfitted_coded {l} passed h k from to bound =
         ⊎_elim (λ b. h k from b bound)
-        (λ b. sym (other-code (relation_of tables rows) (first_step tables j) (second_step tables k) (λ e. eqb-false c (second_step tables k).code (next.passed k b to) (code ∙ e))))
+        (λ b. sym (other-code (relation_of tables rows) (first_step tables j) (second_step tables k) (λ e. eqb-false c (second_step tables k).code (passed k b to) (code ∙ e))))
         (below_or_not k l)
 
     pub fits-coded : (l : ℕ) → eqb c (second_step tables l).code ≡ true → {b : Bool} → b ≡ fitting tables rows j l → b ≡ fits_step_at tables rows j l
     fits-coded l same = same_code (relation_of tables rows) (first_step tables j) (second_step tables l) (sym code ∙ eqb-true c (second_step tables l).code same)
-
-  -- nothing is left behind the end
-  pub unfitted_end : {l : ℕ} → starts (t + 1) ≤ l → Unfitted tables rows j t l → Unfitted tables rows j t (l + 1)
-  unfitted_end le h k from to bound = h k from (omega arith) bound
 
   -- where it ends, those passed are counted
   module _ (loaded : BothLoaded tables) (own : j < transitions_of (first_form tables)) (within : t < states_of (second_table tables)) (tried : List ℕ) (n : ℕ) (h : Tried tables rows tried)

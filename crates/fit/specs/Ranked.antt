@@ -1,5 +1,6 @@
 -- Two transitions compared in the relation of a round, out of ranks.
 -- Assumes nothing.
+use Rattle.form.specs.declared.tables.Tables.{Tables}
 use Rattle.std.specs.Prelude.{◌≡◌, false, List, ℕ, ◌≤◌, ◌<◌, eqb, length}
 use Rattle.simulation.specs.Limits.{most_pairs}
 use Rattle.simulation.specs.Fit.{fits?}
@@ -13,7 +14,7 @@ use Rattle.form.specs.Tables.{first_form, second_form}
 use Rattle.relate.specs.Ranked.{RanksRight}
 
 -- two transitions by their numbers, to be compared in the round before round r
-pub record InRound (tables ranks : List ℕ) (r j k : ℕ) (amounts : List ℕ) : Type 0 where
+pub record InRound (tables : Tables) (ranks : List ℕ) (r j k : ℕ) (amounts : List ℕ) : Type 0 where
   pub ranked : RanksRight tables ranks
   pub later : 0 < r
   pub from_first : j < transitions_of (first_form tables)

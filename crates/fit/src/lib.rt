@@ -17,33 +17,27 @@ ghost use Rattle.fit.specs.Held.{fits_step_at, coded};
 ghost use Rattle.fit.specs.Known.{TargetSets, Lent, Tried, SomeFits};
 ghost use Rattle.fit.specs.Partner.{NextCoded, Sought, FirstFit};
 
-use bounds::FromBounds;
 pub use bounds::{Bounds, bounds_of};
-use form::{Form, tables};
+use form::Tables;
 use relation::rows;
 use simulation::Table;
 use word::Word;
 
 // The set of the targets of each transition of the second table.
-pub fn target_sets(tables: &[u16], sets: &mut [Word])
+pub fn target_sets(tables: &Tables, sets: &mut [Word])
     requires { BothLoaded tables.now × (most_transitions ≤ height sets.old) }
     ensures { TargetSets (second_form tables.now) sets.new }
 {
-    let n = tables::start_of(tables, Form::SECOND, tables::states(tables, Form::SECOND));
-    let mut l = 0;
-    while l < n {
-        rows::put(
-            sets,
-            l,
-            bounds::set_of(tables::targets(tables, Form::SECOND, l)),
-        );
-        l += 1;
+    let n = tables.second.start_of(tables.second.states());
+    for l in 0..n {
+        let targets = tables.second.targets(l);
+        rows::put(sets, l, bounds::set_of(targets));
     }
 }
 
 // Whether it fits: what is known of the related states is asked first.
 fn fits_known(
-    tables: &[u16],
+    tables: &Tables,
     j: usize,
     l: usize,
     sets: &[Word],
@@ -57,25 +51,18 @@ fn fits_known(
     ensures { result ≡ fitting tables.now rows.now j l }
 {
     let to = rows::get(sets, l);
-    let told = bounds::by_bounds(known, to);
-    match told {
-        FromBounds::Fits => true,
-        FromBounds::Misfits => false,
-        FromBounds::Open => decision::decide(tables, j, l, to, rows, amounts),
+    match known.settle(to) {
+        Some(told) => told,
+        None => decision::decide(tables, j, l, to, rows, amounts),
     }
 }
 
-// The first transition of the second table that has the code, from l on and before the end; the end if there is none. Whoever looks for a
-// partner of a transition asks here.
-pub fn next_coded(tables: &[u16], code: u16, l: usize, end: usize) -> usize
-    requires { BothLoaded tables.now × (l ≤ end) × (end ≤ transitions_of (second_form tables.now)) }
+// The first transition of the second table that has the code, from l on and before the end. Whoever looks for a partner of a transition asks here.
+pub fn next_coded(tables: &Tables, code: u16, l: usize, end: usize) -> Option<usize>
+    requires { BothLoaded tables.now × (end ≤ transitions_of (second_form tables.now)) }
     ensures { NextCoded tables.now code l end result }
 {
-    let mut next = l;
-    while next < end && code != tables::code(tables, Form::SECOND, next) {
-        next += 1;
-    }
-    next
+    (l..end).find(|k| tables.second.code(*k) == code)
 }
 
 // Where more partners than this are left, a guess comes first.
@@ -84,7 +71,7 @@ pub const PARTNERS: usize = 16;
 // Transition j of the first table fits transition l of the second, which is below the end, and they have the same code. What bounds tell
 // is not asked: guesses are few, and a second caller of `fits_known` would keep the compiler from putting it into the loop.
 fn fits_guess(
-    tables: &[u16],
+    tables: &Tables,
     j: usize,
     l: usize,
     end: usize,
@@ -96,19 +83,15 @@ fn fits_guess(
         × (end ≤ transitions_of (second_form tables.now)) }
     ensures { result ≡ true → (l < end) × (fits_step_at tables.now rows.now j l ≡ true) }
 {
-    if end <= l {
-        return false;
-    }
-    if tables::code(tables, Form::SECOND, l) != tables::code(tables, Form::FIRST, j) {
-        return false;
-    }
-    decision::decide(tables, j, l, rows::get(sets, l), rows, amounts)
+    l < end
+        && tables.second.code(l) == tables.first.code(j)
+        && decision::decide(tables, j, l, rows::get(sets, l), rows, amounts)
 }
 
 // Transition j of the first table fits some listed transition of the state t with the same code. Those known not to be fitted are passed over. The
 // partner found last for t is the guess: like-coded transitions of one state often have the same.
 pub fn fits_some(
-    tables: &[u16],
+    tables: &Tables,
     j: usize,
     t: usize,
     sets: &[Word],
@@ -123,9 +106,9 @@ pub fn fits_some(
     ensures { SomeFits tables.now rows.now j t tried.new result }
 {
     let place = (j + 1) * Table::STATES + t;
-    let start = tables::start_of(tables, Form::SECOND, t);
-    let end = tables::start_of(tables, Form::SECOND, t + 1);
-    let code = tables::code(tables, Form::FIRST, j);
+    let start = tables.second.start_of(t);
+    let end = tables.second.start_of(t + 1);
+    let code = tables.first.code(j);
     let mut l = start + tried[place] as usize;
     if l + PARTNERS < end {
         let guess = start + tried[t] as usize;
@@ -133,50 +116,51 @@ pub fn fits_some(
             return true;
         }
     }
-    while l < end {
-        l = next_coded(tables, code, l, end);
-        if l < end && fits_known(tables, j, l, sets, rows, amounts, known) {
-            tried[place] = (l - start) as u8;
-            tried[t] = (l - start) as u8;
+    while let Some(next) = next_coded(tables, code, l, end) {
+        if fits_known(tables, j, next, sets, rows, amounts, known) {
+            let at = (next - start) as u8;
+            tried[place] = at;
+            tried[t] = at;
             return true;
         }
-        l += 1;
+        l = next + 1;
     }
     false
 }
 
 // Some transition of the state t has the code: where all states are related it is fitted.
-pub fn has_code(tables: &[u16], t: usize, code: u16) -> bool
+pub fn has_code(tables: &Tables, t: usize, code: u16) -> bool
     requires { BothLoaded tables.now × (t < states_of (second_table tables.now)) }
     ensures { result ≡ coded code (steps (second_table tables.now) t) }
 {
-    let start = tables::start_of(tables, Form::SECOND, t);
-    let end = tables::start_of(tables, Form::SECOND, t + 1);
-    next_coded(tables, code, start, end) < end
+    let start = tables.second.start_of(t);
+    let end = tables.second.start_of(t + 1);
+    next_coded(tables, code, start, end).is_some()
 }
 
 // Whether the second table lists the code. A transition of t that has it tells so at once.
-pub fn lists_code(tables: &[u16], t: usize, code: u16) -> bool
+pub fn lists_code(tables: &Tables, t: usize, code: u16) -> bool
     requires { BothLoaded tables.now × (t < states_of (second_table tables.now)) }
     ensures { result ≡ lists (second_table tables.now).codes code }
 {
-    if has_code(tables, t, code) {
-        return true;
-    }
-    tables::lists(tables, Form::SECOND, code)
+    has_code(tables, t, code) || tables.second.lists(code)
 }
 
 // The place in t of the first transition that the transition j of the first table fits, of which there is one; the amounts share it out.
-pub fn first_fit(tables: &[u16], j: usize, t: usize, rows: &[Word], amounts: &mut [u32]) -> usize
+pub fn first_fit(tables: &Tables, j: usize, t: usize, rows: &[Word], amounts: &mut [u32]) -> usize
     requires { Sought tables.now rows.now amounts.old j t }
     ensures { FirstFit tables.now rows.now j t result amounts.new }
 {
-    let start = tables::start_of(tables, Form::SECOND, t);
-    let end = tables::start_of(tables, Form::SECOND, t + 1);
-    let code = tables::code(tables, Form::FIRST, j);
-    let mut l = next_coded(tables, code, start, end);
-    while !decision::by_flow(tables, j, l, rows, amounts) {
-        l = next_coded(tables, code, l + 1, end);
+    let start = tables.second.start_of(t);
+    let end = tables.second.start_of(t + 1);
+    let code = tables.first.code(j);
+    let mut l = start;
+    while let Some(next) = next_coded(tables, code, l, end) {
+        let fits = decision::by_flow(tables, j, next, rows, amounts);
+        if fits {
+            return next - start;
+        }
+        l = next + 1;
     }
-    l - start
+    unreachable!()
 }

@@ -6,13 +6,13 @@ ghost use Rattle.relation.specs.Rows.{height};
 ghost use Rattle.form.specs.Tables.{first_table, contract_table, first_step, second_step};
 ghost use Rattle.fit.specs.Ranked.{InRound, Cut};
 
-use form::{Form, tables};
+use form::Tables;
 use set::Set;
 use word::Word;
 
 // The cut of the transitions j and k in the round before round r, with the rows of that round between their targets.
 pub fn round_cut(
-    tables: &[u16],
+    tables: &Tables,
     ranks: &[u16],
     r: u16,
     j: usize,
@@ -25,14 +25,14 @@ pub fn round_cut(
         (first_step tables.now j) (second_step tables.now k) rel.new (mask result) }
 {
     relate::rows(tables, ranks, r, j, k, rel);
-    let m = tables::weights(tables, Form::FIRST, j);
-    let n = tables::weights(tables, Form::SECOND, k);
+    let m = tables.first.weights(j);
+    let n = tables.second.weights(k);
     cut::smallest_cut(m, n, rel, amounts)
 }
 
 // Whether j fits l, and they have the same code, in the round before round r, in room for the rows between their targets.
 pub fn fits(
-    tables: &[u16],
+    tables: &Tables,
     ranks: &[u16],
     r: u16,
     j: usize,
@@ -44,8 +44,6 @@ pub fn fits(
     ensures { result ≡ fits_step (round (first_table tables.now) (contract_table tables.now) (pred r))
         (first_step tables.now j) (second_step tables.now l) }
 {
-    if tables::code(tables, Form::FIRST, j) != tables::code(tables, Form::SECOND, l) {
-        return false;
-    }
-    set::is_empty(round_cut(tables, ranks, r, j, l, rel, amounts))
+    tables.first.code(j) == tables.second.code(l)
+        && round_cut(tables, ranks, r, j, l, rel, amounts).is_empty()
 }

@@ -1,5 +1,6 @@
 -- How the contract answers a transition of the first table: by one that the second table lists, or by an added one, to which each target sends its weight.
 -- Assumes nothing.
+use Rattle.form.specs.declared.tables.Tables.{Tables}
 use mathlib.Core.Path.{◌≡◌, sym, ◌∙◌, ap, subst}
 use mathlib.Core.Bool.{true}
 use mathlib.Core.List.{List, [], ◌∷◌}
@@ -75,7 +76,7 @@ pub records_one : {f mt x : List ℕ} {j u : ℕ} → Loaded f → j < transitio
 records_one {x = x} {u = u} l own e small cells =
     subst (λ (mt : List ℕ). Records mt (u ∷ []) x) (sym e) (records_from l own (omega arith) (below_one (λ (k : ℕ). get_or (u ∷ []) k 0 < 256) small) cells)
 
-module _ {tables rows x : List ℕ} {j t : ℕ} (q : Answered tables rows x j t) where
+module _ {tables : Tables} {rows x : List ℕ} {j t : ℕ} (q : Answered tables rows x j t) where
   abbrev m : Transition
   m = first_step tables j
 

@@ -1,5 +1,6 @@
 -- The room asked for a flow: how it is summed up, that it is within the limit, and that the flow is within it.
 -- Assumes nothing.
+use Rattle.form.specs.declared.tables.Tables.{Tables}
 use mathlib.Core.Path.{◌≡◌, refl, ap}
 use mathlib.Core.List.{List}
 use Prim.Native.Nat.{ℕ, zero, suc, ◌+◌, ◌*◌, ◌≤◌, ◌<◌}
@@ -55,7 +56,7 @@ pub room_most : (M N : Table) (s : ℕ) → length (steps M s) ≤ most_of_state
     → flow_room M N s ≤ most_flow
 room_most M N s a b c = room_bound (states_of N) (λ k. length (transition M s k).entries) (length (steps M s)) a (omega (arith, entries-most M s)) c
 
-pub flow-within : {tables rows x : List ℕ} {s t : ℕ} → KeptPair tables rows x s t → (xs : ℕ → Amounts)
+pub flow-within : {tables : Tables} {rows x : List ℕ} {s t : ℕ} → KeptPair tables rows x s t → (xs : ℕ → Amounts)
     → length (flow_bytes (first_table tables) (contract_table tables) (listed_steps tables t) s t xs) ≤ flow_room (first_table tables) (second_table tables) s
 unfolding flow_bytes room_for
 flow-within {tables} {rows} {x} {s} {t} q xs =

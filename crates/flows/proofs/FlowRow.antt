@@ -1,12 +1,14 @@
 -- A row's records, gathered before they are written.
 -- Assumes nothing.
 use mathlib.Core.Path.{◌≡◌, refl, sym, ◌∙◌, ap, ap₂}
-use mathlib.Core.Bool.{Bool, true, false, cond, not}
+use mathlib.Core.Bool.{Bool, true, false, cond}
+use mathlib.Core.Logic.{◌≢◌}
 use mathlib.Core.List.{List, [], ◌∷◌, ◌++◌, append-nil, append_assoc}
 use Prim.Native.Nat.{ℕ, zero, suc, ◌+◌, ◌*◌, ◌≤◌, ◌<◌}
 use native.Mathlib.Numerals.{add-one}
 use native.Mathlib.Omega.{arith}
-use lib.Dec.{T, eqb}
+use borrow.Author.Tests.{eq-eqb, ne_eqb}
+use lib.Dec.{eqb}
 use lib.ListN.{length, take, set, length-set, length-append}
 use lib.Seq.{take-suc-set, length-take-le}
 use Rattle.simulation.specs.Sum.{below, concat}
@@ -19,21 +21,13 @@ use Rattle.flows.proofs.FlowBytes.{record_at, row_is}
 use Rattle.flows.proofs.RecordBytes.{bytes-length}
 
 -- ---- a record is kept if its amount is not zero
-kept-one : (r : Record) → T (not (eqb r.amount 0)) → kept_record r ≡ r ∷ []
+kept-one : (r : Record) → r.amount ≢ 0 → kept_record r ≡ r ∷ []
 unfolding kept_record
-kept-one r h = at (eqb r.amount 0) h
-  where
-    at : (b : Bool) → T (not b) → cond b [] (r ∷ []) ≡ r ∷ []
-    at false h = refl
-    at true h = absurd h
+kept-one r d = ap (λ (b : Bool). cond b [] (r ∷ [])) (ne_eqb r.amount 0 d)
 
-kept-none : (r : Record) → T (not (not (eqb r.amount 0))) → kept_record r ≡ []
+kept-none : (r : Record) → r.amount ≡ 0 → kept_record r ≡ []
 unfolding kept_record
-kept-none r h = at (eqb r.amount 0) h
-  where
-    at : (b : Bool) → T (not (not b)) → cond b [] (r ∷ []) ≡ []
-    at true h = refl
-    at false h = absurd h
+kept-none r e = ap (λ (b : Bool). cond b [] (r ∷ [])) (eq-eqb r.amount 0 e)
 
 kept-few : (r : Record) → length (kept_record r) ≤ 1
 unfolding kept_record
@@ -95,25 +89,28 @@ module _ (s : ℕ) (nt : List ℕ) (a : ℕ → ℕ) where
   gathering_start rs le = record { reached = omega arith; few = omega arith; room = le; first = refl }
 
   module _ {rs : List Record} {n j : ℕ} (g : Gathering rs n j) where
-    pub gathering_take : j < length nt → T (not (eqb (a j) 0)) → Gathering (set rs n (cell_record s nt a j)) (n + 1) (j + 1)
-    gathering_take lt h =
-        let r : Record = cell_record s nt a j in
-        record {
-          reached = omega arith;
-          few = omega (arith, g.few);
-          room = omega (arith, length-set rs n r, g.room);
-          first =
-              ap (λ (k : ℕ). take k (set rs n r)) (add-one n) ∙ take-suc-set rs n r (omega (arith, g.few, g.room))
-              ∙ ap₂ (λ (l m : List Record). l ++ m) g.first (sym (kept-one r h)) ∙ sym (pieces-next kept_at j);
-        }
+    module _ {r : Record} (lt : j < length nt) (e : r ≡ cell_record s nt a j) where
+      pub gathering_take : r.amount ≢ 0 → Gathering (set rs n r) (n + 1) (j + 1)
+      gathering_take d =
+          record {
+            reached = omega arith;
+            few = omega (arith, g.few);
+            room = omega (arith, length-set rs n r, g.room);
+            first =
+                ap (λ (k : ℕ). take k (set rs n r)) (add-one n) ∙ take-suc-set rs n r (omega (arith, g.few, g.room))
+                ∙ ap₂ (λ (l m : List Record). l ++ m) g.first (sym (kept-one r d) ∙ ap kept_record e) ∙ sym (pieces-next kept_at j);
+          }
 
-    pub gathering_skip : j < length nt → T (not (not (eqb (a j) 0))) → Gathering rs n (j + 1)
-    gathering_skip lt h = record {
-      reached = omega arith;
-      few = omega (arith, g.few);
-      room = g.room;
-      first = g.first ∙ sym (append-nil (pieces j kept_at)) ∙ ap (λ l. pieces j kept_at ++ l) (sym (kept-none (cell_record s nt a j) h)) ∙ sym (pieces-next kept_at j);
-    }
+      pub gathering_skip : r.amount ≡ 0 → Gathering rs n (j + 1)
+      gathering_skip z =
+          record {
+            reached = omega arith;
+            few = omega (arith, g.few);
+            room = g.room;
+            first =
+                g.first ∙ sym (append-nil (pieces j kept_at))
+                ∙ ap (λ l. pieces j kept_at ++ l) (sym (kept-none r z) ∙ ap kept_record e) ∙ sym (pieces-next kept_at j);
+          }
 
     pub gathering_end : length nt ≤ j → RecordsGathered (row_records s nt a) n rs
     unfolding row_records
@@ -123,9 +120,9 @@ module _ (s : ℕ) (nt : List ℕ) (a : ℕ → ℕ) where
         record { count = omega (arith, ap length all, length-take-le n rs (omega (arith, g.few, g.reached, g.room))); first = all }
 
   -- once they are written
-  pub gathered_filled : {rs : List Record} {n r : ℕ} {old new : List ℕ} → RecordsGathered (row_records s nt a) n rs → (r ≡ n) × (new ≡ over (all_bytes (take n rs)) old)
-      → Filled (flow_row s nt a) (r * 6) old new
+  pub gathered_filled : {rs : List Record} {n : ℕ} {old new : List ℕ} → RecordsGathered (row_records s nt a) n rs → new ≡ over (all_bytes (take n rs)) old
+      → Filled (flow_row s nt a) (n * 6) old new
   gathered_filled {old = old} g w = record {
-    count = omega (arith, g.count, w.0, bytes-length (row_records s nt a), ap length row-bytes);
-    bytes = w.1 ∙ ap (λ l. over (all_bytes l) old) g.first ∙ ap (λ l. over l old) row-bytes;
+    count = omega (arith, g.count, bytes-length (row_records s nt a), ap length row-bytes);
+    bytes = w ∙ ap (λ l. over (all_bytes l) old) g.first ∙ ap (λ l. over l old) row-bytes;
   }

@@ -1,5 +1,6 @@
 -- The flow of one transition: what its writer is asked, and what it leaves.
 -- Assumes nothing.
+use Rattle.form.specs.declared.tables.Tables.{Tables}
 use mathlib.Core.Path.{◌≡◌, sym, ◌∙◌, ap, subst, subst₂}
 use mathlib.Core.List.{List}
 use Prim.Native.Nat.{ℕ, ◌+◌, ◌*◌, ◌≤◌, ◌<◌}
@@ -33,7 +34,7 @@ few_of : {q : ℕ} (m : Transition) → Distribution q m → length (targets m) 
 few_of {q} m d = omega (arith, few-targets q m d, targets-length m)
 
 -- in the contract too: an added transition has one target
-module _ {tables : List ℕ} (l : BothLoaded tables) (t k : ℕ) where
+module _ {tables : Tables} (l : BothLoaded tables) (t k : ℕ) where
   pub few-contract : k < length (steps (contract_table tables) t) → length (targets (transition (contract_table tables) t k)) ≤ states_of (second_table tables)
   few-contract =
       by_place (first_table tables).codes (second_table tables) (λ t m. length (targets m) ≤ states_of (second_table tables))
@@ -70,7 +71,7 @@ shown-at {M} {N} {listed} {t} {k} {p} {w} {m} {n} {x} {old} {new} is at named ri
           (subst₂ (λ (p : ℕ) (n : Transition). Filled (one_flow p m n (cell x)) w old new) (sym named) (sym at) put);
     }
 
-module _ {tables rows x x' : List ℕ} {j t r : ℕ} (q : Sought tables rows x j t) (found : FirstFit tables rows j t r x') where
+module _ {tables : Tables} {rows x x' : List ℕ} {j t r : ℕ} (q : Sought tables rows x j t) (found : FirstFit tables rows j t r x') where
   abbrev f : List ℕ
   f = first_form tables
 

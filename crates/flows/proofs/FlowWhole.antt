@@ -1,5 +1,6 @@
 -- The flows of a pair, transition by transition.
 -- Assumes nothing.
+use Rattle.form.specs.declared.tables.Tables.{Tables}
 use mathlib.Core.Path.{◌≡◌, refl, sym, ◌∙◌, ap, subst, subst₂}
 use mathlib.Core.Bool.{cond}
 use mathlib.Core.List.{List, [], ◌∷◌}
@@ -58,11 +59,11 @@ unfolding with_amounts
 with_other xs k x l d = ap (λ b. cond b x (xs l)) (ne_eqb l k d)
 
 -- a kept pair of two tables, and where the transitions of s start
-pub record Pair (tables rows x : List ℕ) (s t start : ℕ) : Type 0 where
+pub record Pair (tables : Tables) (rows x : List ℕ) (s t start : ℕ) : Type 0 where
   pub chosen : KeptPair tables rows x s t
   pub from : start ≡ start_of (first_form tables) s
 
-module _ {tables rows x : List ℕ} {s t start : ℕ} (p : Pair tables rows x s t start) where
+module _ {tables : Tables} {rows x : List ℕ} {s t start : ℕ} (p : Pair tables rows x s t start) where
   abbrev q : KeptPair tables rows x s t
   q = p.chosen
 

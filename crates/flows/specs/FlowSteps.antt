@@ -1,5 +1,6 @@
 -- What the functions of a flow ask and leave.
 -- Assumes nothing.
+use Rattle.form.specs.declared.tables.Tables.{Tables}
 use Rattle.std.specs.Prelude.{◌≡◌, true, List, ℕ, ◌≤◌, ◌<◌, length, get_or}
 use Rattle.simulation.specs.Limits.{most_pairs, most_states}
 use Rattle.simulation.specs.Fit.{Amounts}
@@ -31,11 +32,11 @@ pub record Records (mt nt x : List ℕ) : Type 0 where
   pub cells : most_pairs ≤ length x
 
 -- the rows hold the kept pairs
-abbrev pub KeptIn : (tables rows : List ℕ) → Type 0
+abbrev pub KeptIn : (tables : Tables) (rows : List ℕ) → Type 0
 KeptIn tables rows = relation_of tables rows ≡ kept_relation (first_table tables) (contract_table tables)
 
 -- two tables with their kept pairs, a pair of them, and room for amounts
-pub record KeptPair (tables rows amounts : List ℕ) (s t : ℕ) : Type 0 where
+pub record KeptPair (tables : Tables) (rows amounts : List ℕ) (s t : ℕ) : Type 0 where
   pub loaded : BothLoaded tables
   pub rows_room : most_states ≤ height rows
   pub rows_kept : KeptIn tables rows
@@ -45,7 +46,7 @@ pub record KeptPair (tables rows amounts : List ℕ) (s t : ℕ) : Type 0 where
   pub kept : Kept (first_table tables) (contract_table tables) s t
 
 -- a transition of the first table, which a state of the contract answers
-pub record Answered (tables rows amounts : List ℕ) (j t : ℕ) : Type 0 where
+pub record Answered (tables : Tables) (rows amounts : List ℕ) (j t : ℕ) : Type 0 where
   pub loaded : BothLoaded tables
   pub rows_room : most_states ≤ height rows
   pub amounts_room : most_pairs ≤ length amounts

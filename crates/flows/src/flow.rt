@@ -13,7 +13,7 @@ ghost use Rattle.flows.specs.FlowSteps.{Row, Records, KeptIn, Answered, Shown, K
 
 use crate::records;
 use crate::records::Record;
-use form::{Form, tables};
+use form::Tables;
 use simulation::Table;
 use word::Word;
 
@@ -28,7 +28,8 @@ fn put_row(s: u8, nt: &[u16], amounts: &[u32], i: usize, buf: &mut [u8]) -> usiz
         amount: 0,
     }; Table::STATES];
     let n = records::gather(s, nt, amounts, i, &mut rs);
-    records::write_all(&rs, n, buf) * 6
+    records::write_all(&rs[..n], buf);
+    n * 6
 }
 
 // The records of all targets.
@@ -37,8 +38,8 @@ fn put_records(mt: &[u16], nt: &[u16], amounts: &[u32], buf: &mut [u8]) -> usize
     ensures { Filled (flow_records mt.now nt.now (cell amounts.now)) result buf.old buf.new }
 {
     let mut at = 0;
-    for i in 0..mt.len() {
-        at += put_row(mt[i] as u8, nt, amounts, i, &mut buf[at..]);
+    for (i, &target) in mt.iter().enumerate() {
+        at += put_row(target as u8, nt, amounts, i, &mut buf[at..]);
     }
     at
 }
@@ -49,8 +50,7 @@ fn put_head(place: usize, count: usize, buf: &mut [u8])
     ensures { buf.new ≡ over (head_of place count) buf.old }
 {
     buf[0] = place as u8;
-    buf[1] = (count % 256) as u8;
-    buf[2] = (count / 256) as u8;
+    buf[1..3].copy_from_slice(&(count as u16).to_le_bytes());
 }
 
 // The flow of one transition. Its records come first: they tell the count.
@@ -65,7 +65,7 @@ fn put_one(place: usize, mt: &[u16], nt: &[u16], amounts: &[u32], buf: &mut [u8]
 
 // The flow of the transition j of the first table over the listed transition of t that it is shared out over.
 fn put_listed(
-    tables: &[u16],
+    tables: &Tables,
     rows: &[Word],
     j: usize,
     t: usize,
@@ -78,11 +78,11 @@ fn put_listed(
         (first_step tables.now j) t result amounts.new buf.old buf.new }
 {
     let place = fit::first_fit(tables, j, t, rows, amounts);
-    let l = tables::start_of(tables, Form::SECOND, t) + place;
+    let l = tables.second.start_of(t) + place;
     put_one(
         place,
-        tables::targets(tables, Form::FIRST, j),
-        tables::targets(tables, Form::SECOND, l),
+        tables.first.targets(j),
+        tables.second.targets(l),
         amounts,
         buf,
     )
@@ -96,15 +96,13 @@ fn send_all(weights: &[u16], amounts: &mut [u32])
     requires { (length weights.now ≤ most_states) × (most_pairs ≤ length amounts.old) }
     ensures { (i : ℕ) → i < length weights.now → cell amounts.new i 0 ≡ get_or weights.now i 0 }
 {
-    let mut i = 0;
-    while i < weights.len() {
-        amounts[i * Table::STATES] = weights[i] as u32;
-        i += 1;
+    for (i, &weight) in weights.iter().enumerate() {
+        amounts[i * Table::STATES] = weight as u32;
     }
 }
 
 // The flow of the transition j of the first table, whose code the second does not list, over the transition of t to itself.
-fn put_added(tables: &[u16], j: usize, t: usize, amounts: &mut [u32], buf: &mut [u8]) -> usize
+fn put_added(tables: &Tables, j: usize, t: usize, amounts: &mut [u32], buf: &mut [u8]) -> usize
     requires { BothLoaded tables.now × (most_pairs ≤ length amounts.old) × (j < transitions_of (first_form tables.now))
         × (t < states_of (second_table tables.now)) × (step_room 1 (length (first_step tables.now j).entries) ≤ length buf.old) }
     ensures { ((i : ℕ) → i < length (first_step tables.now j).entries
@@ -112,21 +110,13 @@ fn put_added(tables: &[u16], j: usize, t: usize, amounts: &mut [u32], buf: &mut 
         × Filled (one_flow added_place (first_step tables.now j) (self_loop t (first_step tables.now j).code)
         (cell amounts.new)) result buf.old buf.new }
 {
-    send_all(tables::weights(tables, Form::FIRST, j), amounts);
-    let state = t as u16;
-    let to = [state; 1];
-    put_one(
-        ADDED,
-        tables::targets(tables, Form::FIRST, j),
-        &to,
-        amounts,
-        buf,
-    )
+    send_all(tables.first.weights(j), amounts);
+    put_one(ADDED, tables.first.targets(j), &[t as u16], amounts, buf)
 }
 
 // The flow of the transition j of the first table over the transition of the contract's state t that it is shared out over.
 fn put_step(
-    tables: &[u16],
+    tables: &Tables,
     rows: &[Word],
     j: usize,
     t: usize,
@@ -138,8 +128,8 @@ fn put_step(
     ensures { Shown (first_table tables.now) (contract_table tables.now) (listed_steps tables.now t)
         (first_step tables.now j) t result amounts.new buf.old buf.new }
 {
-    let code = tables::code(tables, Form::FIRST, j);
-    if tables::lists(tables, Form::SECOND, code) {
+    let code = tables.first.code(j);
+    if tables.second.lists(code) {
         return put_listed(tables, rows, j, t, amounts, buf);
     }
     put_added(tables, j, t, amounts, buf)
@@ -147,7 +137,7 @@ fn put_step(
 
 // The flows of the kept pair (s, t), from the start of the buffer on. Returns how many bytes they have.
 pub fn put_flows(
-    tables: &[u16],
+    tables: &Tables,
     rows: &[Word],
     s: usize,
     t: usize,
@@ -159,8 +149,8 @@ pub fn put_flows(
     ensures { Flowed (first_table tables.now) (contract_table tables.now) (listed_steps tables.now t) s t result
         buf.old buf.new }
 {
-    let start = tables::start_of(tables, Form::FIRST, s);
-    let count = tables::start_of(tables, Form::FIRST, s + 1) - start;
+    let start = tables.first.start_of(s);
+    let count = tables.first.start_of(s + 1) - start;
     buf[0] = count as u8;
     let mut at = 1;
     for k in 0..count {

@@ -27,13 +27,6 @@ fn record_at(s: u8, nt: &[u16], amounts: &[u32], i: usize, j: usize) -> Record
     }
 }
 
-// A record is for an amount that is not zero.
-fn kept(r: Record) -> bool
-    ensures { result ≡ not (eqb r.amount 0) }
-{
-    r.amount != 0
-}
-
 // The records of the amounts of row i that are not zero, in order, at the start of rs. Returns how many.
 pub fn gather(s: u8, nt: &[u16], amounts: &[u32], i: usize, rs: &mut [Record]) -> usize
     requires { Row nt.now amounts.now i × (length nt.now ≤ length rs.old) }
@@ -42,7 +35,8 @@ pub fn gather(s: u8, nt: &[u16], amounts: &[u32], i: usize, rs: &mut [Record]) -
     let mut n = 0;
     for j in 0..nt.len() {
         let r = record_at(s, nt, amounts, i, j);
-        if kept(r) {
+        let kept = r.amount != 0;
+        if kept {
             rs[n] = r;
             n += 1;
         }
@@ -57,10 +51,7 @@ fn write_record(r: Record, buf: &mut [u8])
 {
     buf[0] = r.from;
     buf[1] = r.to;
-    buf[2] = (r.amount % 256) as u8;
-    buf[3] = (r.amount / 256 % 256) as u8;
-    buf[4] = (r.amount / 65_536 % 256) as u8;
-    buf[5] = (r.amount / 16_777_216) as u8;
+    buf[2..6].copy_from_slice(&r.amount.to_le_bytes());
 }
 
 // The bytes of a record at the place of record k.
@@ -72,15 +63,12 @@ fn put_record(r: Record, k: usize, buf: &mut [u8])
     write_record(r, &mut buf[at..]);
 }
 
-// The bytes of the first n records. Returns n.
-pub fn write_all(rs: &[Record], n: usize, buf: &mut [u8]) -> usize
-    requires { (n ≤ length rs.now) × (6 * n ≤ length buf.old) }
-    ensures { (result ≡ n) × (buf.new ≡ over (all_bytes (take n rs.now)) buf.old) }
+// The bytes of records, one after the other.
+pub fn write_all(rs: &[Record], buf: &mut [u8])
+    requires { 6 * length rs.now ≤ length buf.old }
+    ensures { buf.new ≡ over (all_bytes rs.now) buf.old }
 {
-    let mut k = 0;
-    while k < n {
-        put_record(rs[k], k, buf);
-        k += 1;
+    for (k, r) in rs.iter().enumerate() {
+        put_record(*r, k, buf);
     }
-    k
 }

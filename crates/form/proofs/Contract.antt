@@ -1,9 +1,11 @@
 -- The listed codes of a form, and the contract: the second table completed for the codes of the first.
 -- Assumes nothing.
-use mathlib.Core.Path.{◌≡◌, sym, ◌∙◌}
-use mathlib.Core.Bool.{Bool, true, false, not, ◌&&◌}
+use mathlib.Core.Path.{◌≡◌, sym}
+use mathlib.Core.Bool.{Bool, not, ◌&&◌}
 use mathlib.Core.List.{List}
 use Prim.Native.Nat.{ℕ, ◌+◌, ◌-◌, ◌≤◌, ◌<◌}
+use Rattle.std.specs.Prelude.{Result, Ok, Err, MatchResult, is_ok}
+use native.Mathlib.Decide.{dec_lt}
 use native.Mathlib.Omega.{arith}
 use lib.Dec.{T, eqb}
 use lib.ListN.{length, get_or}
@@ -15,46 +17,40 @@ use Rattle.simulation.specs.Tree.{apart}
 use Rattle.simulation.specs.Demands.{Sound}
 use Rattle.simulation.specs.Complete.{lists, self_loop, all_related}
 use Rattle.simulation.proofs.Finite.Tests.{is_true, is_false}
-use Rattle.simulation.proofs.Finite.Lists.{below_at, below_length}
+use Rattle.simulation.proofs.Finite.Lists.{below_length}
 use Rattle.simulation.proofs.Complete.Codes.{lists_at, lists_by, lists-same}
 use Rattle.simulation.proofs.Complete.Tables.{OwnCodes, AddedStep, complete-states, complete_sound, added-step, search_added, search_listed}
 use Rattle.simulation.proofs.Complete.Loops.{matched-listed, matched-added, apart-listed, apart-added}
 use Rattle.form.specs.Form.{at, actions_from, listed_from, transitions_of, transition_at, table_of, Loaded}
+use Rattle.form.specs.declared.tables.Tables.{Tables}
 use Rattle.form.specs.Tables.{first_form, second_form, first_table, second_table, contract_table, first_step, BothLoaded}
 use Rattle.form.proofs.FormLists.{ascends}
 use Rattle.form.proofs.Sound.{shaped_codes}
 use Rattle.form.proofs.FormLaws.{by_state, sound, positive-at, limits, pairs-bound}
+
+-- what a search in ascending codes finds
+pub lists-searched : (codes : List ℕ) (c : ℕ) (r : Result ℕ ℕ)
+    → MatchResult r (λ i. (i < length codes) × (get_or codes i 0 ≡ c))
+    (λ i. (i ≤ length codes) × ((k : ℕ) → k < i → get_or codes k 0 < c) × ((k : ℕ) → i ≤ k → k < length codes → c < get_or codes k 0))
+    → is_ok r ≡ lists codes c
+lists-searched codes c (Ok i) h = sym (is_true (lists codes c) (lists-same codes (sym h.1) (lists_by codes i h.0)))
+lists-searched codes c (Err i) h = sym (is_false (lists codes c) (λ t.
+    let r = lists_at codes c t in
+    elim (dec_lt r.0 i) [ yes lt ↦ omega (arith, h.1 r.0 lt, r.2) | no ge ↦ omega (arith, h.2 r.0 (omega (arith, ge)) r.1, r.2) ]))
 
 module _ (f : List ℕ) where
   pub codes-count : length (table_of f).codes ≡ at f actions_from
   unfolding table_of
   codes-count = below_length (λ i. at f (listed_from + i)) 0 (at f actions_from)
 
-  pub code_at : (i : ℕ) → i < at f actions_from → get_or (table_of f).codes i 0 ≡ at f (listed_from + i)
-  unfolding table_of
-  code_at i b = below_at 0 (λ i. at f (listed_from + i)) (at f actions_from) i b
-
-  -- a code that is found, and one that is at no place
-  pub lists-found : {i c : ℕ} → i < at f actions_from → at f (listed_from + i) ≡ c → lists (table_of f).codes c ≡ true
-  lists-found {i} {c} b e =
-      is_true (lists (table_of f).codes c) (lists-same (table_of f).codes (sym (code_at i b ∙ e)) (lists_by (table_of f).codes i (omega (arith, codes-count))))
-
-  pub lists-missing : {c : ℕ} → ((i : ℕ) → i < at f actions_from → at f (listed_from + i) ≡ c → ⊥) → lists (table_of f).codes c ≡ false
-  lists-missing {c} none =
-      is_false (lists (table_of f).codes c)
-      (λ t.
-      let r = lists_at (table_of f).codes c t in
-      let b : r.0 < at f actions_from = omega (arith, codes-count, r.1) in
-      none r.0 b (sym (code_at r.0 b) ∙ sym r.2))
-
   module _ (l : Loaded f) where
     pub codes-few : at f actions_from ≤ most_codes
     codes-few = omega (arith, l.valid.codes.few, codes-count)
 
-    pub codes_ascend : (i j : ℕ) → i ≤ j → j < at f actions_from → at f (listed_from + i) ≤ at f (listed_from + j)
+    pub codes_ascend : (i j : ℕ) → i ≤ j → j < length (table_of f).codes → get_or (table_of f).codes i 0 ≤ get_or (table_of f).codes j 0
     codes_ascend i j a b =
-        ascends (λ i. at f (listed_from + i)) (at f actions_from - 1)
-        (λ i c. omega (arith, l.valid.codes.ascending i (omega (arith, codes-count)), code_at i (omega arith), code_at (i + 1) (omega arith))) i j a (omega arith)
+        let codes = (table_of f).codes in
+        ascends (λ i. get_or codes i 0) (length codes - 1) (λ i c. omega (arith, l.valid.codes.ascending i (omega arith))) i j a (omega arith)
 
     pub own-codes : OwnCodes (table_of f)
     own-codes = shaped_codes (table_of f) l.valid.shape
@@ -63,7 +59,7 @@ module _ (f : List ℕ) where
     pub own_code : (j : ℕ) → j < transitions_of f → T (lists (table_of f).codes (transition_at f j).code)
     own_code j b = by_state f l j b (λ m. T (lists (table_of f).codes m.code)) own-codes.listed
 
-module _ (tables : List ℕ) where
+module _ (tables : Tables) where
   pub contract-states : states_of (contract_table tables) ≡ states_of (second_table tables)
   contract-states = complete-states (first_table tables).codes (second_table tables)
 

@@ -8,8 +8,14 @@ use native.Mathlib.Numerals.{add-one}
 use native.Mathlib.Omega.{arith}
 use native.Mathlib.Decide.{dec_le}
 use lib.ListN.{length, get_or, take, drop}
-use lib.Seq.{drop-cons}
+use lib.Seq.{drop-cons, get_or-take, get_or-drop}
 use Rattle.simulation.specs.Sum.{below}
+use Rattle.form.specs.Form.{form_size}
+use Rattle.form.specs.Examples.{form_at}
+
+-- the numbers of a form that begins at a place of a list are those of the list from there on
+pub form_read : (numbers : List ℕ) (place i k : ℕ) → place + i ≡ k → i < form_size → get_or (form_at numbers place) i 0 ≡ get_or numbers k 0
+form_read numbers place i k e lt = get_or-take form_size (drop place numbers) i 0 lt ∙ get_or-drop place numbers i 0 ∙ ap (λ (p : ℕ). get_or numbers p 0) e
 
 pub part-below : (f : List ℕ) (p a n : ℕ) → p + a + n ≤ length f → take n (drop (p + a) f) ≡ below a n (λ e. get_or f (p + e) 0)
 unfolding below

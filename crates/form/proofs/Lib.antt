@@ -6,5 +6,5 @@ pub mod Sound
 pub mod FormLists
 pub mod FormLaws
 pub mod Support
-pub mod TablesLaws
+pub mod Known
 pub mod Contract

@@ -1,8 +1,11 @@
 -- Forms in one list, computed: one between other numbers, and the second of two.
 -- Assumes nothing.
-use Rattle.std.specs.Prelude.{◌≡◌, refl, List, [], ◌∷◌, ◌++◌, ℕ, replicate}
+use Rattle.std.specs.Prelude.{◌≡◌, refl, List, [], ◌∷◌, ◌++◌, ℕ, replicate, take, drop}
 use Rattle.form.specs.Form.{form_size}
-use Rattle.form.specs.Tables.{form_at}
+
+-- the form that begins at a place of a list
+abbrev pub form_at : (numbers : List ℕ) (place : ℕ) → List ℕ
+form_at numbers place = take form_size (drop place numbers)
 
 -- a form of one number
 abbrev uniform : ℕ → List ℕ

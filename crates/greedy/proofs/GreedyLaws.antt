@@ -57,14 +57,6 @@ column_idle : (k n j : ℕ) (x : List ℕ) → k ≤ n → ((i : ℕ) → k ≤ 
 unfolding column_sum
 column_idle k n j x l h = sum_idle_to k n (λ i. cell x i j) l h
 
--- d, the least of what the row and the column have, is sent
-pub cell-filled : {i j d : ℕ} {F G : Partial} → d ≡ min (get_or F.supply i 0) (get_or F.demand j 0)
-    → Adds F.amounts G.amounts i j d × Noted G.amounts F.senders G.senders i j → AddsAt G.supply F.supply i d × AddsAt G.demand F.demand j d
-    → CellFilled i j F G
-cell-filled {i} {j} {d} {F} {G} e s t =
-    let w = subst (λ (d : ℕ). Adds F.amounts G.amounts i j d × AddsAt G.supply F.supply i d × AddsAt G.demand F.demand j d) e (s.0, t.0, t.1) in
-    record { added = w.0; noted = s.1; sent = w.1; taken = w.2 }
-
 -- a related cell of a flow is filled: another flow of the same supplies and demands
 pub cell-improves : {rel : List ℕ} {i j : ℕ} {F G : Partial} → FlowIn rel F → i < length F.supply → j < length F.demand → holds rel i j ≡ true
     → length G.amounts ≡ length F.amounts → length G.supply ≡ length F.supply → length G.demand ≡ length F.demand → length G.senders ≡ length F.senders
@@ -184,27 +176,16 @@ module _ {i : ℕ} {rel : List ℕ} {F₀ F : Partial} {still left : ℕ} (s : U
       × RowFilled (length F₀.demand) i rel F₀.supply F₀.demand F₀.amounts F.amounts
   under_way_end z = (s.improves, s.free, filling_end s.filling z)
 
-  -- the lowest column that is left can be filled, and is
+  -- the lowest column that is left is filled
   module _ (hi : i < length F₀.supply) {j : ℕ} (l : Lowest (member left) j) where
     column : j < length F₀.demand
     column = (s.filling.part j l.here).0
 
-    pub cell-ready : (i < most_states) × (j < most_states) × (most_pairs ≤ length F.amounts) × (most_states ≤ height F.senders)
-        × (i < length F.supply) × (j < length F.demand) × (cell F.amounts i j + get_or F.supply i 0 < 2 ^ 32)
-    cell-ready = let k = s.improves in let w = k.flow.sized in (
-      omega (arith, w.few_rows),
-      omega (arith, column, w.few_columns),
-      w.cells,
-      w.columns,
-      omega (arith, k.same_a),
-      omega (arith, column, k.same_b),
-      cell-fits i j _ k.flow hi column (omega arith),
-    )
-
     module _ {G : Partial} (lx : length G.amounts ≡ length F.amounts) (la : length G.supply ≡ length F.supply) (lb : length G.demand ≡ length F.demand)
         (lu : length G.senders ≡ length F.senders) (f : CellFilled i j F G) where
-      pub cell-on : ImprovedIn rel F₀ G
-      cell-on = let k = cell-ready in improves-on s.improves (cell-improves (flow_now s.improves) k.4 k.5 (s.filling.part j l.here).1 lx la lb lu f)
+      cell-on : ImprovedIn rel F₀ G
+      cell-on = let k = s.improves in
+          improves-on k (cell-improves (flow_now k) (omega (arith, k.same_a)) (omega (arith, column, k.same_b)) (s.filling.part j l.here).1 lx la lb lu f)
 
       others : (c : ℕ) → c ≢ j → get_or G.demand c 0 ≡ get_or F.demand c 0
       others c o = sym (adds_at-other f.taken c (λ e. o (sym e)))
@@ -267,10 +248,6 @@ rows_none f m z = record { improves = improves_refl f; columns = m; greedy = gre
 module _ {n : ℕ} {rel : List ℕ} {F₀ F : Partial} {free : ℕ} (s : RowsFilled n rel F₀ F free) (h : n < length F.supply) where
   row : n < length F₀.supply
   row = omega (arith, s.improves.same_a)
-
-  pub row-ready : FlowIn rel F × (n < length F.supply) × MaskOf (length F.demand) (λ j. get_or F.demand j 0) free × ((j : ℕ) → j < length F.demand → cell F.amounts n j ≡ 0)
-  row-ready = let e = s.improves.same_b in
-      (flow_now s.improves, h, subst⁻¹ (λ (q : ℕ). MaskOf q (λ j. get_or F.demand j 0) free) e s.columns, λ j l. s.empty n j (omega arith) row (omega arith))
 
   pub rows_next : {G : Partial} {free' : ℕ} → ((i j : ℕ) → i < length F₀.supply → j < length F₀.demand → cell F₀.amounts i j ≡ 0)
       → ImprovedIn rel F G × MaskOf (length F.demand) (λ j. get_or G.demand j 0) free' × RowFilled (length F.demand) n rel F.supply F.demand F.amounts G.amounts

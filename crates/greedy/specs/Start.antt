@@ -1,6 +1,6 @@
 -- What the kernel starts from: supplies and demands, and zeros where the amounts go.
 -- Assumes nothing.
-use Rattle.std.specs.Prelude.{◌≡◌, List, ◌≢◌, ℕ, ◌+◌, ◌*◌, ◌≤◌, ◌<◌, length, get_or}
+use Rattle.std.specs.Prelude.{◌≡◌, List, ℕ, ◌+◌, ◌*◌, ◌≤◌, ◌<◌, length, get_or}
 use Rattle.simulation.specs.Limits.{most_states}
 use Rattle.simulation.specs.Fit.{weight, total}
 use Rattle.matrix.specs.Matrix.{cell, Outside, row_sum, column_sum}
@@ -8,12 +8,6 @@ use Rattle.matrix.specs.Matrix.{cell, Outside, row_sum, column_sum}
 -- the first n targets have to send their weight by the other side's total
 pub record Supplies (ws : List ℕ) (other n : ℕ) (a : List ℕ) : Type 0 where
   pub supply : (i : ℕ) → i < n → get_or a i 0 ≡ weight ws i * other
-
--- y is x with zeros in the first n cells of row i
-pub record RowCleared (i n : ℕ) (x y : List ℕ) : Type 0 where
-  pub zero : (j : ℕ) → j < n → cell y i j ≡ 0
-  pub other_rows : (k j : ℕ) → k ≢ i → j < most_states → cell y k j ≡ cell x k j
-  pub later : (k j : ℕ) → n ≤ j → j < most_states → cell y k j ≡ cell x k j
 
 -- y is x with zeros in the first q cells of the first p rows
 pub record Cleared (p q : ℕ) (x y : List ℕ) : Type 0 where

@@ -1,29 +1,21 @@
--- What a read returns: the value and the moved cursor, or the end.
+-- What a read returns: the value and the moved cursor, or that the bytes end before it.
 -- Assumes nothing.
-use Rattle.std.specs.Prelude.{Bool, true, false, List, ◌≡◌, ℕ, ◌+◌, ◌<◌, leb, length}
-use Rattle.layout.specs.Bytes.{byte, field, half}
-use Rattle.items.specs.declared.cursor.Read.{Read}
-use Rattle.items.specs.declared.cursor.Read.TheVariants.{Value, End}
+use Rattle.std.specs.Prelude.{List, Result, ◌≡◌, ℕ, pred, ◌+◌, ◌*◌, ◌≤◌, ◌<◌, leb, length}
+use Rattle.layout.specs.Bytes.{refuse◌unless◌, first, code_refusal}
+use Rattle.layout.specs.declared.refusals.Refusal.{Refusal}
+use Rattle.layout.specs.Refusals.{GivesUnless}
+use Rattle.items.specs.declared.cursor.Cursor.{Cursor}
 
 -- r is the value v, which is below the bound
 pub record ValueBelow (bound v r : ℕ) : Type 0 where
   pub is : r ≡ v
   pub small : r < bound
 
--- the value v with the cursor moved to a, or the end
-abbrev pub read_if : Bool → ℕ → ℕ → Read
-read_if true v a = Value v (record { at = a })
-read_if false v a = End
+-- r is what a read of n bytes from the place p on gives: the value v and the cursor behind them, unless the bytes end before
+abbrev pub Reads : (s : List ℕ) (p n v : ℕ) → Result (ℕ × Cursor) Refusal → Type 0
+Reads s p n v r = GivesUnless (refuse 1 unless leb (p + n) (length s)) r (λ x. (x.0 ≡ v) × (x.1.at ≡ p + n) × (x.1.at ≤ length s))
 
-abbrev pub byte_read : List ℕ → ℕ → Read
-byte_read s at = read_if (leb (at + 1) (length s)) (byte s at) (at + 1)
-
-abbrev pub half_read : List ℕ → ℕ → Read
-half_read s at = read_if (leb (at + 2) (length s)) (half s at) (at + 2)
-
-abbrev pub field_read : List ℕ → ℕ → ℕ → Read
-field_read s w at = read_if (leb (at + w) (length s)) (field w s at) (at + w)
-
--- where the n bytes lie
-abbrev pub part_read : List ℕ → ℕ → ℕ → Read
-part_read s at n = read_if (leb (at + n) (length s)) at (at + n)
+-- the n codes of section 1 are there and ascend, where each takes w bytes
+pub record Ascending (w : ℕ) (s : List ℕ) (n : ℕ) : Type 0 where
+  pub room : w + w * n ≤ length s
+  pub ascend : first 0 (pred n) (code_refusal w s) ≡ 0

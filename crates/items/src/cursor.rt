@@ -1,31 +1,10 @@
-// A table cursor: each read hands back the value and the moved cursor.
-ghost use Rattle.std.specs.Prelude.{◌≡◌, ◌+◌, ◌≤◌, ◌<◌, leb, length};
-ghost use Rattle.layout.specs.Bytes.{CodeWidth, byte, field, half};
-ghost use Rattle.items.specs.Reads.{ValueBelow, byte_read, half_read, field_read, part_read};
+// A cursor over the bytes of a table, and what stands at a place of them.
+ghost use Rattle.std.specs.Prelude.{◌≡◌, ◌+◌, ◌≤◌, ◌<◌, length};
+ghost use Rattle.layout.specs.Bytes.{byte, field, half};
+ghost use Rattle.items.specs.Reads.{ValueBelow, Reads};
 
+use layout::{Refusal, TableBytes};
 use simulation::Width;
-
-#[derive(Clone, Copy)]
-pub struct Cursor {
-    pub at: usize,
-}
-
-#[derive(Clone, Copy)]
-pub enum Read {
-    Value(usize, Cursor),
-    End,
-}
-
-// Whether n bytes are present from a place on.
-fn present(s: &[u8], at: usize, n: usize) -> bool
-    ensures { result ≡ leb (at + n) (length s.now) }
-{
-    if at <= s.len() {
-        n <= s.len() - at
-    } else {
-        false
-    }
-}
 
 // The byte at a place.
 pub fn byte_at(s: &[u8], at: usize) -> usize
@@ -43,15 +22,21 @@ pub fn half_at(s: &[u8], at: usize) -> usize
     byte_at(s, at) + 256 * byte_at(s, at + 1)
 }
 
-// The field of width bytes at a place, low byte first.
-pub fn field_at(s: &[u8], width: usize, at: usize) -> usize
-    requires { CodeWidth width × (at + width ≤ length s.now) }
-    ensures { ValueBelow 65536 (field width s.now at) result }
+// A field as wide as a code, low byte first.
+pub fn field_at(s: &TableBytes, at: usize) -> usize
+    requires { at + s.now.width ≤ length s.now.bytes.now }
+    ensures { ValueBelow 65536 (field s.now.width s.now.bytes.now at) result }
 {
-    if width == Width::NARROW {
-        return byte_at(s, at);
+    if s.width == Width::NARROW {
+        return byte_at(s.bytes, at);
     }
-    half_at(s, at)
+    half_at(s.bytes, at)
+}
+
+// Where the next read begins: each read hands back what it read and the cursor behind it.
+#[derive(Clone, Copy)]
+pub struct Cursor {
+    pub at: usize,
 }
 
 impl Cursor {
@@ -62,52 +47,38 @@ impl Cursor {
         Cursor { at: 0 }
     }
 
-    // One byte.
-    pub fn byte(self, s: &[u8]) -> Read
-        ensures { result ≡ byte_read s.now self.at }
+    // n bytes: the value is where they lie.
+    pub fn part(self, s: &[u8], n: usize) -> Result<(usize, Cursor), Refusal>
+        ensures { Reads s.now self.at n self.at result }
     {
         let at = self.at;
-        if present(s, at, 1) {
-            Read::Value(byte_at(s, at), Cursor { at: at + 1 })
-        } else {
-            Read::End
+        if s.len() < at || s.len() - at < n {
+            return Err(Refusal::Cut);
         }
+        Ok((at, Cursor { at: at + n }))
+    }
+
+    // One byte.
+    pub fn byte(self, s: &[u8]) -> Result<(usize, Cursor), Refusal>
+        ensures { Reads s.now self.at 1 (byte s.now self.at) result }
+    {
+        let (at, next) = self.part(s, 1)?;
+        Ok((byte_at(s, at), next))
     }
 
     // Two bytes, low byte first.
-    pub fn half(self, s: &[u8]) -> Read
-        ensures { result ≡ half_read s.now self.at }
+    pub fn half(self, s: &[u8]) -> Result<(usize, Cursor), Refusal>
+        ensures { Reads s.now self.at 2 (half s.now self.at) result }
     {
-        let at = self.at;
-        if present(s, at, 2) {
-            Read::Value(half_at(s, at), Cursor { at: at + 2 })
-        } else {
-            Read::End
-        }
+        let (at, next) = self.part(s, 2)?;
+        Ok((half_at(s, at), next))
     }
 
-    // A field of width bytes, low byte first.
-    pub fn field(self, s: &[u8], width: usize) -> Read
-        requires { CodeWidth width }
-        ensures { result ≡ field_read s.now width self.at }
+    // A field as wide as a code, low byte first.
+    pub fn field(self, s: &TableBytes) -> Result<(usize, Cursor), Refusal>
+        ensures { Reads s.now.bytes.now self.at s.now.width (field s.now.width s.now.bytes.now self.at) result }
     {
-        let at = self.at;
-        if present(s, at, width) {
-            Read::Value(field_at(s, width, at), Cursor { at: at + width })
-        } else {
-            Read::End
-        }
-    }
-
-    // n bytes: the value is where they lie.
-    pub fn part(self, s: &[u8], n: usize) -> Read
-        ensures { result ≡ part_read s.now self.at n }
-    {
-        let at = self.at;
-        if present(s, at, n) {
-            Read::Value(at, Cursor { at: at + n })
-        } else {
-            Read::End
-        }
+        let (at, next) = self.part(s.bytes, s.width)?;
+        Ok((field_at(s, at), next))
     }
 }

@@ -1,5 +1,6 @@
 -- The states that lack one of some codes, code by code.
 -- Assumes nothing.
+use Rattle.form.specs.declared.tables.Tables.{Tables}
 use mathlib.Core.Path.{◌≡◌, refl, sym, ap, ap₂, ◌∙◌, fun_ext, subst}
 use mathlib.Core.Bool.{Bool, true, false, not, ◌&&◌, ◌||◌, and-false, or-true, or-false}
 use mathlib.Core.List.{List}
@@ -15,22 +16,16 @@ use Rattle.simulation.specs.Complete.{lists}
 use Rattle.simulation.proofs.Finite.Tests.{or_cases, or_right, and_both, and_left, and_right, by_contradiction, is_true, is_false, true_T, false_T, same_test, any_some, some-any}
 use Rattle.simulation.proofs.Complete.Tables.{search_added, search_listed}
 use Rattle.word.specs.Mask.{Test, member, either, from_place}
-use Rattle.word.proofs.Mask.{member-none, none_is, flag_is}
+use Rattle.word.proofs.Mask.{member-none, none_is}
 use Rattle.form.specs.Form.{Loaded, start_of, transition_at, table_of}
 use Rattle.form.specs.Tables.{second_form, first_table, second_table, contract_table, BothLoaded}
 use Rattle.form.proofs.Contract.{own-codes, contract-states}
 use Rattle.fit.specs.Held.{coded}
 use Rattle.fit.proofs.Steps.{one_fails, all_pass}
 use Rattle.lacking.specs.Lacking.{lacks, lacks_one}
-use mir.Val.{bool_byte}
-use Rattle.simulation.proofs.Finite.Sums.{one-most}
-
--- a flag is a bit
-pub flag_few : (b : Bool) → bool_byte b < 2
-flag_few b = omega (arith, flag_is b, one-most b)
 
 -- a code of the contract: one that the second table lists is lacked by the same states there, one that is added by none
-module _ (tables : List ℕ) (c : ℕ) where
+module _ (tables : Tables) (c : ℕ) where
   like : (n : Transition) → T (eqb c n.code) → n.code ≡ c
   like n h = sym (eqb→eq c n.code h)
 

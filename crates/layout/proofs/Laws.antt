@@ -2,11 +2,11 @@
 -- Assumes nothing.
 use mathlib.Core.Path.{◌≡◌, refl, sym, ◌∙◌}
 use mathlib.Core.Bool.{Bool, true, false, ◌&&◌}
-use Prim.Native.Nat.{ℕ, zero, suc, pred, ◌+◌, ◌-◌, ◌≤◌, ◌<◌}
+use Prim.Native.Nat.{ℕ, zero, suc, ◌+◌, ◌-◌, ◌≤◌, ◌<◌}
 use native.Mathlib.Numerals.{add-one}
 use native.Mathlib.Omega.{arith}
-use lib.Dec.{leb}
-use borrow.Author.Tests.{leb-true, leb-false, le-leb, lt-leb}
+use lib.Dec.{leb, ltb}
+use borrow.Author.Tests.{leb-true, leb-false, le-leb, lt-leb, le-ltb, lt-ltb}
 use Rattle.layout.specs.Bytes.{first, ◌then◌, refuse◌unless◌}
 
 -- a count of bytes is compared with what is left from a place on
@@ -35,13 +35,9 @@ module _ (n : ℕ) (f : ℕ → ℕ) where
   unfolding ◌then◌
   items_more i h l e = h ∙ left i l ∙ rw e
 
-  pub items_stop : (i k : ℕ) → ItemsPass n f i → i < n → f i ≡ suc k → suc k ≡ first 0 n f
-  unfolding ◌then◌
-  items_stop i k h l e = sym (h ∙ left i l ∙ rw e)
-
-  pub items_all : (i : ℕ) → ItemsPass n f i → n ≤ i → 0 ≡ first 0 n f
+  pub items_all : (i : ℕ) → ItemsPass n f i → n ≤ i → first 0 n f ≡ 0
   unfolding first
-  items_all i h l = let e : n - i ≡ 0 = omega arith in sym (h ∙ rw e)
+  items_all i h l = let e : n - i ≡ 0 = omega arith in h ∙ rw e
 
 pub refused_unless : (k : ℕ) {t : Bool} → t ≡ false → refuse k unless t ≡ k
 unfolding refuse◌unless◌
@@ -50,6 +46,19 @@ refused_unless k e = rw e
 pub not_refused : (k : ℕ) {t : Bool} → t ≡ true → refuse k unless t ≡ 0
 unfolding refuse◌unless◌
 not_refused k e = rw e
+
+-- the same where the test compares two numbers
+pub leb_refused : (k a b : ℕ) → b < a → refuse k unless leb a b ≡ k
+leb_refused k a b h = refused_unless k (lt-leb a b h)
+
+pub leb_passes : (k a b : ℕ) → a ≤ b → refuse k unless leb a b ≡ 0
+leb_passes k a b h = not_refused k (le-leb a b h)
+
+pub ltb_refused : (k a b : ℕ) → b ≤ a → refuse k unless ltb a b ≡ k
+ltb_refused k a b h = refused_unless k (le-ltb a b h)
+
+pub ltb_passes : (k a b : ℕ) → a < b → refuse k unless ltb a b ≡ 0
+ltb_passes k a b h = not_refused k (lt-ltb a b h)
 
 -- the first of two refusals
 pub then_second : {f : ℕ} (g : ℕ) → f ≡ 0 → g ≡ f then g
@@ -62,10 +71,9 @@ then_first zero g d = absurd (d refl)
 then_first (suc f) g d = refl
 
 -- the refusal at i is the first
-pub items_here : (n : ℕ) (f : ℕ → ℕ) (i : ℕ) {r : ℕ} → ItemsPass n f i → i < n → r ≡ f i → (r ≡ 0 → ⊥) → r ≡ first 0 n f
-items_here n f i {r} h l e ne =
-    let q : r ≡ suc (pred r) = omega arith in
-    q ∙ items_stop n f i (pred r) h l (sym e ∙ q)
+pub items_here : (n : ℕ) (f : ℕ → ℕ) (i : ℕ) {r : ℕ} → ItemsPass n f i → i < n → f i ≡ r → 0 < r → first 0 n f ≡ r
+items_here n f i {r} h l e p =
+    h ∙ left n f i l ∙ sym (then_first (f i) _ (λ z. omega arith)) ∙ e
 
 pub both_hold : {a b : Bool} → a ≡ true → b ≡ true → a && b ≡ true
 both_hold p q = rw (p, q)

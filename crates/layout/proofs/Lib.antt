@@ -7,6 +7,7 @@ pub mod Bounds
 pub mod PlaceLaws
 pub mod LayoutLaws
 pub mod ValidLaws
+pub mod RefusalLaws
 pub mod DecodeLaws
 pub mod Agree
 pub mod Prefix

@@ -1,3 +1,9 @@
+// The byte layout of a table: definitions in specs/, laws in proofs/. Its only code are the bytes in one of the two layouts, and what
+// refuses them.
 #![tactic(auto)]
 
-// The byte layout of a table, no code: the definitions in specs/, the laws in proofs/.
+mod bytes;
+mod refusals;
+
+pub use bytes::TableBytes;
+pub use refusals::Refusal;

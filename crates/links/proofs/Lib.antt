@@ -3,4 +3,3 @@
 pub mod Walks
 pub mod Growing
 pub mod Doubting
-pub mod Filling

@@ -1,4 +1,3 @@
 -- The definitions.
 -- Assumes nothing.
-pub mod Places
 pub mod Links

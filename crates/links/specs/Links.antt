@@ -1,5 +1,6 @@
 -- Which states have a transition to a state, and the pairs that a lost pair puts in doubt.
 -- Assumes nothing.
+use Rattle.form.specs.declared.tables.Tables.{Tables}
 use Rattle.std.specs.Prelude.{◌≡◌, true, false, List, ℕ, ◌+◌, ◌≤◌, ◌<◌, T, length, get_or}
 use Rattle.simulation.specs.Limits.{most_states}
 use Rattle.simulation.specs.Complete.{lists}
@@ -10,7 +11,8 @@ use Rattle.relation.specs.Related.{holds}
 use Rattle.simulation.specs.Table.{targets, states_of}
 use Rattle.form.specs.Tables.{first_form, second_form, second_table, first_step}
 use Rattle.fit.specs.Known.{TargetSets}
-use Rattle.links.specs.Places.{HasSets, before_in, behind_in, targets_in, doubt_in, lost_in}
+use Rattle.links.specs.declared.Sets.{Sets}
+use Rattle.links.specs.declared.Marks.{Marks}
 
 -- the rows have no pair
 abbrev pub Empty : List ℕ → Type 0
@@ -36,21 +38,20 @@ pub record Linked (f before : List ℕ) : Type 0 where
   pub states : RowsBelow (states_of (table_of f)) before
 
 -- the second table lists the code of each of the first n transitions of the first
-abbrev pub ListedBefore : (tables : List ℕ) (n : ℕ) → Type 0
+abbrev pub ListedBefore : (tables : Tables) (n : ℕ) → Type 0
 ListedBefore tables n = (j : ℕ) → j < n → T (lists (second_table tables).codes (first_step tables j).code)
 
 -- behind has, for each state, those that list a transition to it, and the state itself where a transition of the first table has a code that the second does not list
-pub record ContractLinked (tables behind : List ℕ) : Type 0 where
+pub record ContractLinked (tables : Tables) (behind : List ℕ) : Type 0 where
   pub listed : Linked (second_form tables) behind
   pub loops : (j t : ℕ) → j < transitions_of (first_form tables) → ¬ T (lists (second_table tables).codes (first_step tables j).code) → t < states_of (second_table tables)
       → holds behind t t ≡ true
 
--- the sets that are known before the rounds, each kind in its place
-pub record SetsKnown (tables sets : List ℕ) : Type 0 where
-  pub room : HasSets sets
-  pub first : Linked (first_form tables) (before_in sets)
-  pub second : ContractLinked tables (behind_in sets)
-  pub targets : TargetSets (second_form tables) (targets_in sets)
+-- the sets that are known before the rounds
+pub record SetsKnown (tables : Tables) (sets : Sets) : Type 0 where
+  pub first : Linked (first_form tables) sets.before
+  pub second : ContractLinked tables sets.behind
+  pub targets : TargetSets (second_form tables) sets.targets
 
 -- no pair of the first rows is missing in the second
 pub record RowsGrown (rows rows' : List ℕ) : Type 0 where
@@ -67,15 +68,14 @@ pub record Looped (n : ℕ) (rows rows' : List ℕ) : Type 0 where
   pub own : (t : ℕ) → t < n → holds rows' t t ≡ true
   pub within : RowsBelow n rows → RowsBelow n rows'
 
--- each member of a set is in doubt in each row of another; the lost pairs stay
-pub record DoubtsAdded (rows more : ℕ) (marks marks' : List ℕ) : Type 0 where
-  pub grown : RowsGrown (doubt_in marks) (doubt_in marks')
-  pub added : (s t : ℕ) → member rows s ≡ true → member more t ≡ true → holds (doubt_in marks') s t ≡ true
-  pub same_lost : lost_in marks' ≡ lost_in marks
+-- each member of a set is in doubt in each row of another
+pub record DoubtsAdded (rows more : ℕ) (doubt doubt' : List ℕ) : Type 0 where
+  pub grown : RowsGrown doubt doubt'
+  pub added : (s t : ℕ) → member rows s ≡ true → member more t ≡ true → holds doubt' s t ≡ true
 
 -- a pair is in doubt, and its row doubtful, if a lost pair lies one transition behind it; a doubtful row is a state before some other; no pair is lost any more
-pub record Doubted (sets : List ℕ) (doubtful : ℕ) (marks marks' : List ℕ) : Type 0 where
-  pub raised : (a s u t : ℕ) → holds (before_in sets) a s ≡ true → holds (lost_in marks) a u ≡ true → holds (behind_in sets) u t ≡ true
-      → (member doubtful s ≡ true) × (holds (doubt_in marks') s t ≡ true)
-  pub within : (n : ℕ) → RowsBelow n (before_in sets) → (s : ℕ) → member doubtful s ≡ true → s < n
-  pub empty : Empty (lost_in marks')
+pub record Doubted (sets : Sets) (doubtful : ℕ) (marks marks' : Marks) : Type 0 where
+  pub raised : (a s u t : ℕ) → holds sets.before a s ≡ true → holds marks.lost a u ≡ true → holds sets.behind u t ≡ true
+      → (member doubtful s ≡ true) × (holds marks'.doubt s t ≡ true)
+  pub within : (n : ℕ) → RowsBelow n sets.before → (s : ℕ) → member doubtful s ≡ true → s < n
+  pub empty : Empty marks'.lost

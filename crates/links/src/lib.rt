@@ -9,48 +9,43 @@ ghost use Rattle.word.specs.Mask.{member};
 ghost use Rattle.set.specs.Words.{mask};
 ghost use Rattle.relation.specs.Rows.{height};
 ghost use Rattle.relation.specs.Related.{holds};
-ghost use Rattle.form.specs.Form.{Loaded, transitions_of, table_of};
-ghost use Rattle.form.specs.Tables.{form_at, first_form, second_table, first_step, BothLoaded};
+ghost use Rattle.form.specs.Form.{transitions_of, table_of};
+ghost use Rattle.form.specs.Tables.{first_form, second_table, first_step, BothLoaded};
 ghost use Rattle.gather.specs.Places.{Places};
-ghost use Rattle.links.specs.Places.{HasSets, HasMarks, behind_in, lost_in};
 ghost use Rattle.links.specs.Links.{Empty, Linked, ListedBefore, Looped, ContractLinked, SetsKnown, Covered, StateLinks, Joins, DoubtsAdded, Doubted};
 
-use form::{Form, tables};
+use form::{Form, Tables};
 use relation::{Relation, rows};
-use set::{Set, walk};
+use set::Set;
 use simulation::Table;
 use word::Word;
 
-// Sets that are known before the rounds, in one lent slice: the states that lead to a state of the first table, and of the contract, and the
-// targets of each transition of the second. Where each kind begins: the row of the first two, and the word of all.
+// Sets that are known before the rounds: the states that lead to each state of the first table, and of the contract, and the targets of
+// each transition of the second.
 #[derive(Drop)]
-pub struct Sets {}
-
-impl Sets {
-    pub const BEFORE: usize = 0;
-
-    pub const BEHIND: usize = Table::STATES;
-
-    pub const BEFORE_AT: usize = Self::BEFORE * Set::WORDS;
-
-    pub const BEHIND_AT: usize = Self::BEHIND * Set::WORDS;
-
-    pub const TARGETS_AT: usize = 2 * Relation::WORDS;
-
-    pub const WORDS: usize = Self::TARGETS_AT + Table::TRANSITIONS * Set::WORDS;
+pub struct Sets {
+    pub before: [Word; Relation::WORDS],
+    pub behind: [Word; Relation::WORDS],
+    pub targets: [Word; Sets::TARGETS],
 }
 
-// Sets that a round changes beside the pairs that are left, in one lent slice, a row to a state of the first table: the pairs in doubt, and
-// those lost. The row where each kind begins.
+impl Sets {
+    pub const TARGETS: usize = Table::TRANSITIONS * Set::WORDS;
+}
+
+// Sets that a round changes beside the pairs that are left, a row to a state of the first table: the pairs in doubt, and those lost.
 #[derive(Drop)]
-pub struct Marks {}
+pub struct Marks {
+    pub doubt: [Word; Relation::WORDS],
+    pub lost: [Word; Relation::WORDS],
+}
 
-impl Marks {
-    pub const DOUBT: usize = 0;
-
-    pub const LOST: usize = Table::STATES;
-
-    pub const WORDS: usize = 2 * Relation::WORDS;
+// The state s comes before t.
+fn join(before: &mut [Word], t: usize, s: usize)
+    requires { (t < height before.old) × (s < most_states) }
+    ensures { Joins s before.old before.new × (holds before.new t s ≡ true) }
+{
+    rows::put(before, t, rows::get(before, t).insert(s));
 }
 
 // The state s comes before each of its targets.
@@ -59,63 +54,58 @@ fn link_targets(to: &[u16], s: usize, before: &mut [Word])
     ensures { Joins s before.old before.new
         × ((i : ℕ) → i < length to.now → holds before.new (get_or to.now i 0) s ≡ true) }
 {
-    let mut i = 0;
-    while i < to.len() {
-        let t = to[i] as usize;
-        rows::put(before, t, set::insert(rows::get(before, t), s));
-        i += 1;
+    for &target in to {
+        join(before, target as usize, s);
     }
 }
 
 // The state s comes before each target of its transitions.
-fn link_state(tables: &[u16], which: usize, s: usize, before: &mut [Word])
-    requires { Loaded (form_at tables.now which) × (s < states_of (table_of (form_at tables.now which))) × (most_states ≤ height before.old) }
-    ensures { Joins s before.old before.new × StateLinks (form_at tables.now which) s before.new }
+fn link_state(form: &Form, s: usize, before: &mut [Word])
+    requires { (s < states_of (table_of form.now.numbers.now)) × (most_states ≤ height before.old) }
+    ensures { Joins s before.old before.new × StateLinks form.now.numbers.now s before.new }
 {
-    let end = tables::start_of(tables, which, s + 1);
-    let mut j = tables::start_of(tables, which, s);
-    while j < end {
-        link_targets(tables::targets(tables, which, j), s, before);
-        j += 1;
+    let start = form.start_of(s);
+    let end = form.start_of(s + 1);
+    for j in start..end {
+        link_targets(form.targets(j), s, before);
     }
 }
 
 // For each state of a table, those that have a transition to it. `before` is empty at first.
-fn link(tables: &[u16], which: usize, before: &mut [Word])
-    requires { Loaded (form_at tables.now which) × (most_states ≤ height before.old) × Empty before.old }
-    ensures { Linked (form_at tables.now which) before.new }
+fn link(form: &Form, before: &mut [Word])
+    requires { (most_states ≤ height before.old) × Empty before.old }
+    ensures { Linked form.now.numbers.now before.new }
 {
-    let n = tables::states(tables, which);
-    let mut s = 0;
-    while s < n {
-        link_state(tables, which, s, before);
-        s += 1;
+    let n = form.states();
+    for s in 0..n {
+        link_state(form, s, before);
     }
 }
 
 // Whether the second table lists the code of the transition j, where it does so for all transitions before it.
-fn also_listed(tables: &[u16], j: usize) -> bool
+fn also_listed(tables: &Tables, j: usize) -> bool
     requires { BothLoaded tables.now × (j < transitions_of (first_form tables.now)) × ListedBefore tables.now j }
     ensures { result ≡ true → T (lists (second_table tables.now).codes (first_step tables.now j).code) }
 {
-    if tables::repeats(tables, Form::FIRST, 0, j) {
+    if tables.first.repeats(0, j) {
         return true;
     }
-    let code = tables::code(tables, Form::FIRST, j);
-    tables::lists(tables, Form::SECOND, code)
+    let code = tables.first.code(j);
+    tables.second.lists(code)
 }
 
 // Whether some transition of the first table has a code that the second does not list.
-fn has_added(tables: &[u16]) -> bool
+fn has_added(tables: &Tables) -> bool
     requires { BothLoaded tables.now }
     ensures { result ≡ false → ListedBefore tables.now (transitions_of (first_form tables.now)) }
 {
-    let n = tables::start_of(tables, Form::FIRST, tables::states(tables, Form::FIRST));
-    let mut j = 0;
-    while j < n && also_listed(tables, j) {
-        j += 1;
+    let n = tables.first.start_of(tables.first.states());
+    for j in 0..n {
+        if !also_listed(tables, j) {
+            return true;
+        }
     }
-    j < n
+    false
 }
 
 // Each of the first n states comes before itself.
@@ -123,87 +113,66 @@ fn link_loops(n: usize, before: &mut [Word])
     requires { (n ≤ most_states) × (most_states ≤ height before.old) }
     ensures { Looped n before.old before.new }
 {
-    let mut s = 0;
-    while s < n {
-        rows::put(before, s, set::insert(rows::get(before, s), s));
-        s += 1;
+    for s in 0..n {
+        join(before, s, s);
     }
 }
 
 // For each state of the contract, those that have a transition to it. `behind` is empty at first.
-fn link_contract(tables: &[u16], behind: &mut [Word])
+fn link_contract(tables: &Tables, behind: &mut [Word])
     requires { BothLoaded tables.now × (most_states ≤ height behind.old) × Empty behind.old }
     ensures { ContractLinked tables.now behind.new }
 {
-    link(tables, Form::SECOND, behind);
+    link(&tables.second, behind);
     if has_added(tables) {
-        link_loops(tables::states(tables, Form::SECOND), behind);
+        link_loops(tables.second.states(), behind);
     }
 }
 
-// All sets that are known before the rounds, over zeros.
-pub fn fill_sets(tables: &[u16], sets: &mut [Word])
-    requires { BothLoaded tables.now × HasSets sets.old × ((i : ℕ) → get_or sets.old i 0 ≡ 0) }
+// All sets that are known before the rounds. Those of states are empty at first.
+pub fn fill_sets(tables: &Tables, sets: &mut Sets)
+    requires { BothLoaded tables.now × Empty sets.old.before × Empty sets.old.behind }
     ensures { SetsKnown tables.now sets.new }
 {
-    let before = &mut sets[Sets::BEFORE_AT..Sets::BEHIND_AT];
-    link(tables, Form::FIRST, before);
-    let behind = &mut sets[Sets::BEHIND_AT..Sets::TARGETS_AT];
-    link_contract(tables, behind);
-    fit::target_sets(tables, &mut sets[Sets::TARGETS_AT..Sets::WORDS]);
+    link(&tables.first, &mut sets.before);
+    link_contract(tables, &mut sets.behind);
+    fit::target_sets(tables, &mut sets.targets);
 }
 
 // The states behind a member of the set, in the contract.
-fn behind_all(set: Set, sets: &[Word]) -> Set
-    requires { HasSets sets.now }
-    ensures { (u t : ℕ) → member (mask set) u ≡ true → holds (behind_in sets.now) u t ≡ true → member (mask result) t ≡ true }
+fn behind_all(set: Set, sets: &Sets) -> Set
+    ensures { (u t : ℕ) → member (mask set) u ≡ true → holds sets.now.behind u t ≡ true → member (mask result) t ≡ true }
 {
-    let mut r = set::empty();
-    for w in 0..Set::WORDS {
-        let mut left = set.words[w];
-        while left != 0 {
-            let u = walk::lowest(set, w, left);
-            r = set::union(r, rows::get(sets, Sets::BEHIND + u));
-            left = walk::without_lowest(set, w, left);
-        }
+    let mut r = Set::empty();
+    for u in set {
+        r = r.union(rows::get(&sets.behind, u));
     }
     r
 }
 
 // More doubts in each row of the set.
-fn add_doubts(set: Set, more: Set, marks: &mut [Word])
-    requires { HasMarks marks.old }
-    ensures { DoubtsAdded (mask set) (mask more) marks.old marks.new }
+fn add_doubts(set: Set, more: Set, doubt: &mut [Word])
+    requires { most_states ≤ height doubt.old }
+    ensures { DoubtsAdded (mask set) (mask more) doubt.old doubt.new }
 {
-    for w in 0..Set::WORDS {
-        let mut left = set.words[w];
-        while left != 0 {
-            let s = walk::lowest(set, w, left);
-            let doubt = rows::get(marks, Marks::DOUBT + s);
-            rows::put(marks, Marks::DOUBT + s, set::union(doubt, more));
-            left = walk::without_lowest(set, w, left);
-        }
+    for s in set {
+        rows::put(doubt, s, rows::get(doubt, s).union(more));
     }
 }
 
 // The pairs that may fall next: those with a lost pair one transition behind them. The lost pairs are forgotten.
 // Returns the rows that have such a pair.
-pub fn doubts(marks: &mut [Word], fell: Set, sets: &[Word]) -> Set
-    requires { HasMarks marks.old × HasSets sets.now × Covered (mask fell) (lost_in marks.old) }
+pub fn doubts(marks: &mut Marks, fell: Set, sets: &Sets) -> Set
+    requires { Covered (mask fell) marks.old.lost }
     ensures { Doubted sets.now (mask result) marks.old marks.new }
 {
-    let mut doubtful = set::empty();
-    for w in 0..Set::WORDS {
-        let mut left = fell.words[w];
-        while left != 0 {
-            let u = walk::lowest(fell, w, left);
-            let sources = rows::get(sets, Sets::BEFORE + u);
-            let lost = rows::get(marks, Marks::LOST + u);
-            add_doubts(sources, behind_all(lost, sets), marks);
-            rows::put(marks, Marks::LOST + u, set::empty());
-            doubtful = set::union(doubtful, sources);
-            left = walk::without_lowest(fell, w, left);
-        }
+    let mut doubtful = Set::empty();
+    for u in fell {
+        let sources = rows::get(&sets.before, u);
+        let lost = rows::get(&marks.lost, u);
+        add_doubts(sources, behind_all(lost, sets), &mut marks.doubt);
+        rows::put(&mut marks.lost, u, Set::empty());
+        doubtful = doubtful.union(sources);
     }
     doubtful
 }

@@ -14,8 +14,8 @@ use Rattle.table.specs.declared.parts.Layout.{Layout}
 use Rattle.simulation.specs.Limits.{wide}
 use Rattle.layout.specs.Bytes.{byte, half, count}
 use Rattle.form.specs.Form.{form_size, states_from, actions_from, starts_from, entries_listed_from, codes_from, listed_from, at, start_of, entries_listed}
-use Rattle.loading.specs.Fill.{FormFilled, run, Counts, Columns, Between}
-use Rattle.table.proofs.PartLaws.{Parts}
+use Rattle.loading.specs.Fill.{FormFilled, FormFilledBy, run, Counts, Columns, Between, Laid}
+use Rattle.table.proofs.PartLaws.{Parts, parts-known}
 use Rattle.layout.proofs.Bounds.{code-at-is, label-at-is}
 use Rattle.layout.proofs.Fields.{half-field}
 
@@ -42,6 +42,10 @@ filled-one f at v l =
     let e : at + 0 ≡ at = omega arith in
     rw e at (filled_more f at 0 (λ i. v) v (filled_none f at (λ i. v)) (omega arith) refl)
 
+-- numbers of which P holds, where P tells them
+pub filled_as : {P : ℕ → ℕ → Type 0} {f f' : List ℕ} {from n : ℕ} (g : ℕ → ℕ) → FormFilledBy P f from n f' → ((i v : ℕ) → i < n → P i v → v ≡ g i) → FormFilled f from n g f'
+filled_as g w h = record { long = w.long; filled = λ i l. h i _ l (w.filled i l); kept = w.kept }
+
 -- what a column leaves alone
 pub filled-between : {f f' : List ℕ} {from n : ℕ} {g : ℕ → ℕ} (a b : ℕ) → FormFilled f from n g f' → a ≤ from → from + n ≤ b → Between a b f f'
 filled-between a b w l m = record { long = w.long; kept = λ i h. w.kept i (⊎_elim (λ x. inl (omega arith)) (λ x. inr (omega arith)) h) }
@@ -57,19 +61,22 @@ between-beyond {a} {b} {f} {g} u =
     ext_get_or 0 (drop b g) (drop b f) (length-drop b g ∙ ap (λ n. n - b) u.long ∙ sym (length-drop b f))
     (λ i l. get_or-drop b g i 0 ∙ u.kept (b + i) (inr (omega arith)) ∙ sym (get_or-drop b f i 0))
 
+pub parts_of : {s : List ℕ} {t : Layout} {f : List ℕ} → Laid s t f → Parts wide s t
+parts_of l = parts-known wide _ _ l.passed l.parts
+
 module _ (s : List ℕ) (t : Layout) (p : Parts wide s t) where
   -- the counts and the starts, written one after the other
   pub counts_by : {f f₁ f₂ f₃ : List ℕ}
-      → FormFilled f states_from 1 (λ i. t.states) f₁
+      → FormFilled f states_from 1 (λ i. t.states.count) f₁
       → FormFilled f₁ actions_from 1 (λ i. t.actions) f₂
-      → FormFilled f₂ starts_from (t.states + 1) (λ i. sum i (run s t.counts_at 1)) f₃
+      → FormFilled f₂ starts_from (t.states.count + 1) (λ i. sum i (run s t.states.at 1)) f₃
       → Counts s f₃ × Between 0 entries_listed_from f f₃
   unfolding start_of
   counts_by u v w = (
     record {
       states_are = w.kept 0 (inl (omega arith)) ∙ v.kept 0 (inl (omega arith)) ∙ u.filled 0 (omega arith) ∙ p.states_are;
       actions_are = w.kept 1 (inl (omega arith)) ∙ v.filled 0 (omega arith) ∙ p.actions_are;
-      starts_are = λ q l. w.filled q (omega (arith, p)) ∙ sum_ext q (run s t.counts_at 1) (count wide s) (λ i m. ap (byte s) (omega (arith, p.counts-from)));
+      starts_are = λ q l. w.filled q (omega (arith, p)) ∙ sum_ext q (run s t.states.at 1) (count wide s) (λ i m. ap (byte s) (omega (arith, p.counts-from)));
     },
     between_trans (filled-between 0 entries_listed_from u (omega arith) (omega arith))
         (between_trans (filled-between 0 entries_listed_from v (omega arith) (omega arith)) (filled-between 0 entries_listed_from w (omega arith) (omega (arith, p)))),
@@ -77,8 +84,8 @@ module _ (s : List ℕ) (t : Layout) (p : Parts wide s t) where
 
   -- the columns, written one after the other
   pub columns_by : {f f₁ f₂ f₃ : List ℕ}
-      → FormFilled f entries_listed_from t.transitions (run s (t.transitions_at + 2) 3) f₁
-      → FormFilled f₁ codes_from t.transitions (λ i. half s (t.transitions_at + 3 * i)) f₂
+      → FormFilled f entries_listed_from t.transitions.count (run s (t.transitions.at + 2) 3) f₁
+      → FormFilled f₁ codes_from t.transitions.count (λ i. half s (t.transitions.at + 3 * i)) f₂
       → FormFilled f₂ listed_from t.actions (λ i. half s (2 + 2 * i)) f₃
       → Columns s f₃ × Between entries_listed_from form_size f f₃
   unfolding entries_listed

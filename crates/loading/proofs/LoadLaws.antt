@@ -1,5 +1,6 @@
 -- A form that has the counts, the starts, the columns and the entries of accepted bytes holds their table without entries of weight 0, and is loaded.
 -- Assumes nothing.
+use Rattle.std.specs.Prelude.{Result, Ok}
 use mathlib.Core.Path.{◌≡◌, refl, sym, ap, ap₂, ◌∙◌, subst}
 use mathlib.Core.Logic.{inl, inr}
 use mathlib.Core.List.{List, map}
@@ -14,11 +15,11 @@ use Rattle.simulation.proofs.Finite.Lists.{below_ext}
 use Rattle.simulation.proofs.Finite.Sums.{sum_ext, sum_more, sum-none, sum_le}
 use Rattle.simulation.proofs.Simulation.Steps.{step-state}
 use Rattle.simulation.specs.Limits.{wide}
-use Rattle.table.specs.declared.parts.TableAnswer.{TableAnswer}
-use Rattle.table.specs.declared.parts.TableAnswer.TheVariants.{Refused}
+use Rattle.layout.specs.declared.refusals.Refusal.{Refusal}
+use Rattle.layout.specs.Refusals.{number_of, PassesUnless}
+use Rattle.layout.proofs.RefusalLaws.{number_positive}
 use Rattle.form.specs.Valid.{Valid, AllPositive}
 use Rattle.layout.specs.Bytes.{Octets, actions, code, states, count, transitions, size, state_start, entries, decoded_transition, table, refusal}
-use Rattle.table.specs.Stages.{answer}
 use Rattle.form.specs.Form.{form_size, states_from, actions_from, starts_from, entries_listed_from, codes_from, entry_starts_from, listed_from, at, count_of, start_of, transitions_of, entries_listed, entry_start, size_of, entry_at, transition_at, table_of, Loaded}
 use Rattle.form.proofs.Lists.{map_below}
 use Rattle.form.proofs.Support.{supported-valid, supported-positive}
@@ -26,7 +27,6 @@ use Rattle.loading.specs.Fill.{Counts, Columns, Between, support_of, support_sta
 use Rattle.layout.proofs.Bounds.{accepted_bounds}
 use Rattle.layout.proofs.PlaceLaws.{state_count, step_count, transition-is, label_is, entry-count}
 use Rattle.layout.proofs.ValidLaws.{valid}
-use Rattle.table.proofs.AnswerLaws.{refusal-told, answer-accepted}
 use Rattle.loading.proofs.FillLaws.{between_trans, between_wider, between-beyond}
 use Rattle.loading.proofs.SupportLaws.{support-size, support_start-few}
 
@@ -148,14 +148,11 @@ module _ (s : List ℕ) (octets : Octets s) (e : refusal wide s ≡ 0) where
         beyond = between-beyond all;
       }
 
--- what the answer to the bytes tells of a form
-pub read_refused : (s f : List ℕ) {r : TableAnswer} {k : ℕ} → r ≡ answer wide s → r ≡ Refused k → Reads s f k f
-read_refused s f {r} {k} e q =
-    record {
-      number = refusal-told wide s e q;
-      accepted = λ p. let t = answer-accepted wide s p refl in let z : ◌≡◌ {A = ℕ} 0 1 = cc in absurd (omega arith);
-      refused = λ p. refl;
-    }
+-- what reading the bytes tells of a form
+pub read_refused : (s f : List ℕ) {r : Result (Unit {0}) Refusal} (e : Refusal) → refusal wide s ≡ number_of e → PassesUnless (refusal wide s) r → Reads s f r f
+read_refused s f e h told =
+    let p = number_positive e in
+    record { told = told; accepted = λ q. absurd (omega arith); refused = λ q. refl }
 
-pub read_accepted : (s f f' : List ℕ) → refusal wide s ≡ 0 → Loads s f f' → Reads s f 0 f'
-read_accepted s f f' e l = record { number = sym e; accepted = λ p. l; refused = λ p. absurd (p e) }
+pub read_accepted : (s f f' : List ℕ) → refusal wide s ≡ 0 → Loads s f f' → Reads s f (Ok tt) f'
+read_accepted s f f' e l = record { told = e; accepted = λ p. l; refused = λ p. absurd (p e) }

@@ -1,18 +1,26 @@
 -- What the functions that write a form leave in it, by places.
 -- Assumes nothing.
-use Rattle.std.specs.Prelude.{◌≡◌, ◌⊎◌, ◌≢◌, List, ℕ, ◌+◌, ◌*◌, ◌≤◌, ◌<◌, length, drop}
+use Rattle.std.specs.Prelude.{◌≡◌, ◌⊎◌, ◌≢◌, List, ℕ, ◌+◌, ◌*◌, ◌≤◌, ◌<◌, length, drop, Result}
 use Rattle.simulation.specs.Sum.{sum, below}
 use Rattle.simulation.specs.Limits.{wide}
 use Rattle.simulation.specs.Table.{Entry, steps, transition}
 use Rattle.simulation.specs.Support.{support_entries, supported}
 use Rattle.layout.specs.Bytes.{byte, half, actions, code, states, transitions, label, size, state_start, decoded_transition, refusal, table}
+use Rattle.layout.specs.declared.refusals.Refusal.{Refusal}
+use Rattle.layout.specs.Refusals.{PassesUnless}
+use Rattle.table.specs.declared.parts.Layout.{Layout}
+use Rattle.table.specs.Layouts.{layout}
 use Rattle.form.specs.Form.{form_size, states_from, actions_from, codes_from, targets_from, listed_from, at, start_of, entries_listed, entry_start, entry_at, Loaded, table_of}
 
--- f' has the numbers g 0, …, g (n - 1) from a place on, and is f elsewhere
-pub record FormFilled (f : List ℕ) (from n : ℕ) (g : ℕ → ℕ) (f' : List ℕ) : Type 0 where
+-- f' has n numbers from a place on, the i-th of which P holds at i, and is f elsewhere
+pub record FormFilledBy (P : ℕ → ℕ → Type 0) (f : List ℕ) (from n : ℕ) (f' : List ℕ) : Type 0 where
   pub long : length f' ≡ length f
-  pub filled : (i : ℕ) → i < n → at f' (from + i) ≡ g i
+  pub filled : (i : ℕ) → i < n → P i (at f' (from + i))
   pub kept : (i : ℕ) → (i < from) ⊎ (from + n ≤ i) → at f' i ≡ at f i
+
+-- these are g 0, …, g (n - 1)
+abbrev pub FormFilled : (f : List ℕ) (from n : ℕ) (g : ℕ → ℕ) (f' : List ℕ) → Type 0
+FormFilled f from n g f' = FormFilledBy (λ i v. v ≡ g i) f from n f'
 
 -- n bytes of s, each step after the one before
 abbrev pub run : (s : List ℕ) (from step : ℕ) → ℕ → ℕ
@@ -71,6 +79,12 @@ pub record SupportsUpTo (s f : List ℕ) (m : ℕ) : Type 0 where
   pub each : Supports s f m
   pub last_is : entry_start f m ≡ support_start s m
 
+-- the bytes s are accepted, their parts lie where t says, and f has room for a form
+pub record Laid (s : List ℕ) (t : Layout) (f : List ℕ) : Type 0 where
+  pub passed : refusal wide s ≡ 0
+  pub parts : t ≡ layout wide s
+  pub room : form_size ≤ length f
+
 -- f' holds the table of the accepted bytes s without its entries of weight 0, and how many entries each of its transitions lists;
 -- it is f past the end of a form
 pub record Loads (s f f' : List ℕ) : Type 0 where
@@ -80,8 +94,8 @@ pub record Loads (s f f' : List ℕ) : Type 0 where
   pub long : length f' ≡ length f
   pub beyond : drop form_size f' ≡ drop form_size f
 
--- r is the refusal of the bytes s; f' is loaded where there is none, and f as it was otherwise
-pub record Reads (s f : List ℕ) (r : ℕ) (f' : List ℕ) : Type 0 where
-  pub number : r ≡ refusal wide s
+-- r tells the refusal of the bytes s; f' is loaded where there is none, and f as it was otherwise
+pub record Reads (s f : List ℕ) (r : Result (Unit {0}) Refusal) (f' : List ℕ) : Type 0 where
+  pub told : PassesUnless (refusal wide s) r
   pub accepted : refusal wide s ≡ 0 → Loads s f f'
   pub refused : refusal wide s ≢ 0 → f' ≡ f

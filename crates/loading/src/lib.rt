@@ -1,20 +1,20 @@
 // Loads the table of bytes into its decoded form: a column at a time, and the entries of each transition without those of weight 0.
 #![tactic(auto)]
 
-ghost use Rattle.std.specs.Prelude.{◌≡◌, [], ◌∷◌, ◌+◌, ◌*◌, ◌≤◌, ◌<◌, length};
+ghost use Rattle.std.specs.Prelude.{◌≡◌, ℕ, [], ◌∷◌, ◌+◌, ◌*◌, ◌≤◌, ◌<◌, length};
 ghost use Rattle.simulation.specs.Sum.{sum};
 ghost use Rattle.simulation.specs.Limits.{wide, most_transitions, most_entries};
 ghost use Rattle.simulation.specs.Support.{support_entries};
-ghost use Rattle.layout.specs.Bytes.{half, transitions, refusal};
-ghost use Rattle.table.specs.Stages.{layout};
+ghost use Rattle.layout.specs.Bytes.{transitions};
 ghost use Rattle.form.specs.Form.{form_size, entries_listed_from, entry_starts_from, listed_from};
-ghost use Rattle.loading.specs.Fill.{FormFilled, run, Runs, Counts, Columns, Between, Loads, Reads};
+ghost use Rattle.loading.specs.Fill.{FormFilled, FormFilledBy, run, Runs, Counts, Columns, Between, Laid, Loads, Reads};
 ghost use Rattle.loading.specs.Fill.{entry_in, entries_in, EntriesPut, SupportsUpTo};
 
 use form::Form;
 use items::cursor::{byte_at, half_at};
+use layout::{Refusal, TableBytes};
 use simulation::Width;
-use table::parts::{Layout, TableAnswer};
+use table::parts::Layout;
 use table::read;
 
 // A number at a place.
@@ -25,85 +25,65 @@ fn put(form: &mut [u16], at: usize, v: u16)
     form[at] = v;
 }
 
-// A column of n bytes, each step after the one before.
-fn put_bytes(form: &mut [u16], to: usize, s: &[u8], from: usize, step: usize, n: usize)
-    requires { Runs s.now from step n form.old to }
-    ensures { FormFilled form.old to n (run s.now from step) form.new }
-{
-    let mut i: usize = 0;
-    while i < n {
-        form[to + i] = s[from + step * i] as u16;
-        i += 1;
-    }
-}
-
 // The sums of the first 0, 1, .. n of these bytes.
 fn put_sums(form: &mut [u16], to: usize, s: &[u8], from: usize, step: usize, n: usize)
     requires { Runs s.now from step n form.old to × (to + n < length form.old) × (n ≤ most_transitions) }
     ensures { FormFilled form.old to (n + 1) (λ i. sum i (run s.now from step)) form.new }
 {
     let mut sum: u16 = 0;
-    let mut i: usize = 0;
-    while i < n {
+    for i in 0..n {
         form[to + i] = sum;
         sum += s[from + step * i] as u16;
-        i += 1;
     }
     form[to + n] = sum;
 }
 
-// A column of n fields of two bytes, each step after the one before.
-fn put_halves(form: &mut [u16], to: usize, s: &[u8], from: usize, step: usize, n: usize)
-    requires { Runs s.now (from + 1) step n form.old to }
-    ensures { FormFilled form.old to n (λ i. half s.now (from + step * i)) form.new }
+// A column of n numbers from a place on, those that value gives.
+fn put_column<F: Fn(usize) -> u16>(form: &mut [u16], to: usize, n: usize, value: F)
+    requires room { to + n ≤ length form.old }
+    requires callable { (i : ℕ) → i < n → F.pre value i }
+    ensures { FormFilledBy (F.post value) form.old to n form.new }
 {
-    let mut i: usize = 0;
-    while i < n {
-        form[to + i] = half_at(s, from + step * i) as u16;
-        i += 1;
+    for i in 0..n {
+        form[to + i] = value(i);
     }
 }
 
 // The counts and the starts.
 fn put_counts(form: &mut [u16], s: &[u8], t: Layout)
-    requires { (refusal wide s.now ≡ 0) × (t ≡ layout wide s.now) × (form_size ≤ length form.old) }
+    requires { Laid s.now t form.old }
     ensures { Counts s.now form.new × Between 0 entries_listed_from form.old form.new }
 {
-    put(form, Form::STATES_AT, t.states as u16);
+    put(form, Form::STATES_AT, t.states.count as u16);
     put(form, Form::ACTIONS_AT, t.actions as u16);
-    put_sums(form, Form::STARTS_AT, s, t.counts_at, 1, t.states);
+    put_sums(form, Form::STARTS_AT, s, t.states.at, 1, t.states.count);
 }
 
 // The columns of transitions and of listed codes.
 fn put_columns(form: &mut [u16], s: &[u8], t: Layout)
-    requires { (refusal wide s.now ≡ 0) × (t ≡ layout wide s.now) × (form_size ≤ length form.old) }
+    requires { Laid s.now t form.old }
     ensures { Columns s.now form.new × Between entries_listed_from form_size form.old form.new }
 {
     let step = Width::WIDE + 1;
-    let sizes_at = t.transitions_at + Width::WIDE;
-    put_bytes(
+    let codes_at = t.transitions.at;
+    let sizes_at = codes_at + Width::WIDE;
+    put_column(
         form,
         Form::ENTRIES_LISTED_AT,
-        s,
-        sizes_at,
-        step,
-        t.transitions,
+        t.transitions.count,
+        |j| byte_at(s, sizes_at + step * j) as u16,
     );
-    put_halves(
+    put_column(
         form,
         Form::CODES_AT,
-        s,
-        t.transitions_at,
-        step,
-        t.transitions,
+        t.transitions.count,
+        |j| half_at(s, codes_at + step * j) as u16,
     );
-    put_halves(
+    put_column(
         form,
         Form::LISTED_AT,
-        s,
-        Width::WIDE,
-        Width::WIDE,
         t.actions,
+        |i| half_at(s, Width::WIDE + Width::WIDE * i) as u16,
     );
 }
 
@@ -135,25 +115,25 @@ fn put_entries(form: &mut [u16], s: &[u8], p: usize, size: usize, n: usize) -> u
 
 // The entries of all transitions, and where those of each begin.
 fn put_supports(form: &mut [u16], s: &[u8], t: Layout)
-    requires { (refusal wide s.now ≡ 0) × (t ≡ layout wide s.now) × (form_size ≤ length form.old) }
+    requires { Laid s.now t form.old }
     ensures { SupportsUpTo s.now form.new (transitions wide s.now)
         × Between entry_starts_from listed_from form.old form.new }
 {
-    let sizes_at = t.transitions_at + Width::WIDE;
-    let mut at = t.entries_at;
+    let sizes_at = t.transitions.at + Width::WIDE;
+    let mut at = t.entries.at;
     let mut n: usize = 0;
-    for j in 0..t.transitions {
+    for j in 0..t.transitions.count {
         let size = byte_at(s, sizes_at + (Width::WIDE + 1) * j);
         form[Form::ENTRY_STARTS_AT + j] = n as u16;
         n = put_entries(form, s, at, size, n);
         at += 3 * size;
     }
-    form[Form::ENTRY_STARTS_AT + t.transitions] = n as u16;
+    form[Form::ENTRY_STARTS_AT + t.transitions.count] = n as u16;
 }
 
 // The whole form.
 fn fill(form: &mut [u16], s: &[u8], t: Layout)
-    requires { (refusal wide s.now ≡ 0) × (t ≡ layout wide s.now) × (form_size ≤ length form.old) }
+    requires { Laid s.now t form.old }
     ensures { Loads s.now form.old form.new }
 {
     put_counts(form, s, t);
@@ -161,17 +141,12 @@ fn fill(form: &mut [u16], s: &[u8], t: Layout)
     put_supports(form, s, t);
 }
 
-// Checks the bytes and loads their table into a form: 0, or the number of the refusal, which leaves the form as it was.
-pub fn load(bytes: &[u8], form: &mut [u16]) -> u8
+// Checks the bytes and loads their table into a form, or tells what refuses them and leaves the form as it was.
+pub fn load(bytes: &[u8], form: &mut [u16]) -> Result<(), Refusal>
     requires { form_size ≤ length form.old }
     ensures { Reads bytes.now form.old result form.new }
 {
-    let answer = read(bytes, Width::WIDE);
-    match answer {
-        TableAnswer::Refused(number) => number,
-        TableAnswer::Accepted(t) => {
-            fill(form, bytes, t);
-            0
-        }
-    }
+    let t = read(&TableBytes::wide(bytes))?;
+    fill(form, bytes, t);
+    Ok(())
 }

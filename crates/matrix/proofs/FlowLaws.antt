@@ -15,6 +15,10 @@ use Rattle.relation.specs.Related.{holds}
 use Rattle.matrix.specs.Matrix.{cell, delta, AddsAt, Adds}
 use Rattle.matrix.specs.Masks.{Used}
 use Rattle.matrix.specs.Flow.{missing, Supported, Small, Flow, Preserves, Extends, Improves}
+use Rattle.matrix.specs.Lists.{SameList}
+use Rattle.matrix.specs.Held.{SameLists}
+use Rattle.matrix.specs.declared.flow.Flow.{Flow as Held}
+use Rattle.std.specs.Borrow.{MutBor}
 use Rattle.matrix.proofs.MatrixLaws.{delta_eq, delta-other, sum-delta, row_adds, column_adds, cell_le, outside_refl, outside_trans, outside_adds}
 
 -- d less left at the row and the column
@@ -54,6 +58,24 @@ module _ {rel x a b u x' a' b' u' : List ℕ} (s : Improves (length a) (length b
 
   pub improves-on : {x'' a'' b'' u'' : List ℕ} → Improves (length a') (length b') rel x' a' b' u' x'' a'' b'' u'' → Improves (length a) (length b) rel x a b u x'' a'' b'' u''
   improves-on {x''} {a''} {b''} {u''} t = improves_trans s (subst₂ (λ (p q : ℕ). Improves p q rel x' a' b' u' x'' a'' b'' u'') s.same_a s.same_b t)
+
+-- lists that stay the same
+pub same_list_refl : {x : MutBor (List ℕ)} → SameList x x
+same_list_refl = record { name = refl; same_length = refl }
+
+pub same_list_trans : {x y z : MutBor (List ℕ)} → SameList x y → SameList y z → SameList x z
+same_list_trans s t = record { name = t.name ∙ s.name; same_length = t.same_length ∙ s.same_length }
+
+pub same_lists_refl : {f : Held} → SameLists f f
+same_lists_refl = record { amounts = same_list_refl; supply = same_list_refl; demand = same_list_refl; senders = same_list_refl }
+
+pub same_lists_trans : {f g h : Held} → SameLists f g → SameLists g h → SameLists f h
+same_lists_trans s t = record {
+  amounts = same_list_trans s.amounts t.amounts;
+  supply = same_list_trans s.supply t.supply;
+  demand = same_list_trans s.demand t.demand;
+  senders = same_list_trans s.senders t.senders;
+}
 
 -- d more along a path from row r to column c
 pub improved : {p q : ℕ} {rel x a b u x' a' b' u' : List ℕ} {r c d : ℕ} → Flow p q rel x a b u → length x' ≡ length x → length a' ≡ length a → length b' ≡ length b → length u' ≡ length u

@@ -4,3 +4,5 @@ pub mod Problem
 pub mod Matrix
 pub mod Masks
 pub mod Flow
+pub mod Lists
+pub mod Held

@@ -1,9 +1,9 @@
 -- What the flow kernel is asked: two distributions, with weights ws and vs, and a relation between their positions.
 -- A position of the first is a row, a position of the second a column.
 -- Assumes nothing.
-use Rattle.std.specs.Prelude.{Bool, List, ℕ, ◌≤◌, ◌<◌, ◌≡◌, length, get_or}
+use Rattle.std.specs.Prelude.{Bool, List, ℕ, ◌≤◌, length, get_or}
 use Rattle.simulation.specs.Limits.{most_pairs, most_states, most_total}
-use Rattle.simulation.specs.Fit.{total, Positive}
+use Rattle.simulation.specs.Fit.{total}
 use Rattle.relation.specs.Related.{holds}
 use Rattle.relation.specs.Rows.{height}
 
@@ -13,21 +13,6 @@ pub record Given (ws vs rel x : List ℕ) : Type 0 where
   pub few_columns : length vs ≤ most_states
   pub masks : length ws ≤ height rel
   pub cells : most_pairs ≤ length x
-  pub total_ws : total ws ≤ most_total
-  pub total_vs : total vs ≤ most_total
-
--- the same over the states of two tables: weights ws at the targets ms and vs at the targets ts, and rows that relate states
-pub record Sides (ms ws ts vs rows : List ℕ) : Type 0 where
-  pub rows_paired : length ms ≡ length ws
-  pub columns_paired : length ts ≡ length vs
-  pub few_rows : length ws ≤ most_states
-  pub few_columns : length vs ≤ most_states
-  pub some_rows : 0 < length ws
-  pub some_columns : 0 < length vs
-  pub row_states : (i : ℕ) → i < length ms → get_or ms i 0 < height rows
-  pub column_states : (j : ℕ) → j < length ts → get_or ts j 0 < most_states
-  pub positive_ws : Positive ws
-  pub positive_vs : Positive vs
   pub total_ws : total ws ≤ most_total
   pub total_vs : total vs ≤ most_total
 

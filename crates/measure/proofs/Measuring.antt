@@ -1,17 +1,19 @@
 -- The length of a pair from those of the pairs below it, where long ones are given as the greatest number.
 -- Assumes nothing.
+use Rattle.form.specs.declared.tables.Tables.{Tables}
 use mathlib.Core.Path.{◌≡◌, refl, sym, ap, ◌∙◌, subst}
 use mathlib.Core.Bool.{Bool, true, false, ◌&&◌}
-use mathlib.Core.List.{List}
+use mathlib.Core.List.{List, [], ◌∷◌, ◌++◌}
+use Rattle.std.specs.Prelude.{Option, Some, None}
 use mathlib.Core.Logic.{◌≢◌}
-use Prim.Native.Nat.{ℕ, zero, suc, ◌+◌, ◌-◌, ◌*◌, ◌/◌, ◌%◌, ◌≤◌, ◌<◌, min, zero-le}
+use Prim.Native.Nat.{ℕ, zero, suc, ◌+◌, ◌*◌, ◌/◌, ◌%◌, ◌≤◌, ◌<◌, min, zero-le}
 use native.Mathlib.Nat.{le_refl, mul-le-mul_right, div-add-mod'}
 use native.Mathlib.Omega.{arith}
 use native.Mathlib.Decide.{ℕ_discrete}
 use lib.Dec.{T, eqb, eqb→eq, ltb, ltb→lt, lt→ltb}
-use lib.ListN.{length, get_or, set, take, length-set}
-use lib.Seq.{get_or-set_same, get_or-set_other, get_or-take, length-take-le}
-use Rattle.simulation.specs.Limits.{most_states, most_pairs}
+use lib.ListN.{length, get_or, set, take, length-set, length-append}
+use lib.Seq.{get_or-set_same, get_or-set_other, get_or-take, length-take-le, get_or-append_seam, take-append_seam, take-length, take-take}
+use Rattle.simulation.specs.Limits.{most_states}
 use Rattle.simulation.specs.Sum.{sum, any, when}
 use Rattle.simulation.specs.Table.{Table, targets, target_at, states_of}
 use Rattle.simulation.specs.Round.{pairs}
@@ -22,7 +24,7 @@ use Rattle.simulation.proofs.Finite.Tests.{and_left, and_right, and_both, same_e
 use Rattle.simulation.proofs.Trees.Length.{pair_length-step}
 use Rattle.form.specs.Tables.{first_form, first_table, contract_table, first_step, BothLoaded}
 use Rattle.form.proofs.FormLaws.{sound}
-use Rattle.form.proofs.Contract.{contract-few, contract-pairs}
+use Rattle.form.proofs.Contract.{contract-few}
 use Rattle.word.specs.Mask.{Test, member}
 use Rattle.relation.specs.Rows.{row_of}
 use Rattle.relate.specs.Ranked.{RanksRight}
@@ -34,7 +36,7 @@ use Rattle.counting.proofs.Pairs.{from-number, lost-place, lost-low, number-plac
 use Rattle.counting.proofs.Targets.{ChoiceGiven, targets-are, count-is, few-targets, state-low, state-row, set_at, child-lost, length-parts}
 use Rattle.passing.specs.Passing.{Found, Later, Above, PairNoted}
 use Rattle.order.specs.Order.{Ordered}
-use Rattle.measure.specs.Lengths.{set_length, SumGiven, Measured, most, children_length, most_children, ChildrenGiven, Holds, MeasureGiven, PairGiven, AllHold, TreeMeasured}
+use Rattle.measure.specs.Lengths.{set_length, SumGiven, NotAbove, Measured, most, children_length, most_children, ChildrenGiven, Holds, MeasureGiven, PairGiven, AllHold, TreeMeasured}
 
 -- ---- the loop over the children
 
@@ -48,15 +50,15 @@ set-small width lengths s X w h =
     )
 
 -- the length of the children before i
-pub record LengthLoop (tables lengths targets sets : List ℕ) (len i : ℕ) : Type 0 where
+pub record LengthLoop (tables : Tables) (lengths targets sets : List ℕ) (len i : ℕ) : Type 0 where
   pub is : len ≡ children_length (states_of (contract_table tables)) lengths targets sets i
   pub inside : i ≤ length targets
 
 -- at first there is none
-pub length-start : (tables lengths targets sets : List ℕ) → LengthLoop tables lengths targets sets 0 0
+pub length-start : (tables : Tables) (lengths targets sets : List ℕ) → LengthLoop tables lengths targets sets 0 0
 length-start tables lengths targets sets = record { is = sum-none _; inside = zero-le }
 
-module _ {tables lengths targets sets : List ℕ} (g : ChildrenGiven tables lengths targets sets) (small : (i : ℕ) → get_or lengths i 0 ≤ most) where
+module _ {tables : Tables} {lengths targets sets : List ℕ} (g : ChildrenGiven tables lengths targets sets) (small : (i : ℕ) → get_or lengths i 0 ≤ most) where
   abbrev width : ℕ
   width = states_of (contract_table tables)
 
@@ -119,7 +121,7 @@ min-same c n = omega arith
 
 -- ---- a pair
 
-module _ {tables ranks lengths sets amounts : List ℕ} {s t : ℕ} (g : PairGiven tables ranks lengths sets amounts s t) where
+module _ {tables : Tables} {ranks lengths sets amounts : List ℕ} {s t : ℕ} (g : PairGiven tables ranks lengths sets amounts s t) where
   abbrev M : Table
   M = first_table tables
 
@@ -159,16 +161,13 @@ module _ {tables ranks lengths sets amounts : List ℕ} {s t : ℕ} (g : PairGiv
 
       module _ (r : ℕ) (er : r ≡ children_length (states_of N) lengths ts sets' (length ts)) where
         -- the sum, cut at the greatest number, is the pair's length
-        pub pair_over : most < head_length + r → most ≡ min most (pair_length M N s t)
-        pair_over h = omega (arith, er, pair_total)
-
-        pub pair_under : head_length + r ≤ most → head_length + r ≡ min most (pair_length M N s t)
-        pair_under h = omega (arith, er, pair_total)
+        pub pair-least : min (head_length + r) most ≡ min most (pair_length M N s t)
+        pair-least = omega (arith, er, pair_total)
 
 -- ---- the walk up the list
 
 -- what is lent keeps its lengths
-measure_still : {tables ranks lengths sets amounts lengths' sets' amounts' : List ℕ} → MeasureGiven tables ranks lengths sets amounts
+measure_still : {tables : Tables} {ranks lengths sets amounts lengths' sets' amounts' : List ℕ} → MeasureGiven tables ranks lengths sets amounts
     → length lengths' ≡ length lengths → length sets' ≡ length sets → length amounts' ≡ length amounts → MeasureGiven tables ranks lengths' sets' amounts'
 measure_still g e es ea =
     record {
@@ -178,103 +177,122 @@ measure_still g e es ea =
       amounts_room = omega (arith, g.amounts_room, ea);
     }
 
--- the pairs from place i on are measured
-pub record MeasureLoop (tables ranks order : List ℕ) (n : ℕ) (lengths₀ sets₀ amounts₀ lengths sets amounts : List ℕ) (i : ℕ) : Type 0 where
+-- the pairs are measured but those of `left`, the list up to some place
+pub record MeasureLoop (tables : Tables) (ranks order : List ℕ) (n : ℕ) (lengths₀ sets₀ amounts₀ lengths sets amounts left : List ℕ) : Type 0 where
   pub given : MeasureGiven tables ranks lengths sets amounts
-  pub inside : i ≤ n
-  pub done : (k : ℕ) → i ≤ k → k < n → Holds tables lengths (row tables (get_or order k 0)) (column tables (get_or order k 0))
+  pub front : left ≡ take (length left) order
+  pub inside : length left ≤ n
+  pub done : (k : ℕ) → length left ≤ k → k < n → Holds tables lengths (row tables (get_or order k 0)) (column tables (get_or order k 0))
   pub same_lengths : length lengths ≡ length lengths₀
   pub same-sets : length sets ≡ length sets₀
   pub same-amounts : length amounts ≡ length amounts₀
 
 -- at first none is measured
-pub measure_start : {tables ranks order lengths sets amounts : List ℕ} {n : ℕ} → MeasureGiven tables ranks lengths sets amounts
-    → MeasureLoop tables ranks order n lengths sets amounts lengths sets amounts n
-measure_start g = record { given = g; inside = le_refl _; done = λ k a b. absurd (omega arith); same_lengths = refl; same-sets = refl; same-amounts = refl }
+pub measure_start : {tables : Tables} {ranks order lengths sets amounts left : List ℕ} → MeasureGiven tables ranks lengths sets amounts → left ≡ order
+    → MeasureLoop tables ranks order (length order) lengths sets amounts lengths sets amounts left
+measure_start {order = order} {left = left} g e =
+    record {
+      given = g;
+      front = e ∙ sym (ap (λ (l : List ℕ). take (length l) order) e ∙ take-length order);
+      inside = omega (arith, ap length e);
+      done = λ k a b. absurd (omega (arith, ap length e));
+      same_lengths = refl;
+      same-sets = refl;
+      same-amounts = refl;
+    }
 
-module _ {tables ranks order : List ℕ} {n : ℕ} {lengths₀ sets₀ amounts₀ lengths sets amounts : List ℕ} {i : ℕ} (o : Ordered tables order n)
-    (l : MeasureLoop tables ranks order n lengths₀ sets₀ amounts₀ lengths sets amounts i) where
+module _ {tables : Tables} {ranks order : List ℕ} {n : ℕ} {lengths₀ sets₀ amounts₀ lengths sets amounts left : List ℕ} (o : Ordered tables order n)
+    (l : MeasureLoop tables ranks order n lengths₀ sets₀ amounts₀ lengths sets amounts left) where
   -- after the first place all are measured
-  pub measure_end : i ≤ 0 → AllHold tables order lengths n
-  measure_end z = record { at = λ k b. l.done k (omega arith) b }
+  pub measure_end : length left ≡ 0 → AllHold tables order lengths n
+  measure_end z = record { at = λ k b. l.done k (omega (arith, z)) b }
 
-  module _ (pos : 0 < i) where
-    abbrev p : ℕ
-    p = get_or order (i - 1) 0
+  -- p is the last of those that are left
+  module _ (left' : List ℕ) (p : ℕ) (last : left ≡ left' ++ p ∷ []) where
+    abbrev i : ℕ
+    i = length left'
 
-    place : i - 1 < n
-    place = omega (arith, l.inside)
+    size : length left ≡ i + 1
+    size = ap length last ∙ length-append left' (p ∷ [])
 
-    -- the place before i, and the places of its pair
-    pub place-known : (i - 1 < length order) × (i - 1 < most_pairs)
-    place-known = (omega (arith, place, o.fits), omega (arith, place, o.few))
+    place : i < n
+    place = omega (arith, size, l.inside)
+
+    here : get_or order i 0 ≡ p
+    here =
+        sym (get_or-take (length left) order i 0 (omega (arith, size)))
+        ∙ ap (λ (l : List ℕ). get_or l i 0) (sym l.front ∙ last) ∙ get_or-append_seam left' p [] 0
+
+    front : left' ≡ take i order
+    front = sym (take-append_seam left' (p ∷ [])) ∙ ap (take i) (sym last ∙ l.front) ∙ take-take i (length left) order (omega (arith, size))
+
+    listed : Above tables (λ u v. Later order n i (number tables u v)) p
+    listed = subst (Above tables (λ u v. Later order n i (number tables u v))) here (o.at i place)
 
     is_number : number tables (row tables p) (column tables p) ≡ p
     is_number = div-add-mod' p (states_of (contract_table tables))
 
     low : p < pairs (first_table tables) (contract_table tables)
-    low = number-place tables p (o.at (i - 1) place).lost
+    low = number-place tables p listed.lost
 
     pub pair_noted : (choices : List ℕ) → pairs (first_table tables) (contract_table tables) ≤ length choices → p < length choices
     pair_noted choices room = omega (arith, low)
 
-    pub pair_in : (p < length lengths) × (p < most_pairs)
-    pair_in = (omega (arith, low, l.given.room), omega (arith, low, contract-pairs tables l.given.ranked.loaded))
+    pub pair_in : p < length lengths
+    pair_in = omega (arith, low, l.given.room)
 
     here-given : PairGiven tables ranks lengths sets amounts (row tables p) (column tables p)
     here-given =
-        let a = o.at (i - 1) place in
         record {
           given = l.given;
-          lost = a.lost;
+          lost = listed.lost;
           below = λ j v b h.
-              let q = a.below j v b h in
-              let c = (below-lost tables l.given.ranked.loaded (row tables p) (column tables p) a.lost j v b h).0.right in
-              from-number tables (Holds tables lengths) _ v (get_or order q.0 0) c q.3 (l.done q.0 (omega (arith, q.1)) q.2);
+              let q = listed.below j v b h in
+              let c = (below-lost tables l.given.ranked.loaded (row tables p) (column tables p) listed.lost j v b h).0.right in
+              from-number tables (Holds tables lengths) _ v (get_or order q.0 0) c q.3 (l.done q.0 (omega (arith, q.1, size)) q.2);
         }
 
     -- that pair can be measured
     pub measure_pair : {choices : List ℕ} → PairNoted tables order n choices → (width : ℕ) → width ≡ states_of (contract_table tables)
         → PairGiven tables ranks lengths sets amounts (p / width) (p % width) × Choice tables (p / width) (p % width) (get_or choices p 0)
-    measure_pair {choices} c width e =
-        subst (λ (w : ℕ). PairGiven tables ranks lengths sets amounts (p / w) (p % w) × Choice tables (p / w) (p % w) (get_or choices p 0)) (sym e) (here-given, c.at (i - 1) place)
+    measure_pair {choices} c wide e =
+        subst (λ (w : ℕ). PairGiven tables ranks lengths sets amounts (p / w) (p % w) × Choice tables (p / w) (p % w) (get_or choices p 0)) (sym e)
+        (here-given, subst (λ (p : ℕ). Choice tables (row tables p) (column tables p) (get_or choices p 0)) here (c.at i place))
 
     -- its length is noted
     pub measure_next : (width r : ℕ) → width ≡ states_of (contract_table tables) → r ≡ min most (pair_length (first_table tables) (contract_table tables) (p / width) (p % width))
         → {sets' amounts' : List ℕ} → length sets' ≡ length sets → length amounts' ≡ length amounts
-        → MeasureLoop tables ranks order n lengths₀ sets₀ amounts₀ (set lengths p r) sets' amounts' (i - 1)
-    measure_next width r e er es ea =
+        → MeasureLoop tables ranks order n lengths₀ sets₀ amounts₀ (set lengths p r) sets' amounts' left'
+    measure_next wide r e er es ea =
         record {
           given = measure_still l.given (length-set lengths p r) es ea;
-          inside = omega (arith, l.inside);
+          front = front;
+          inside = omega (arith, place);
           done = λ k a b. at k a b (ℕ_discrete (get_or order k 0) p);
           same_lengths = length-set lengths p r ∙ l.same_lengths;
           same-sets = es ∙ l.same-sets;
           same-amounts = ea ∙ l.same-amounts;
         }
       where
-        here : Holds tables (set lengths p r) (row tables p) (column tables p)
-        here =
+        measured-here : Holds tables (set lengths p r) (row tables p) (column tables p)
+        measured-here =
             ap (λ (k : ℕ). get_or (set lengths p r) k 0) is_number
-            ∙ get_or-set_same lengths p r 0 pair_in.0
+            ∙ get_or-set_same lengths p r 0 pair_in
             ∙ er
             ∙ ap (λ (w : ℕ). min most (pair_length (first_table tables) (contract_table tables) (p / w) (p % w))) e
 
-        at : (k : ℕ) → i - 1 ≤ k → k < n → Dec (get_or order k 0 ≡ p) → Holds tables (set lengths p r) (row tables (get_or order k 0)) (column tables (get_or order k 0))
-        at k a b (yes q) = subst (λ (z : ℕ). Holds tables (set lengths p r) (row tables z) (column tables z)) (sym q) here
+        at : (k : ℕ) → i ≤ k → k < n → Dec (get_or order k 0 ≡ p) → Holds tables (set lengths p r) (row tables (get_or order k 0)) (column tables (get_or order k 0))
+        at k a b (yes q) = subst (λ (z : ℕ). Holds tables (set lengths p r) (row tables z) (column tables z)) (sym q) measured-here
         at k a b (no d) =
             let z = get_or order k 0 in
-            let later : i ≤ k = omega (arith, other k d) in
+            let other : k ≢ i = λ q. d (ap (λ (j : ℕ). get_or order j 0) q ∙ here) in
             get_or-set_other lengths p (number tables (row tables z) (column tables z)) r 0 (λ q. d (sym (div-add-mod' z (states_of (contract_table tables))) ∙ q))
-            ∙ l.done k later b
-          where
-            other : (k : ℕ) → (get_or order k 0 ≡ p → ⊥) → k ≢ i - 1
-            other k d q = d (ap (λ (j : ℕ). get_or order j 0) q)
+            ∙ l.done k (omega (arith, other, size)) b
 
 -- ---- the list lent as a part
 
 -- the places of a part have what the list has there
-module _ {tables order : List ℕ} {n : ℕ} (o : Ordered tables order n) where
+module _ {tables : Tables} {order : List ℕ} {n : ℕ} (o : Ordered tables order n) where
   pub part-size : length (take n order) ≡ n
   part-size = length-take-le n order o.fits
 
@@ -312,12 +330,12 @@ module _ {tables order : List ℕ} {n : ℕ} (o : Ordered tables order n) where
 -- ---- the root
 
 -- what asking for the root's length rests on
-pub root_asked : {tables : List ℕ} (lengths : List ℕ) {s t : ℕ} → BothLoaded tables → pairs (first_table tables) (contract_table tables) ≤ length lengths → Lost tables s t
+pub root_asked : {tables : Tables} (lengths : List ℕ) {s t : ℕ} → BothLoaded tables → pairs (first_table tables) (contract_table tables) ≤ length lengths → Lost tables s t
     → BothLoaded tables × (s < most_states) × (t < most_states) × (number tables s t < length lengths)
 root_asked lengths l room lost = let low = lost-low lost l in (l, low.0, low.1, omega (arith, lost-place lost))
 
 -- a pair below a pair is not longer
-child-short : (tables : List ℕ) → BothLoaded tables → (s t : ℕ) → Lost tables s t → (i v : ℕ)
+child-short : (tables : Tables) → BothLoaded tables → (s t : ℕ) → Lost tables s t → (i v : ℕ)
     → i < length (chosen (first_table tables) (contract_table tables) s t).entries → T (set_of (first_table tables) (contract_table tables) s t i v)
     → pair_length (first_table tables) (contract_table tables) (target_at (chosen (first_table tables) (contract_table tables) s t) i) v ≤ pair_length (first_table tables) (contract_table tables) s t
 unfolding one_length
@@ -337,7 +355,7 @@ child-short tables l s t p i v b h =
     when-holds true n h = refl
     when-holds false n h = absurd h
 
-module _ {tables ranks choices lengths order : List ℕ} {n : ℕ} (g : RanksRight tables ranks) (o : Ordered tables order n) (c : PairNoted tables order n choices)
+module _ {tables : Tables} {ranks choices lengths order : List ℕ} {n : ℕ} (g : RanksRight tables ranks) (o : Ordered tables order n) (c : PairNoted tables order n choices)
     (a : AllHold tables order lengths n) (s t : ℕ) (lost : Lost tables s t) (f : Found order n (number tables s t)) where
   abbrev size-at : ℕ → ℕ → ℕ
   size-at u v = get_or lengths (number tables u v) 0
@@ -421,10 +439,11 @@ module _ {tables ranks choices lengths order : List ℕ} {n : ℕ} (g : RanksRig
           })
 
   -- the tree's length is the root's and one byte more
-  pub tree-measured : {len : ℕ} → len ≡ min (longest + 1) (1 + size-at s t) → TreeMeasured tables choices lengths s t len
-  tree-measured e = record { length = omega (arith, root-holds); measured = λ k. measured (omega arith) }
+  pub tree-measured : {len : Option ℕ} → NotAbove longest (1 + size-at s t) len → TreeMeasured tables choices lengths s t len
+  tree-measured {len = Some n} e = record { length = (omega (arith, root-holds, e.0, e.1), e.1); measured = λ _. measured (omega (arith, e.0, e.1)) }
+  tree-measured {len = None} e = record { length = omega (arith, root-holds, e); measured = λ h. cc }
 
 -- a tree that is too long is measured no further
-pub tree-long : {tables choices lengths : List ℕ} {s t : ℕ} → longest < tree_length (first_table tables) (contract_table tables) s t
-    → TreeMeasured tables choices lengths s t (longest + 1)
-tree-long h = record { length = omega arith; measured = λ k. absurd (omega arith) }
+pub tree-long : {tables : Tables} {choices lengths : List ℕ} {s t : ℕ} → longest < tree_length (first_table tables) (contract_table tables) s t
+    → TreeMeasured tables choices lengths s t None
+tree-long h = record { length = h; measured = λ e. cc }

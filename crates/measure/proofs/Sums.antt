@@ -1,5 +1,6 @@
 -- The lengths of a set of pairs, added up.
 -- Assumes nothing.
+use Rattle.form.specs.declared.tables.Tables.{Tables}
 use mathlib.Core.Path.{◌≡◌, refl, sym, ap, ◌∙◌}
 use mathlib.Core.Bool.{not, ◌&&◌, and-true, and-false}
 use mathlib.Core.List.{List}
@@ -32,15 +33,11 @@ sum_lowest n f X t lt l =
 -- ---- the loop that adds up
 
 -- the sum so far and the lengths of the members left are 1 and the lengths of all
-pub record SumLoop (tables lengths : List ℕ) (s members len left : ℕ) : Type 0 where
+pub record SumLoop (tables : Tables) (lengths : List ℕ) (s members len left : ℕ) : Type 0 where
   pub total : len + set_length (states_of (contract_table tables)) lengths s (member left) ≡ 1 + set_length (states_of (contract_table tables)) lengths s (member members)
   pub kept : (t : ℕ) → T (member left t) → T (member members t)
 
--- at first all are left
-pub sum-start : (tables lengths : List ℕ) (s members : ℕ) → SumLoop tables lengths s members 1 members
-sum-start tables lengths s members = record { total = refl; kept = λ t h. h }
-
-module _ {tables lengths : List ℕ} {s members len left : ℕ} (g : SumGiven tables lengths s members) (l : SumLoop tables lengths s members len left)
+module _ {tables : Tables} {lengths : List ℕ} {s members len left : ℕ} (g : SumGiven tables lengths s members) (l : SumLoop tables lengths s members len left)
     {t : ℕ} (low : Lowest (member left) t) where
   -- the lowest member left is a state, and its length can be added
   pub sum_inside : t < states_of (contract_table tables)
@@ -63,7 +60,7 @@ module _ {tables lengths : List ℕ} {s members len left : ℕ} (g : SumGiven ta
       }
 
 -- when none is left, all are added
-pub sum-end : {tables lengths : List ℕ} {s members len left : ℕ} → SumLoop tables lengths s members len left → left ≡ 0
+pub sum-end : {tables : Tables} {lengths : List ℕ} {s members len left : ℕ} → SumLoop tables lengths s members len left → left ≡ 0
     → len ≡ 1 + set_length (states_of (contract_table tables)) lengths s (member members)
 sum-end {tables} {lengths} {s} {left = left} l z =
     let n = states_of (contract_table tables) in

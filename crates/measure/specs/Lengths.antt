@@ -1,6 +1,7 @@
 -- The lengths of the pairs that a tree meets, from the pairs with none below them up.
 -- Assumes nothing.
-use Rattle.std.specs.Prelude.{◌≡◌, Bool, List, ℕ, ◌+◌, ◌*◌, ◌^◌, ◌≤◌, ◌<◌, min, T, length, get_or}
+use Rattle.form.specs.declared.tables.Tables.{Tables}
+use Rattle.std.specs.Prelude.{◌≡◌, Bool, List, Option, MatchOption, IsSome, ℕ, ◌+◌, ◌*◌, ◌^◌, ◌≤◌, ◌<◌, min, T, length, get_or}
 use Rattle.simulation.specs.Limits.{most_pairs, most_states}
 use Rattle.simulation.specs.Sum.{sum, when}
 use Rattle.simulation.specs.Table.{target_at, states_of}
@@ -24,7 +25,7 @@ abbrev pub set_length : (width : ℕ) (lengths : List ℕ) (s : ℕ) → (ℕ �
 set_length width lengths s X = sum width (λ t. when (X t) (get_or lengths (s * width + t) 0))
 
 -- what adding them up rests on
-pub record SumGiven (tables lengths : List ℕ) (s members : ℕ) : Type 0 where
+pub record SumGiven (tables : Tables) (lengths : List ℕ) (s members : ℕ) : Type 0 where
   pub loaded : BothLoaded tables
   pub low : s < most_states
   pub inside : (t : ℕ) → T (member members t) → t < states_of (contract_table tables)
@@ -40,7 +41,7 @@ abbrev pub most_children : ℕ
 most_children = most_states * (4 + most_states * most)
 
 -- what adding them up rests on
-pub record ChildrenGiven (tables lengths targets sets : List ℕ) : Type 0 where
+pub record ChildrenGiven (tables : Tables) (lengths targets sets : List ℕ) : Type 0 where
   pub loaded : BothLoaded tables
   pub few : length targets ≤ most_states
   pub words : length targets ≤ height sets
@@ -48,7 +49,11 @@ pub record ChildrenGiven (tables lengths targets sets : List ℕ) : Type 0 where
   pub inside : (i t : ℕ) → i < length targets → T (member (row_of sets i) t) → t < states_of (contract_table tables)
   pub room : (i : ℕ) → i < length targets → get_or targets i 0 * states_of (contract_table tables) + states_of (contract_table tables) ≤ length lengths
 
-module _ (tables : List ℕ) where
+-- the number n if it is not above the bound
+abbrev pub NotAbove : (bound n : ℕ) → Option ℕ → Type 0
+NotAbove bound n r = MatchOption r (bound < n) (λ k. (k ≡ n) × (k ≤ bound))
+
+module _ (tables : Tables) where
   -- the pair (s, t) is not kept, and the lists hold the transitions and the lengths of all pairs that its tree meets: a set of pairs that has with a pair all pairs below it
   pub record Measured (choices lengths : List ℕ) (s t : ℕ) : Type 0 where
     pub met : ℕ → ℕ → Bool
@@ -81,7 +86,7 @@ module _ (tables : List ℕ) where
   pub record AllHold (order lengths : List ℕ) (n : ℕ) : Type 0 where
     pub at : (k : ℕ) → k < n → Holds lengths (row tables (get_or order k 0)) (column tables (get_or order k 0))
 
-  -- the tree's length, and the transitions and lengths of all pairs that it meets, if it is short enough
-  pub record TreeMeasured (choices lengths : List ℕ) (s t len : ℕ) : Type 0 where
-    pub length : len ≡ min (longest + 1) (tree_length (first_table tables) (contract_table tables) s t)
-    pub measured : len ≤ longest → Measured choices lengths s t
+  -- the tree's length, if the tree is short enough, and the transitions and lengths of all pairs that it meets
+  pub record TreeMeasured (choices lengths : List ℕ) (s t : ℕ) (len : Option ℕ) : Type 0 where
+    pub length : NotAbove longest (tree_length (first_table tables) (contract_table tables) s t) len
+    pub measured : IsSome len → Measured choices lengths s t

@@ -16,22 +16,22 @@ ghost use Rattle.counting.specs.Count.{longest};
 ghost use Rattle.passing.specs.Passing.{OrderGiven, PairNoted};
 ghost use Rattle.order.specs.Order.{Ordered};
 ghost use Rattle.measure.specs.Lengths.{most, set_length, SumGiven, children_length, most_children, ChildrenGiven, MeasureGiven, PairGiven};
-ghost use Rattle.measure.specs.Lengths.{AllHold, TreeMeasured};
+ghost use Rattle.measure.specs.Lengths.{AllHold, NotAbove, TreeMeasured};
 
 use choice::{find_sets, rank_at};
 use counting::count::{HEAD, LONGEST};
 use counting::pair::number;
-use form::{Form, tables};
+use form::Tables;
 use order::list;
 use relation::{Relation, rows};
-use set::{Set, walk};
+use set::Set;
 use word::Word;
 
 // A longer length is given as this number.
 pub const MOST: u32 = 4_294_967_295;
 
 // How many bytes the transition of the pair (s, t) takes.
-pub fn pair_length(tables: &[u16], lengths: &[u32], s: usize, t: usize) -> usize
+pub fn pair_length(tables: &Tables, lengths: &[u32], s: usize, t: usize) -> usize
     requires { BothLoaded tables.now × (s < most_states) × (t < most_states) × (number tables.now s t < length lengths.now) }
     ensures { result ≡ get_or lengths.now (number tables.now s t) 0 }
 {
@@ -39,40 +39,33 @@ pub fn pair_length(tables: &[u16], lengths: &[u32], s: usize, t: usize) -> usize
 }
 
 // How many bytes the node of a state and a set takes.
-pub fn node_length(tables: &[u16], lengths: &[u32], s: usize, members: Set) -> usize
+pub fn node_length(tables: &Tables, lengths: &[u32], s: usize, members: Set) -> usize
     requires { SumGiven tables.now lengths.now s (mask members) }
     ensures { result ≡ 1 + set_length (states_of (contract_table tables.now)) lengths.now s (member (mask members)) }
 {
     let mut len = 1;
-    for w in 0..Set::WORDS {
-        let mut left = members.words[w];
-        while left != 0 {
-            let t = walk::lowest(members, w, left);
-            len += pair_length(tables, lengths, s, t);
-            left = walk::without_lowest(members, w, left);
-        }
+    for t in members {
+        len += pair_length(tables, lengths, s, t);
     }
     len
 }
 
 // The bytes of a transition's children.
-fn children_length(tables: &[u16], lengths: &[u32], targets: &[u16], sets: &[Word]) -> usize
+fn children_length(tables: &Tables, lengths: &[u32], targets: &[u16], sets: &[Word]) -> usize
     requires { ChildrenGiven tables.now lengths.now targets.now sets.now }
     ensures { (result ≡ children_length (states_of (contract_table tables.now)) lengths.now targets.now sets.now
         (length targets.now)) × (result ≤ most_children) }
 {
     let mut len = 0;
-    for i in 0..targets.len() {
-        let s = targets[i] as usize;
-        let members = rows::get(sets, i);
-        len += 3 + node_length(tables, lengths, s, members);
+    for (i, &s) in targets.iter().enumerate() {
+        len += 3 + node_length(tables, lengths, s as usize, rows::get(sets, i));
     }
     len
 }
 
 // The length of the pair (s, t), whose transition is j, from those of the pairs below it.
 fn measure_pair(
-    tables: &[u16],
+    tables: &Tables,
     ranks: &[u16],
     s: usize,
     t: usize,
@@ -86,22 +79,13 @@ fn measure_pair(
 {
     let r = rank_at(tables, ranks, s, t);
     find_sets(tables, ranks, s, t, r, j, sets, amounts);
-    let len = HEAD
-        + children_length(
-            tables,
-            lengths,
-            tables::targets(tables, Form::FIRST, j),
-            sets,
-        );
-    if (MOST as usize) < len {
-        return MOST;
-    }
-    len as u32
+    let len = HEAD + children_length(tables, lengths, tables.first.targets(j), sets);
+    len.min(MOST as usize) as u32
 }
 
 // The lengths of the pairs of the list, in which each pair is before all pairs below it.
 fn measure(
-    tables: &[u16],
+    tables: &Tables,
     ranks: &[u16],
     order: &[u16],
     choices: &[u8],
@@ -114,11 +98,9 @@ fn measure(
         × (pairs (first_table tables.now) (contract_table tables.now) ≤ length choices.now) }
     ensures { AllHold tables.now order.now lengths.new (length order.now) }
 {
-    let width = tables::width(tables);
-    let mut i = order.len();
-    while 0 < i {
-        i -= 1;
-        let p = order[i] as usize;
+    let width = tables.width();
+    for &p in order.iter().rev() {
+        let p = p as usize;
         let j = choices[p] as usize;
         let len = measure_pair(
             tables,
@@ -136,7 +118,7 @@ fn measure(
 
 // The same, with the sets made here: what lies in the frame of a function with one caller shares its place with what was there before.
 fn measure_all(
-    tables: &[u16],
+    tables: &Tables,
     ranks: &[u16],
     order: &[u16],
     choices: &[u8],
@@ -153,22 +135,22 @@ fn measure_all(
     measure(tables, ranks, order, choices, lengths, &mut sets, amounts);
 }
 
-// The bytes of the tree of the pair (s, t), a count and the pair's transition; LONGEST + 1 for any number above LONGEST.
-fn root_length(tables: &[u16], lengths: &[u32], s: usize, t: usize) -> u32
+// The bytes of the tree of the pair (s, t), a count and the pair's transition, if they are not too many.
+fn root_length(tables: &Tables, lengths: &[u32], s: usize, t: usize) -> Option<u32>
     requires { BothLoaded tables.now × (s < most_states) × (t < most_states) × (number tables.now s t < length lengths.now) }
-    ensures { result ≡ min (longest + 1) (1 + get_or lengths.now (number tables.now s t) 0) }
+    ensures { NotAbove longest (1 + get_or lengths.now (number tables.now s t) 0) result }
 {
     let len = lengths[number(tables, s, t)];
     if LONGEST <= len {
-        return LONGEST + 1;
+        return None;
     }
-    len + 1
+    Some(len + 1)
 }
 
-// How many bytes the tree of the pair (s, t) takes, which is not kept; LONGEST + 1 for any number above LONGEST.
+// How many bytes the tree of the pair (s, t) takes, which is not kept, if it is not too long.
 // The transitions and the lengths of the pairs that it meets are noted for the writing of it.
 pub fn tree_length(
-    tables: &[u16],
+    tables: &Tables,
     ranks: &[u16],
     s: usize,
     t: usize,
@@ -176,15 +158,12 @@ pub fn tree_length(
     choices: &mut [u8],
     lengths: &mut [u32],
     amounts: &mut [u32],
-) -> u32
+) -> Option<u32>
     requires { OrderGiven tables.now ranks.now order.old choices.old amounts.old × Lost tables.now s t
         × (pairs (first_table tables.now) (contract_table tables.now) ≤ length lengths.old) }
     ensures { TreeMeasured tables.now choices.new lengths.new s t result }
 {
-    let n = list(tables, ranks, s, t, order, choices, lengths, amounts);
-    if n == 0 {
-        return LONGEST + 1;
-    }
+    let n = list(tables, ranks, s, t, order, choices, lengths, amounts)?;
     measure_all(tables, ranks, &order[..n], choices, lengths, amounts);
     root_length(tables, lengths, s, t)
 }

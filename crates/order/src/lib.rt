@@ -7,92 +7,57 @@ ghost use Rattle.simulation.specs.Round.{pairs};
 ghost use Rattle.form.specs.Tables.{first_table, contract_table, BothLoaded};
 ghost use Rattle.choice.specs.Choice.{Lost};
 ghost use Rattle.counting.specs.Count.{OneCounted};
-ghost use Rattle.passing.specs.Passing.{trail, OrderGiven, Walking};
+ghost use Rattle.passing.specs.Passing.{OrderGiven, Walking};
 ghost use Rattle.order.specs.Order.{PairsListed, RankPassed, RanksPassed};
 
 use choice::rank_at;
-use counting::count;
 use counting::count::LONGEST;
 use counting::pair::number;
-use form::{Form, tables};
-use passing::{Room, Walk, pass_row};
-use relation::rows;
-use set::{Set, walk};
+use form::Tables;
+use passing::Walk;
+use relation::{Relation, rows};
+use set::Set;
 use simulation::Table;
 use word::Word;
 
-// The pairs of the walk's rank, where none of a higher rank is left.
-fn pass_rank(
-    tables: &[u16],
-    ranks: &[u16],
-    order: &mut [u16],
-    choices: &mut [u8],
-    counts: &mut [u32],
-    room: &mut [Word],
-    amounts: &mut [u32],
-    w: Walk,
-) -> Walk
-    requires { Walking tables.now ranks.now (trail order.old choices.old counts.old room.old amounts.old) w }
-    ensures { RankPassed tables.now
-        (trail order.old choices.old counts.old room.old amounts.old) w
-        (trail order.new choices.new counts.new room.new amounts.new) result }
+// The pairs of a rank, where none of a higher rank is left.
+fn pass_rank(walk: &mut Walk, tables: &Tables, ranks: &[u16], rank: u16)
+    requires { Walking tables.now ranks.now rank walk.old }
+    ensures { RankPassed tables.now rank walk.old walk.new }
 {
-    let mut v = w;
-    let ahead = w.rows;
-    for k in 0..Set::WORDS {
-        let mut left = ahead.words[k];
-        while left != 0 {
-            let s = walk::lowest(ahead, k, left);
-            v.s = s as u8;
-            v = pass_row(tables, ranks, order, choices, counts, room, amounts, v);
-            left = walk::without_lowest(ahead, k, left);
-        }
+    for s in walk.rows {
+        walk.pass_row(tables, ranks, rank, s);
     }
-    v
 }
 
-// All pairs, from the walk's rank down, unless the bytes counted become too many.
-fn pass_ranks(
-    tables: &[u16],
-    ranks: &[u16],
-    order: &mut [u16],
-    choices: &mut [u8],
-    counts: &mut [u32],
-    room: &mut [Word],
-    amounts: &mut [u32],
-    w: Walk,
-) -> Walk
-    requires { Walking tables.now ranks.now (trail order.old choices.old counts.old room.old amounts.old) w }
-    ensures { RanksPassed tables.now
-        (trail order.old choices.old counts.old room.old amounts.old) w
-        (trail order.new choices.new counts.new room.new amounts.new) result }
+// All pairs, from a rank down, unless the bytes counted become too many.
+fn pass_ranks(walk: &mut Walk, tables: &Tables, ranks: &[u16], from: u16)
+    requires { Walking tables.now ranks.now from walk.old }
+    ensures { RanksPassed tables.now walk.old walk.new }
 {
-    let mut v = w;
-    while 0 < v.rank {
-        v = pass_rank(tables, ranks, order, choices, counts, room, amounts, v);
-        if LONGEST < v.bytes {
-            return v;
+    for rank in (1..=from).rev() {
+        pass_rank(walk, tables, ranks, rank);
+        if LONGEST < walk.bytes {
+            return;
         }
-        v.rank = v.rank - 1;
     }
-    v
 }
 
 // Every count is 0 but that of the pair (s, t), which is 1.
-fn count_one(tables: &[u16], s: usize, t: usize, counts: &mut [u32])
+fn count_one(tables: &Tables, s: usize, t: usize, counts: &mut [u32])
     requires { BothLoaded tables.now × Lost tables.now s t × (pairs (first_table tables.now) (contract_table tables.now) ≤ length counts.old) }
     ensures { OneCounted tables.now s t counts.new }
 {
-    let all = tables::states(tables, Form::FIRST) * tables::width(tables);
-    count::clear_counts(counts, all);
+    let all = tables.first.states() * tables.width();
+    counts[..all].fill(0);
     let p = number(tables, s, t);
     counts[p] = 1;
 }
 
 // Lists the pairs that the tree of (s, t) meets, which is not kept, each before all pairs below it, and notes their transitions.
-// Returns how many there are, or 0 if the tree is too long. What the counts hold at first and in the end is free.
+// Returns how many there are, unless the tree is too long. What the counts hold at first and in the end is free.
 pub fn list(
-    tables: &[u16],
+    tables: &Tables,
     ranks: &[u16],
     s: usize,
     t: usize,
@@ -100,26 +65,30 @@ pub fn list(
     choices: &mut [u8],
     counts: &mut [u32],
     amounts: &mut [u32],
-) -> usize
+) -> Option<usize>
     requires { OrderGiven tables.now ranks.now order.old choices.old amounts.old × Lost tables.now s t
         × (pairs (first_table tables.now) (contract_table tables.now) ≤ length counts.old) }
     ensures { PairsListed tables.now s t order.new choices.new result }
 {
-    let mut room: [Word; Room::WORDS] = [1; Room::WORDS];
-    rows::clear(&mut room, Table::STATES);
-    rows::put(&mut room, s, set::single(t));
+    let mut todo: [Word; Relation::WORDS] = [1; Relation::WORDS];
+    rows::clear(&mut todo, Table::STATES);
+    rows::put(&mut todo, s, Set::single(t));
+    let mut sets: [Word; 2 * Relation::WORDS] = [1; 2 * Relation::WORDS];
     count_one(tables, s, t, counts);
-    let w = Walk {
-        s: s as u8,
-        t: t as u8,
-        rank: rank_at(tables, ranks, s, t),
-        bytes: 1,
+    let mut walk = Walk {
+        order,
+        choices,
+        counts,
+        todo: &mut todo,
+        sets: &mut sets,
+        amounts,
         count: 0,
-        rows: set::single(s),
+        bytes: 1,
+        rows: Set::single(s),
     };
-    let all = pass_ranks(tables, ranks, order, choices, counts, &mut room, amounts, w);
-    if LONGEST < all.bytes {
-        return 0;
+    pass_ranks(&mut walk, tables, ranks, rank_at(tables, ranks, s, t));
+    if LONGEST < walk.bytes {
+        return None;
     }
-    all.count
+    Some(walk.count)
 }

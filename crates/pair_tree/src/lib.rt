@@ -3,40 +3,48 @@
 // which the compiler writes in words, where zeros become a call of memset.
 #![tactic(auto)]
 
-ghost use Rattle.std.specs.Prelude.{◌≤◌, ◌<◌, length};
-ghost use Rattle.simulation.specs.Limits.{few_pairs, most_pairs};
+ghost use Rattle.std.specs.Prelude.{◌≡◌, ◌≤◌, length};
+ghost use Rattle.simulation.specs.Limits.{most_pairs};
 ghost use Rattle.simulation.specs.Round.{pairs};
-ghost use Rattle.form.specs.Tables.{first_table, contract_table};
+ghost use Rattle.form.specs.Tables.{first_table, contract_table, BothLoaded};
 ghost use Rattle.relate.specs.Ranked.{RanksRight};
 ghost use Rattle.choice.specs.Choice.{Lost};
 ghost use Rattle.measure.specs.Lengths.{TreeMeasured};
 ghost use Rattle.pair_tree.specs.Put.{TreePut};
 
-use counting::count::LONGEST;
-use form::{Form, tables};
+use answer::Refusal;
+use form::Tables;
 use simulation::Table;
-use tree::write;
+use tree::write::{Source, tree};
 
 // The most pairs that a short order has room for. It lies beside the long one on the stack, so it is shorter than the other arrays for few pairs.
 const SHORT_ORDER: usize = 256;
 
-// How many bytes the tree of the pair takes, LONGEST + 1 for any number above LONGEST, with the transitions and the lengths of the pairs
-// that it meets. Their order lives here only.
+// How many pairs of states there are.
+fn pairs(tables: &Tables) -> usize
+    requires { BothLoaded tables.now }
+    ensures { result ≡ pairs (first_table tables.now) (contract_table tables.now) }
+{
+    tables.first.states() * tables.width()
+}
+
+// How many bytes the tree of the pair takes, if it is not too long, with the transitions and the lengths of the pairs that it meets. Their order
+// lives here only.
 fn tree_length(
-    tables: &[u16],
+    tables: &Tables,
     ranks: &[u16],
     s: usize,
     t: usize,
     choices: &mut [u8],
     lengths: &mut [u32],
     amounts: &mut [u32],
-) -> u32
+) -> Option<u32>
     requires { RanksRight tables.now ranks.now × Lost tables.now s t × (most_pairs ≤ length amounts.old)
         × (pairs (first_table tables.now) (contract_table tables.now) ≤ length choices.old)
         × (pairs (first_table tables.now) (contract_table tables.now) ≤ length lengths.old) }
     ensures { TreeMeasured tables.now choices.new lengths.new s t result }
 {
-    if tables::states(tables, Form::FIRST) * tables::width(tables) <= SHORT_ORDER {
+    if pairs(tables) <= SHORT_ORDER {
         let mut order = [1u16; SHORT_ORDER];
         return measure::tree_length(tables, ranks, s, t, &mut order, choices, lengths, amounts);
     }
@@ -44,10 +52,10 @@ fn tree_length(
     measure::tree_length(tables, ranks, s, t, &mut order, choices, lengths, amounts)
 }
 
-// Writes the tree of a pair that is not kept, if it is short enough and there is room for it, and returns its length, LONGEST + 1 for any above
-// LONGEST. Choices and lengths have room for all pairs.
+// Writes the tree of a pair that is not kept, if it is short enough and there is room for it, and returns its length.
+// Choices and lengths have room for all pairs.
 fn put_tree_in(
-    tables: &[u16],
+    tables: &Tables,
     ranks: &[u16],
     s: usize,
     t: usize,
@@ -55,35 +63,43 @@ fn put_tree_in(
     lengths: &mut [u32],
     amounts: &mut [u32],
     buf: &mut [u8],
-) -> u32
+) -> Result<u32, Refusal>
     requires { RanksRight tables.now ranks.now × Lost tables.now s t × (most_pairs ≤ length amounts.old)
         × (pairs (first_table tables.now) (contract_table tables.now) ≤ length choices.old)
         × (pairs (first_table tables.now) (contract_table tables.now) ≤ length lengths.old) }
     ensures { TreePut (first_table tables.now) (contract_table tables.now) s t result buf.old buf.new }
 {
-    let len = tree_length(tables, ranks, s, t, choices, lengths, amounts);
-    if LONGEST < len || buf.len() < len as usize {
-        return len;
+    let Some(len) = tree_length(tables, ranks, s, t, choices, lengths, amounts) else {
+        return Err(Refusal::LongTree);
+    };
+    if buf.len() < len as usize {
+        return Err(Refusal::ShortTree(len));
     }
-    write::tree(tables, ranks, choices, lengths, s, t, amounts, buf);
-    len
+    let src = Source {
+        tables,
+        ranks,
+        choices,
+        lengths,
+    };
+    tree(&src, s, t, amounts, buf);
+    Ok(len)
 }
 
-// The same in room for few pairs.
-fn put_tree_of_few(
-    tables: &[u16],
+// The same in room for N pairs, which are all.
+fn put_tree_of<const N: usize>(
+    tables: &Tables,
     ranks: &[u16],
     s: usize,
     t: usize,
     amounts: &mut [u32],
     buf: &mut [u8],
-) -> u32
+) -> Result<u32, Refusal>
     requires { RanksRight tables.now ranks.now × Lost tables.now s t × (most_pairs ≤ length amounts.old)
-        × (pairs (first_table tables.now) (contract_table tables.now) ≤ few_pairs) }
+        × (pairs (first_table tables.now) (contract_table tables.now) ≤ N) × (N ≤ most_pairs) }
     ensures { TreePut (first_table tables.now) (contract_table tables.now) s t result buf.old buf.new }
 {
-    let mut choices = [1u8; Table::FEW_PAIRS];
-    let mut lengths = [1u32; Table::FEW_PAIRS];
+    let mut choices = [1u8; N];
+    let mut lengths = [1u32; N];
     put_tree_in(
         tables,
         ranks,
@@ -98,29 +114,18 @@ fn put_tree_of_few(
 
 // The same for any tables.
 pub fn put_tree(
-    tables: &[u16],
+    tables: &Tables,
     ranks: &[u16],
     s: usize,
     t: usize,
     amounts: &mut [u32],
     buf: &mut [u8],
-) -> u32
+) -> Result<u32, Refusal>
     requires { RanksRight tables.now ranks.now × Lost tables.now s t × (most_pairs ≤ length amounts.old) }
     ensures { TreePut (first_table tables.now) (contract_table tables.now) s t result buf.old buf.new }
 {
-    if tables::states(tables, Form::FIRST) * tables::width(tables) <= Table::FEW_PAIRS {
-        return put_tree_of_few(tables, ranks, s, t, amounts, buf);
+    if pairs(tables) <= Table::FEW_PAIRS {
+        return put_tree_of::<{ Table::FEW_PAIRS }>(tables, ranks, s, t, amounts, buf);
     }
-    let mut choices = [1u8; Table::PAIRS];
-    let mut lengths = [1u32; Table::PAIRS];
-    put_tree_in(
-        tables,
-        ranks,
-        s,
-        t,
-        &mut choices,
-        &mut lengths,
-        amounts,
-        buf,
-    )
+    put_tree_of::<{ Table::PAIRS }>(tables, ranks, s, t, amounts, buf)
 }

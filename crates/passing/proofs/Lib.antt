@@ -1,6 +1,5 @@
 -- What the proofs of several functions use.
 -- Assumes nothing.
-pub mod Parts
 pub mod Listing
 pub mod Passing
 pub mod Walks

@@ -3,25 +3,23 @@
 use mathlib.Core.Path.{◌≡◌, refl, sym, ap, ap₂, ◌∙◌, subst}
 use mathlib.Core.Bool.{Bool, true, false, ◌&&◌, ◌||◌}
 use mathlib.Core.List.{List}
-use Prim.Native.Nat.{ℕ, zero, suc, ◌+◌, ◌≤◌, ◌<◌, zero-le}
+use Prim.Native.Nat.{ℕ, zero, suc, ◌+◌, ◌/◌, ◌≤◌, ◌<◌, zero-le}
 use native.Mathlib.Numerals.{add-one}
 use native.Mathlib.Omega.{arith}
 use native.Mathlib.Decide.{ℕ_discrete}
 use lib.Dec.{eqb}
 use lib.ListN.{length, get_or}
 use borrow.Author.Tests.{eq-eqb, ne_eqb}
-use Rattle.simulation.specs.Limits.{most_states}
 use Rattle.simulation.specs.Sum.{sum, any, when}
 use Rattle.simulation.proofs.Finite.Sums.{sum_ext, sum_one, sum-zero, sum_swap, sum_pick, sum_strict, one-most}
 use Rattle.simulation.proofs.Finite.Tests.{any_none}
 use Rattle.word.specs.Mask.{Test, member, with_member, either}
-use Rattle.set.specs.Words.{mask}
+use Rattle.set.specs.Words.{words, mask}
 use Rattle.relation.specs.Rows.{row_of, height, put_row}
 use Rattle.set.specs.declared.Set.{Set}
 use Rattle.relation.proofs.RowLaws.{length_put, row_put, row_put_other}
 use Rattle.choice.proofs.Choosing.{eqb_flip}
-use Rattle.passing.specs.Passing.{todo_in, sets_in, HasRoom, ChildrenLent, ChildrenAdded}
-use Rattle.passing.proofs.Parts.{todo_row, sets-row, todo_put, sets_put, todo_height}
+use Rattle.passing.specs.Passing.{ChildrenLent, ChildrenAdded}
 use Rattle.counting.specs.Count.{child}
 
 -- ---- the targets of a transition
@@ -35,96 +33,69 @@ or_join true b c = refl
 or_join false b c = refl
 
 -- the pairs of the targets before i are added
-pub record ChildrenLoop (targets room₀ : List ℕ) (rows₀ : ℕ) (room : List ℕ) (rows i : ℕ) : Type 0 where
+pub record ChildrenLoop (targets sets todo₀ : List ℕ) (rows₀ : ℕ) (todo : List ℕ) (rows i : ℕ) : Type 0 where
   pub inside : i ≤ length targets
-  pub same-room : length room ≡ length room₀
-  pub same-sets : sets_in room ≡ sets_in room₀
-  pub added : ChildrenAdded targets (sets_in room₀) i (todo_in room₀) rows₀ (todo_in room) rows
+  pub same-todo : length todo ≡ length todo₀
+  pub added : ChildrenAdded targets sets i todo₀ rows₀ todo rows
 
 -- at first no pair is added
-pub children_start : (targets room : List ℕ) (rows : ℕ) → ChildrenLoop targets room rows room rows 0
-children_start targets room rows =
+pub children_start : (targets sets todo : List ℕ) (rows : ℕ) → ChildrenLoop targets sets todo rows todo rows 0
+children_start targets sets todo rows =
     record {
       inside = zero-le;
-      same-room = refl;
-      same-sets = refl;
+      same-todo = refl;
       added = record {
-        listed = λ u v. sym (ap (λ b. b || member (row_of (todo_in room) u) v) (any_none (child targets (sets_in room) u v)));
+        listed = λ u v. sym (ap (λ b. b || member (row_of todo u) v) (any_none (child targets sets u v)));
         opened = λ u. sym (ap (λ b. b || member rows u) (any_none (λ i. eqb (get_or targets i 0) u)));
       };
     }
 
-module _ {targets room₀ : List ℕ} {rows₀ : ℕ} {room : List ℕ} {rows i : ℕ} (g : ChildrenLent targets room₀)
-    (l : ChildrenLoop targets room₀ rows₀ room rows i) (lt : i < length targets) where
-  abbrev sets : List ℕ
-  sets = sets_in room₀
-
-  abbrev todo : List ℕ
-  todo = todo_in room
-
-  enough : HasRoom room
-  enough = omega (arith, g.rows, l.same-room)
-
-  low : i < most_states
-  low = omega (arith, g.few)
+module _ {targets sets todo₀ : List ℕ} {rows₀ : ℕ} {todo : List ℕ} {rows i : ℕ} (g : ChildrenLent targets sets todo₀)
+    (l : ChildrenLoop targets sets todo₀ rows₀ todo rows i) (lt : i < length targets) where
+  abbrev s : ℕ
+  s = get_or targets i 0
 
   -- the next target has a row, and its set too
-  pub target_row : get_or targets i 0 < height room
-  target_row = omega (arith, g.low i lt, enough)
+  pub target_row : s < height todo
+  target_row = omega (arith, g.low i lt, g.rows, ap (λ (n : ℕ). n / words) l.same-todo)
 
-  pub set-row : most_states + i < height room
-  set-row = omega (arith, low, enough)
+  pub set-row : i < height sets
+  set-row = omega (arith, g.few, g.words)
 
   -- its pairs are added
-  pub children_next : (joined : Set) {room' : List ℕ} {rows' : ℕ} → room' ≡ put_row room (get_or targets i 0) joined
-      → member (mask joined) ≡ either (member (row_of room (most_states + i))) (member (row_of room (get_or targets i 0)))
-      → member rows' ≡ with_member (get_or targets i 0) (member rows) → ChildrenLoop targets room₀ rows₀ room' rows' (i + 1)
-  children_next joined {room'} {rows'} er ej ers =
+  pub children_next : (joined : Set) {todo' : List ℕ} {rows' : ℕ} → todo' ≡ put_row todo s joined
+      → member (mask joined) ≡ either (member (row_of sets i)) (member (row_of todo s))
+      → member rows' ≡ with_member s (member rows) → ChildrenLoop targets sets todo₀ rows₀ todo' rows' (i + 1)
+  children_next joined {todo'} {rows'} et ej ers =
       record {
         inside = omega arith;
-        same-room = ap length er ∙ length_put room s joined ∙ l.same-room;
-        same-sets = ap (λ (r : List ℕ). sets_in r) er ∙ sets_put room s s-low joined ∙ l.same-sets;
+        same-todo = ap length et ∙ length_put todo s joined ∙ l.same-todo;
         added = record {
           listed = λ u v.
               at u v (ℕ_discrete u s) ∙ ap (λ b. child targets sets u v i || b) (l.added.listed u v)
-              ∙ or_join (child targets sets u v i) (any i (child targets sets u v)) (member (row_of (todo_in room₀) u) v)
-              ∙ sym (ap (λ b. b || member (row_of (todo_in room₀) u) v) (any_next i (child targets sets u v)));
+              ∙ or_join (child targets sets u v i) (any i (child targets sets u v)) (member (row_of todo₀ u) v)
+              ∙ sym (ap (λ b. b || member (row_of todo₀ u) v) (any_next i (child targets sets u v)));
           opened = λ u.
               ap (λ (X : Test). X u) ers ∙ ap₂ ◌||◌ (eqb_flip u s) (l.added.opened u) ∙ or_join (eqb s u) (any i (λ k. eqb (get_or targets k 0) u)) (member rows₀ u)
               ∙ sym (ap (λ b. b || member rows₀ u) (any_next i (λ k. eqb (get_or targets k 0) u)));
         };
       }
     where
-      s : ℕ
-      s = get_or targets i 0
-
-      s-low : s < most_states
-      s-low = g.low i lt
-
-      -- the row that is put, in the terms of the parts
-      row_is : member (mask joined) ≡ either (member (row_of sets i)) (member (row_of todo s))
-      row_is =
-          ej ∙ ap₂ (λ (m n : ℕ). either (member m) (member n))
-          (sym (ap (λ (z : List ℕ). row_of z i) (sym l.same-sets) ∙ sets-row room i low)) (sym (todo_row room s s-low))
-
-      et : todo_in room' ≡ put_row todo s joined
-      et = ap (λ (r : List ℕ). todo_in r) er ∙ todo_put room s s-low joined
-
-      at : (u v : ℕ) → Dec (u ≡ s) → member (row_of (todo_in room') u) v ≡ (child targets sets u v i || member (row_of todo u) v)
+      at : (u v : ℕ) → Dec (u ≡ s) → member (row_of todo' u) v ≡ (child targets sets u v i || member (row_of todo u) v)
       at u v (yes p) =
-          ap (λ (k : ℕ). member (row_of (todo_in room') k) v) p
-          ∙ ap (λ (k : ℕ). member k v) (ap (λ (l : List ℕ). row_of l s) et ∙ row_put todo s joined (omega (arith, s-low, todo_height room enough)))
-          ∙ ap (λ (X : Test). X v) row_is
+          ap (λ (k : ℕ). member (row_of todo' k) v) p
+          ∙ ap (λ (k : ℕ). member k v) (ap (λ (l : List ℕ). row_of l s) et ∙ row_put todo s joined target_row)
+          ∙ ap (λ (X : Test). X v) ej
           ∙ ap₂ (λ b k. (b && member (row_of sets i) v) || member (row_of todo k) v) (sym (eq-eqb s u (sym p))) (sym p)
       at u v (no d) =
           ap (λ (k : ℕ). member k v) (ap (λ (l : List ℕ). row_of l u) et ∙ row_put_other todo s u joined d)
           ∙ ap (λ b. (b && member (row_of sets i) v) || member (row_of todo u) v) (sym (ne_eqb s u (λ k. d (sym k))))
 
 -- after the last target the pairs of all are added
-pub children_end : {targets room₀ : List ℕ} {rows₀ : ℕ} {room : List ℕ} {rows i : ℕ} → ChildrenLoop targets room₀ rows₀ room rows i → length targets ≤ i
-    → ChildrenAdded targets (sets_in room₀) (length targets) (todo_in room₀) rows₀ (todo_in room) rows
-children_end {targets} {room₀} {rows₀} {room} {rows} {i} l h =
-    subst (λ (n : ℕ). ChildrenAdded targets (sets_in room₀) n (todo_in room₀) rows₀ (todo_in room) rows) (let e : i ≡ length targets = omega (arith, l.inside) in e) l.added
+pub children_end : {targets sets todo₀ : List ℕ} {rows₀ : ℕ} {todo : List ℕ} {rows i : ℕ} → ChildrenLoop targets sets todo₀ rows₀ todo rows i → length targets ≤ i
+    → ChildrenAdded targets sets (length targets) todo₀ rows₀ todo rows
+children_end {targets} {sets} {todo₀} {rows₀} {todo} {rows} {i} l h =
+    subst (λ (n : ℕ). ChildrenAdded targets sets n todo₀ rows₀ todo rows) (let e : i ≡ length targets = omega (arith, l.inside) in e) l.added
 
 -- ---- numbers that are all different
 

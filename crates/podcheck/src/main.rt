@@ -2,8 +2,9 @@
 // Short inputs, few pairs and short trees have short buffers: most of the work of a small check would else be to clear the largest.
 #![tactic(auto)]
 
-ghost use Rattle.std.specs.Prelude.{◌≡◌, ◌*◌, ◌≤◌, length, take};
+ghost use Rattle.std.specs.Prelude.{◌≡◌, ◌*◌, ◌<◌, ◌≤◌, length, take, drop, IfOk};
 ghost use Rattle.std.specs.Io.{ReadsAtMost};
+ghost use Rattle.std.specs.Io.KnownBytes.{Consumes, IsAtEnd};
 ghost use Rattle.printout.specs.Printed.{Counted};
 ghost use Rattle.simulation.specs.Limits.{few_pairs};
 ghost use Rattle.report.specs.Input.{most_input};
@@ -26,14 +27,13 @@ const TABLE: usize = Width::WIDE * (1 + Table::CODES)
 // One byte more than two accepted tables with their lengths take: an input that does not fill it has ended.
 const SHORT_INPUT: usize = 2 * (2 + TABLE) + 1;
 
-// Prints the answer and returns true, or nothing and false where it takes long buffers.
-fn print_short(out: &mut impl Write, input: &[u8], p: usize, q: usize) -> io::Result<bool>
+// Prints the answer from short buffers, if they do.
+fn print_short(out: &mut impl Write, input: &[u8], p: usize, q: usize) -> Option<io::Result<()>>
     requires { Counted input.now p q × (p * q ≤ few_pairs) }
 {
     let mut text = [0u8; report::SHORT_TEXT];
-    let len = printout::answer_short(input, p, q, &mut text);
-    out.write_all(&text[..len])?;
-    Ok(len != 0)
+    let len = printout::answer_short(input, p, q, &mut text)?;
+    Some(out.write_all(&text[..len]))
 }
 
 // Prints the answer.
@@ -50,16 +50,18 @@ fn run(out: &mut impl Write, input: &[u8]) -> io::Result<()> {
     let p = pod::states_of(report::first_table(input));
     let q = pod::states_of(report::second_table(input));
     if p * q <= Table::FEW_PAIRS {
-        if print_short(out, input, p, q)? {
-            return Ok(());
+        if let Some(printed) = print_short(out, input, p, q) {
+            return printed;
         }
     }
     print_long(out, input, p, q)
 }
 
 // Reads until the buffer is full or the input ends. Returns how many bytes it put at the start of the buffer.
-fn read_full(reader: &mut impl Read, buf: &mut [u8]) -> io::Result<usize>
-    ensures { ReadsAtMost result buf.new }
+fn read_full<R: Read>(reader: &mut R, buf: &mut [u8]) -> io::Result<usize>
+    ensures bound { ReadsAtMost result buf.new }
+    ensures bytes { IfOk result (λ n. Consumes (R.remaining reader.old) (R.remaining reader.new) (take n buf.new)) }
+    ensures end { IfOk result (λ n. n < length buf.new → IsAtEnd (R.remaining reader.new)) }
 {
     let mut done = 0;
     while done < buf.len() {
@@ -73,10 +75,12 @@ fn read_full(reader: &mut impl Read, buf: &mut [u8]) -> io::Result<usize>
 }
 
 // Reads on: the start of the input, which was read, and what follows it. Returns the length of both.
-fn read_on(start: &[u8], reader: &mut impl Read, input: &mut [u8]) -> io::Result<usize>
+fn read_on<R: Read>(start: &[u8], reader: &mut R, input: &mut [u8]) -> io::Result<usize>
     requires { length start.now ≤ length input.old }
     ensures input_after { take (length start.now) input.new ≡ start.now }
     ensures prefix_len { ReadsAtMost result input.new }
+    ensures bytes { IfOk result (λ n. Consumes (R.remaining reader.old) (R.remaining reader.new) (drop (length start.now) (take n input.new))) }
+    ensures end { IfOk result (λ n. n < length input.new → IsAtEnd (R.remaining reader.new)) }
 {
     let k = start.len();
     input[..k].copy_from_slice(start);

@@ -4,9 +4,9 @@ use mathlib.Core.Path.{◌≡◌, refl, sym, ap, ap₂, ◌∙◌, subst, subst�
 use mathlib.Core.List.{List}
 use mathlib.Core.Logic.{◌≢◌}
 use Prim.Native.Nat.{ℕ, ◌*◌, ◌≤◌}
-use native.Mathlib.Decide.{ℕ_discrete}
 use native.Mathlib.Omega.{arith}
 use lib.ListN.{length}
+use Rattle.std.specs.Prelude.{Option, Some, None, IsSome}
 use Rattle.answer.specs.declared.answer.Answer.{Answer}
 use Rattle.counting.specs.Count.{longest}
 use Rattle.compare.specs.Outcome.{Buffers, lent, left}
@@ -16,8 +16,7 @@ use Rattle.pod.proofs.Enough.{call_of, of_both, ranks-enough, tree-enough}
 use Rattle.report.specs.Input.{first_of_input, second_of_input}
 use Rattle.report.specs.Text.{answer_text}
 use Rattle.buffer.specs.Buffer.{Filled}
-use Rattle.report.proofs.Bounds.{some-text}
-use Rattle.printout.specs.Printed.{Counted, Printed, Answered}
+use Rattle.printout.specs.Printed.{Counted, Printed, TreeLonger, Answered}
 
 -- only the text for two accepted tables shows how many states they have
 same_text : {first second : List ℕ} {b : Buffers} {p q number table : ℕ} → StatesCounted first p → StatesCounted second q → Call first second 0 0 b number table
@@ -35,40 +34,25 @@ module _ (input : List ℕ) {first second ranks₀ flow₀ tree₀ ranks flow tr
   checked = subst₂ (λ (f s : List ℕ). Checked f s 0 0 (lent ranks₀ flow₀ tree₀) (left a (lent ranks flow tree))) ef es h
 
   -- the tree has no room
-  pub without-room : {before after : List ℕ} → a.number ≡ 22 → Answered input tree₀ before 0 after
+  pub without-room : a.number ≡ 22 → TreeLonger input tree₀
   without-room e =
-      record {
-        printed = λ d. absurd (d refl);
-        short = λ _. record { ranks = ranks₀; flow = flow₀; call = of_both (omega arith) (subst (λ (n : ℕ). Call (first_of_input input) (second_of_input input) 0 0 (lent ranks₀ flow₀ tree₀) n a.table) e (call_of checked)) };
-      }
+      record { ranks = ranks₀; flow = flow₀; call = of_both (omega arith) (subst (λ (n : ℕ). Call (first_of_input input) (second_of_input input) 0 0 (lent ranks₀ flow₀ tree₀) n a.table) e (call_of checked)) }
 
   -- the text of any other answer
   pub with_text : {written p q : ℕ} {before after : List ℕ} → Counted input p q → p * q ≤ length ranks₀ → a.number ≢ 22
-      → Filled (answer_text a.table a.number a.written p q ranks tree) written before after → Answered input tree₀ before written after
+      → Filled (answer_text a.table a.number a.written p q ranks tree) written before after → Printed input before written after
   with_text {written} {p} {q} {before} {after} sizes room d over =
       record {
-        printed = λ _. record {
-          buffers₀ = lent ranks₀ flow₀ tree₀;
-          answer = a;
-          buffers = lent ranks flow tree;
-          checked = checked;
-          ranks_fit = ranks-enough sizes.first_states sizes.second_states room (call_of checked);
-          tree_fits = d;
-          text = subst (λ (text : List ℕ). Filled text written before after) (same_text sizes.first_states sizes.second_states (call_of checked) a.written ranks tree) over;
-        };
-        short = λ z. absurd (omega (arith, over.count, some-text a.table a.number a.written p q ranks tree));
+        buffers₀ = lent ranks₀ flow₀ tree₀;
+        answer = a;
+        buffers = lent ranks flow tree;
+        checked = checked;
+        ranks_fit = ranks-enough sizes.first_states sizes.second_states room (call_of checked);
+        tree_fits = d;
+        text = subst (λ (text : List ℕ). Filled text written before after) (same_text sizes.first_states sizes.second_states (call_of checked) a.written ranks tree) over;
       }
 
 -- a tree buffer of the largest length is never too short
-pub always : {input tree before after : List ℕ} {written : ℕ} → longest ≤ length tree → Answered input tree before written after → Printed input before written after
-always {input} {tree} {before} {after} {written} le h = go (ℕ_discrete written 0)
-  where
-    go : Dec (written ≡ 0) → Printed input before written after
-    go (yes z) = absurd (tree-enough le (h.short z).call refl)
-    go (no d) = h.printed d
-
--- the tables of an input, counted
-pub counted : (input : List ℕ) {first second : List ℕ} {p q : ℕ} → first ≡ first_of_input input → second ≡ second_of_input input
-    → StatesCounted first p → StatesCounted second q → Counted input p q
-counted input {p = p} {q = q} ef es m n =
-    record { first_states = subst (λ (bytes : List ℕ). StatesCounted bytes p) ef m; second_states = subst (λ (bytes : List ℕ). StatesCounted bytes q) es n }
+pub always : (input tree before : List ℕ) (result : Option ℕ) (after : List ℕ) → longest ≤ length tree → Answered input tree before result after → IsSome result
+always input tree before (Some written) after le h = refl
+always input tree before None after le h = absurd (tree-enough le h.call refl)

@@ -1,6 +1,6 @@
 -- What is printed for an input: the text for the answer that the check gives to the two tables and the pair (0, 0).
 -- Assumes nothing.
-use Rattle.std.specs.Prelude.{◌≡◌, List, ◌≢◌, ℕ, ◌≤◌, length, take}
+use Rattle.std.specs.Prelude.{◌≡◌, List, ◌≢◌, ℕ, ◌≤◌, length, take, MatchOption, Option}
 use Rattle.answer.specs.declared.answer.Answer.{Answer}
 use Rattle.compare.specs.Outcome.{Buffers, lent, left}
 use Rattle.pod.specs.Check.{Checked, states_in, StatesCounted}
@@ -37,10 +37,9 @@ pub record TreeLonger (input tree : List ℕ) : Type 0 where
   pub flow : List ℕ
   pub call : Call (first_of_input input) (second_of_input input) 0 0 (lent ranks flow tree) 22 0
 
--- the text, or 0 where the tree is longer than its buffer
-pub record Answered (input tree before : List ℕ) (written : ℕ) (after : List ℕ) : Type 0 where
-  pub printed : written ≢ 0 → Printed input before written after
-  pub short : written ≡ 0 → TreeLonger input tree
+-- the length of the text, or none where the tree is longer than its buffer
+abbrev pub Answered : (input tree before : List ℕ) → Option ℕ → (after : List ℕ) → Type 0
+Answered input tree before result after = MatchOption result (TreeLonger input tree) (λ written. Printed input before written after)
 
 -- the text lies in its buffer, as a part of it that begins at its start needs it
 abbrev pub TextWithin : ℕ → List ℕ → Type 0

@@ -1,6 +1,7 @@
 -- The first round's rows and ranks, and what is returned at the end.
 -- Assumes nothing.
-use mathlib.Core.Path.{◌≡◌, sym, ap, ap₂, ◌∙◌}
+use Rattle.form.specs.declared.tables.Tables.{Tables}
+use mathlib.Core.Path.{◌≡◌, sym, ap, ap₂, ◌∙◌, subst}
 use mathlib.Core.Bool.{Bool, ◌&&◌, and-false}
 use mathlib.Core.List.{List}
 use Prim.Native.Nat.{ℕ, ◌*◌, ◌+◌, ◌≤◌, ◌<◌}
@@ -50,12 +51,17 @@ refined_over u v c f =
       columns = f.columns;
     }
 
+-- ranks and rows that were lent come back
+pub returned : {M N : Table} {k : ℕ} {old ranks ranks' rows rows' : List ℕ} → ranks' ≡ ranks → rows' ≡ rows → Refined M N old ranks rows k → Refined M N old ranks' rows' k
+returned {M} {N} {k} {old} {ranks} {ranks'} {rows} {rows'} e f r =
+    subst (λ (l : List ℕ). Refined M N old l rows' k) (sym e) (subst (λ (l : List ℕ). Refined M N old ranks l k) (sym f) r)
+
 -- few pairs are kept
 pub kept-few : (rows : List ℕ) (n : ℕ) {k : ℕ} → n ≤ most_states → k ≡ pairs_of n (holds rows) → k ≤ most_pairs
 kept-few rows n a e = omega (arith, pairs-most (holds rows) n)
 
 -- the answer
-pub filled : (tables rows : List ℕ) {p k rounds : ℕ} {old new : List ℕ} → states_of (contract_table tables) ≤ most_states
+pub filled : (tables : Tables) (rows : List ℕ) {p k rounds : ℕ} {old new : List ℕ} → states_of (contract_table tables) ≤ most_states
     → pairs (first_table tables) (contract_table tables) ≤ length old → length new ≡ length old → p ≡ states_of (first_table tables) → Refined (first_table tables) (contract_table tables) old new rows rounds → k ≡ pairs_of p (holds rows) → RanksFilled tables old new rows rounds k
 filled tables rows {old = old} {new = new} few room same u f e =
     let M = first_table tables in

@@ -1,16 +1,14 @@
 -- What the ranks start from, and what a call fills in.
 -- Assumes nothing.
-use Rattle.std.specs.Prelude.{◌≡◌, true, List, ℕ, ◌+◌, ◌*◌, ◌≤◌, ◌<◌, length, get_or}
+use Rattle.form.specs.declared.tables.Tables.{Tables}
+use Rattle.std.specs.Prelude.{◌≡◌, true, List, ℕ, ◌≤◌, ◌<◌, length, get_or}
 use Rattle.simulation.specs.Limits.{most_pairs, most_states}
 use Rattle.simulation.specs.Round.{pairs, round, rank_list, maximum, zeros}
 use Rattle.buffer.specs.Buffer.{over}
 use Rattle.relation.specs.Rows.{height}
 use Rattle.relation.specs.Related.{holds}
-use Rattle.form.specs.Form.{transitions_of}
-use Rattle.form.specs.Tables.{first_form, first_table, contract_table, BothLoaded}
+use Rattle.form.specs.Tables.{first_table, contract_table, BothLoaded}
 use Rattle.decision.specs.Fitting.{relation_of}
-use Rattle.links.specs.Places.{HasSets, HasMarks}
-use Rattle.rounds.specs.Turns.{Work}
 
 -- zeros in the first n places, the others as they were
 pub record Zeroed (n : ℕ) (l l' : List ℕ) : Type 0 where
@@ -23,24 +21,14 @@ pub record Open (rows : List ℕ) : Type 0 where
   pub all : (s t : ℕ) → s < most_states → t < most_states → holds rows s t ≡ true
 
 -- what a ranking starts from: two tables, a rank for each pair, all pairs in the rows, room for a flow
-pub record Ranking (tables ranks rows amounts : List ℕ) : Type 0 where
+pub record Ranking (tables : Tables) (ranks rows amounts : List ℕ) : Type 0 where
   pub loaded : BothLoaded tables
   pub ranks_room : pairs (first_table tables) (contract_table tables) ≤ length ranks
   pub rows_open : Open rows
   pub amounts_room : most_pairs ≤ length amounts
 
--- and no set is known, no pair in doubt or lost, and nothing was tried
-pub record Unranked (tables : List ℕ) (W : Work) : Type 0 where
-  pub ranking : Ranking tables W.ranks W.rows W.amounts
-  pub sets_room : HasSets W.sets
-  pub no_sets : (i : ℕ) → get_or W.sets i 0 ≡ 0
-  pub marks_room : HasMarks W.marks
-  pub no_marks : (i : ℕ) → get_or W.marks i 0 ≡ 0
-  pub tried_room : (transitions_of (first_form tables) + 1) * most_states ≤ length W.tried
-  pub untried : (i : ℕ) → get_or W.tried i 0 ≡ 0
-
 -- what a call fills in and reports: the ranks in their order over the start of the list, the kept pairs in the rows, the count of rounds, the count of kept pairs
-pub record RanksFilled (tables old new rows : List ℕ) (rounds kept : ℕ) : Type 0 where
+pub record RanksFilled (tables : Tables) (old new rows : List ℕ) (rounds kept : ℕ) : Type 0 where
   pub ranks_are : new ≡ over (rank_list (first_table tables) (contract_table tables)) old
   pub rows_are : relation_of tables rows ≡ round (first_table tables) (contract_table tables) (pairs (first_table tables) (contract_table tables))
   pub rounds_are : rounds ≡ maximum (rank_list (first_table tables) (contract_table tables))

@@ -8,13 +8,14 @@ ghost use Rattle.relation.specs.Rows.{height};
 ghost use Rattle.relation.specs.Related.{holds};
 ghost use Rattle.form.specs.Form.{transitions_of};
 ghost use Rattle.form.specs.Tables.{first_form, first_table, contract_table};
-ghost use Rattle.links.specs.Places.{HasSets, HasMarks};
-ghost use Rattle.rounds.specs.Turns.{work, Refined};
-ghost use Rattle.ranking.specs.Rows.{Zeroed, Unranked, Ranking, RanksFilled};
+ghost use Rattle.rounds.specs.Turns.{Refined};
+ghost use Rattle.ranking.specs.Rows.{Zeroed, Ranking, RanksFilled};
 
-use form::{Form, tables};
+use form::Tables;
 use links::{Marks, Sets};
-use relation::rows;
+use relation::{Relation, rows};
+use rounds::Work;
+use set::Set;
 use simulation::Table;
 use word::Word;
 
@@ -23,11 +24,9 @@ fn narrow(rows: &mut [Word], p: usize, q: usize)
     requires { (p ≤ height rows.old) × (q ≤ most_states) }
     ensures { (s t : ℕ) → s < p → holds rows.new s t ≡ both (holds rows.old s) (up_to q) t }
 {
-    let columns = set::below(q);
-    let mut s = 0;
-    while s < p {
-        rows::put(rows, s, set::intersection(rows::get(rows, s), columns));
-        s += 1;
+    let columns = Set::below(q);
+    for s in 0..p {
+        rows::put(rows, s, rows::get(rows, s).intersection(columns));
     }
 }
 
@@ -36,39 +35,7 @@ fn clear_ranks(ranks: &mut [u16], n: usize)
     requires { n ≤ length ranks.old }
     ensures { Zeroed n ranks.old ranks.new }
 {
-    let mut i = 0;
-    while i < n {
-        ranks[i] = 0;
-        i += 1;
-    }
-}
-
-fn no_sets() -> [Word; Sets::WORDS]
-    ensures { HasSets result × ((i : ℕ) → get_or result i 0 ≡ 0) }
-{
-    [0; Sets::WORDS]
-}
-
-fn no_marks() -> [Word; Marks::WORDS]
-    ensures { HasMarks result × ((i : ℕ) → get_or result i 0 ≡ 0) }
-{
-    [0; Marks::WORDS]
-}
-
-// A table with no more transitions than this has a short list of what was tried: most of the work of a small check would else be to
-// clear a long one.
-const FEW: usize = 15;
-
-fn few_tried() -> [u8; (FEW + 1) * Table::STATES]
-    ensures { (length result ≡ 16 * most_states) × ((i : ℕ) → get_or result i 0 ≡ 0) }
-{
-    [0u8; (FEW + 1) * Table::STATES]
-}
-
-fn none_tried() -> [u8; (Table::TRANSITIONS + 1) * Table::STATES]
-    ensures { (length result ≡ (most_transitions + 1) * most_states) × ((i : ℕ) → get_or result i 0 ≡ 0) }
-{
-    [0u8; (Table::TRANSITIONS + 1) * Table::STATES]
+    ranks[..n].fill(0);
 }
 
 // What is found beside the ranks.
@@ -80,61 +47,83 @@ pub struct Ranked {
     pub kept: u16,
 }
 
-// The ranks, in memory lent for the work, of which the rows are full before; they hold the kept pairs after.
+// The ranks, where nothing was tried. The rows, which are full before, hold the kept pairs after. Returns the count of rounds.
 fn fill_ranks(
-    tables: &[u16],
+    tables: &Tables,
     ranks: &mut [u16],
-    sets: &mut [Word],
     rows: &mut [Word],
-    marks: &mut [Word],
     tried: &mut [u8],
     amounts: &mut [u32],
 ) -> u16
-    requires { Unranked tables.now (work ranks.old sets.old rows.old marks.old tried.old amounts.old) }
+    requires { Ranking tables.now ranks.old rows.old amounts.old
+        × ((transitions_of (first_form tables.now) + 1) * most_states ≤ length tried.old) × ((i : ℕ) → get_or tried.old i 0 ≡ 0) }
     ensures { Refined (first_table tables.now) (contract_table tables.now)
         ranks.old ranks.new rows.new result }
 {
-    let p = tables::states(tables, Form::FIRST);
-    let q = tables::width(tables);
+    let mut sets = Sets {
+        before: [0; Relation::WORDS],
+        behind: [0; Relation::WORDS],
+        targets: [0; Sets::TARGETS],
+    };
+    let mut marks = Marks {
+        doubt: [0; Relation::WORDS],
+        lost: [0; Relation::WORDS],
+    };
+    let p = tables.first.states();
+    let q = tables.width();
     clear_ranks(ranks, p * q);
     narrow(rows, p, q);
-    links::fill_sets(tables, sets);
-    rounds::refine(tables, ranks, sets, rows, marks, tried, amounts)
+    links::fill_sets(tables, &mut sets);
+    let mut work = Work {
+        tables,
+        ranks,
+        sets: &sets,
+        rows,
+        marks: &mut marks,
+        tried,
+        amounts,
+    };
+    work.refine()
 }
 
-// The ranks of all pairs of states, where nothing was tried.
-fn rank_untried(
-    tables: &[u16],
+// The ranks of all pairs of states, with room for N counts of what was tried.
+fn rank_with<const N: usize>(
+    tables: &Tables,
     ranks: &mut [u16],
     rows: &mut [Word],
-    tried: &mut [u8],
     amounts: &mut [u32],
 ) -> Ranked
     requires { Ranking tables.now ranks.old rows.old amounts.old
-        × ((transitions_of (first_form tables.now) + 1) * most_states ≤ length tried.old) × ((i : ℕ) → get_or tried.old i 0 ≡ 0) }
+        × ((transitions_of (first_form tables.now) + 1) * most_states ≤ N) × (N ≤ (most_transitions + 1) * most_states) }
     ensures { RanksFilled tables.now ranks.old ranks.new rows.new result.rounds result.kept }
 {
-    let mut sets = no_sets();
-    let mut marks = no_marks();
-    let rounds = fill_ranks(tables, ranks, &mut sets, rows, &mut marks, tried, amounts);
-    let kept = rows::count(rows, tables::states(tables, Form::FIRST));
+    let mut tried = [0; N];
+    let rounds = fill_ranks(tables, ranks, rows, &mut tried, amounts);
+    let kept = rows::count(rows, tables.first.states());
     Ranked {
         rounds: rounds,
         kept: kept as u16,
     }
 }
 
+// A table with no more transitions than this has a short list of what was tried: most of the work of a small check would else be to
+// clear a long one.
+const FEW: usize = 15;
+
+// Room for what was tried of a table with few transitions, and of any.
+const FEW_TRIED: usize = (FEW + 1) * Table::STATES;
+
+const MOST_TRIED: usize = (Table::TRANSITIONS + 1) * Table::STATES;
+
 // The ranks of all pairs of states, row by row from the start of `ranks`. The rows, which are full before, hold the kept pairs after.
 // `amounts` is working memory for flows.
-pub fn rank(tables: &[u16], ranks: &mut [u16], rows: &mut [Word], amounts: &mut [u32]) -> Ranked
+pub fn rank(tables: &Tables, ranks: &mut [u16], rows: &mut [Word], amounts: &mut [u32]) -> Ranked
     requires { Ranking tables.now ranks.old rows.old amounts.old }
     ensures { RanksFilled tables.now ranks.old ranks.new rows.new result.rounds result.kept }
 {
-    let n = tables::start_of(tables, Form::FIRST, tables::states(tables, Form::FIRST));
+    let n = tables.first.start_of(tables.first.states());
     if n <= FEW {
-        let mut tried = few_tried();
-        return rank_untried(tables, ranks, rows, &mut tried, amounts);
+        return rank_with::<FEW_TRIED>(tables, ranks, rows, amounts);
     }
-    let mut tried = none_tried();
-    rank_untried(tables, ranks, rows, &mut tried, amounts)
+    rank_with::<MOST_TRIED>(tables, ranks, rows, amounts)
 }

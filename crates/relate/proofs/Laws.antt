@@ -1,17 +1,16 @@
 -- Rows one by one, and what they are of a round.
 -- Assumes nothing.
-use mathlib.Core.Path.{◌≡◌, refl, sym, ◌∙◌, ap, subst}
+use mathlib.Core.Path.{◌≡◌, refl, sym, ◌∙◌, ap}
 use mathlib.Core.Bool.{◌&&◌}
 use mathlib.Core.List.{List}
 use mathlib.Core.Logic.{inl, inr, ⊎_elim}
-use Prim.Native.Nat.{ℕ, suc, ◌+◌, ◌-◌, ◌*◌, ◌<◌, ◌≤◌, min}
+use Prim.Native.Nat.{ℕ, suc, ◌+◌, ◌*◌, ◌<◌, ◌≤◌}
 use native.Mathlib.Nat.{not-suc-le-zero, suc-mul, mul-le-mul_right}
 use native.Mathlib.Decide.{ℕ_discrete}
 use native.Mathlib.Omega.{arith}
 use lib.Dec.{eqb, leb, eqb→eq, leb→le, le→leb}
 use borrow.Author.Tests.{lt-ltb}
-use lib.ListN.{length, get_or, take, drop, length-take, length-drop}
-use lib.Seq.{get_or-take, get_or-drop}
+use lib.ListN.{length, get_or}
 use Rattle.simulation.specs.Table.{Table, states_of}
 use Rattle.simulation.specs.Round.{related, round, rank, pairs}
 use Rattle.simulation.proofs.Finite.Tests.{same_test, or_left, or_right, or_cases, same_eqb}
@@ -23,18 +22,6 @@ use Rattle.set.specs.declared.Set.{Set}
 use Rattle.relation.proofs.RowLaws.{length_put, row_put, row_put_other}
 use Rattle.relation.specs.Ranks.{lasts}
 use Rattle.relate.specs.Rows.{ranked_row, Indexed, Rows}
-
--- the ranks have a place for s and each of the first targets, and of the others
-module _ (ranks : List ℕ) (width s : ℕ) (nt : List ℕ) (k : ℕ) (h : Indexed ranks width s nt) where
-  pub indexed_take : Indexed ranks width s (take k nt)
-  indexed_take j l =
-      let m : j < min k (length nt) = simp length-take at l in
-      subst (λ (t : ℕ). s * width + t < length ranks) (sym (get_or-take k nt j 0 (omega arith))) (h j (omega arith))
-
-  pub indexed_drop : Indexed ranks width s (drop k nt)
-  indexed_drop j l =
-      let m : j < length nt - k = simp length-drop at l in
-      subst (λ (t : ℕ). s * width + t < length ranks) (sym (get_or-drop k nt j 0)) (h (k + j) (omega arith))
 
 -- a loop that writes the rows
 module _ (ranks : List ℕ) (width r : ℕ) (mt nt rel : List ℕ) where

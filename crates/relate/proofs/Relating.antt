@@ -1,5 +1,6 @@
 -- A transition of each table, compared: what the rows between their targets and the flow kernel ask, and what the rows say.
 -- Assumes nothing.
+use Rattle.form.specs.declared.tables.Tables.{Tables}
 use mathlib.Core.Path.{◌≡◌, refl, sym, ap, subst, subst₂}
 use mathlib.Core.List.{List}
 use Prim.Native.Nat.{ℕ, suc, pred, ◌≤◌, ◌<◌}
@@ -21,7 +22,7 @@ use Rattle.matrix.specs.Problem.{Given}
 use Rattle.relate.specs.Ranked.{RanksRight}
 use Rattle.relate.proofs.Places.{few_places, targets-count, target-state, weights-count, weights-positive}
 
-module _ {tables ranks : List ℕ} (j k : ℕ) (g : RanksRight tables ranks) (from_First : j < transitions_of (first_form tables)) (from_Second : k < transitions_of (second_form tables)) where
+module _ {tables : Tables} {ranks : List ℕ} (j k : ℕ) (g : RanksRight tables ranks) (from_First : j < transitions_of (first_form tables)) (from_Second : k < transitions_of (second_form tables)) where
   abbrev M : Table
   M = first_table tables
 

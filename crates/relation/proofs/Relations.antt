@@ -1,10 +1,10 @@
 -- Relations by rows. Assumes nothing.
-use mathlib.Core.Path.{◌≡◌, sym, ap, ◌∙◌, subst, fun_ext}
+use mathlib.Core.Path.{◌≡◌, refl, sym, ap, ◌∙◌, subst, fun_ext}
 use mathlib.Core.Bool.{not, ◌&&◌, and-true}
 use mathlib.Core.List.{List}
 use mathlib.Core.Logic.{⊎_elim, ◌≢◌}
-use Prim.Native.Nat.{ℕ, ◌+◌, ◌-◌, ◌*◌, ◌/◌, ◌%◌, ◌^◌, ◌<◌, ◌≤◌}
-use native.Mathlib.Nat.{add_comm}
+use Prim.Native.Nat.{ℕ, zero, suc, ◌+◌, ◌-◌, ◌*◌, ◌/◌, ◌%◌, ◌^◌, ◌<◌, ◌≤◌}
+use native.Mathlib.Nat.{zero-add}
 use native.Mathlib.Numerals.{add-one}
 use native.Mathlib.Decide.{ℕ_discrete}
 use native.Mathlib.Omega.{arith}
@@ -19,6 +19,10 @@ use Rattle.simulation.proofs.Finite.Lists.{zeros-at}
 use Rattle.word.specs.Mask.{Test, member, up_to, without_member, size, word_bits}
 use Rattle.set.specs.Words.{words}
 use Rattle.relation.specs.Rows.{row_of}
+use Rattle.std.specs.List as list
+use Rattle.std.specs.List.{range_with_len}
+use Rattle.std.specs.Prelude.{map}
+use Rattle.std.proofs.lemmas.List.FromFn.{sum_by-map-range_with_len_more}
 use Rattle.relation.specs.Related.{related, none, all_below, without, pairs_of}
 use Rattle.relation.specs.declared.Relation.{Relation}
 use Rattle.word.proofs.Mask.{member-none, member_ones, below_or_not}
@@ -97,10 +101,13 @@ module _ (l : List ℕ) (s t x : ℕ) (lt : t < most_states) (room : s * words +
           ap (λ (y : ℕ). member y b) (other_row a n) ∙ sym (and-true (member (row_of l a) b))
           ∙ ap (λ q. member (row_of l a) b && not (q && eqb b t)) (sym (ne_eqb a s n))
 
--- row by row, the pairs of a relation
-pub pairs_next : (R : ℕ → Test) (n : ℕ) → pairs_of (n + 1) R ≡ pairs_of n R + size most_states (R n)
+-- a sum over the numbers below n, as an iterator has it
+pub sum-range : (f : ℕ → ℕ) (n : ℕ) → list.sum (map f (range_with_len 0 n)) ≡ sum n f
 unfolding sum
-pairs_next R n = rw add-one (add_comm (size most_states (R n)) (pairs_of n R))
+sum-range f zero = refl
+sum-range f (suc n) =
+    let e = sum_by-map-range_with_len_more (λ x. x) f 0 n n (zero-add n) in
+    omega (arith, rw add-one at e, sum-range f n)
 
 pub pairs-most : (R : ℕ → Test) (n : ℕ) → pairs_of n R ≤ n * most_states
 pairs-most R n = sum_bound n most_states (λ s. size most_states (R s)) (λ s _. members_most most_states (R s))

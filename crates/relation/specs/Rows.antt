@@ -1,6 +1,6 @@
 -- The rows of a relation, a set of states to a row, one after the other in a list of words.
 -- Assumes nothing.
-use Rattle.std.specs.Prelude.{List, ℕ, zero, suc, ◌+◌, ◌*◌, ◌/◌, length, get_or, set, take, drop}
+use Rattle.std.specs.Prelude.{List, ℕ, zero, suc, ◌+◌, ◌*◌, ◌/◌, ◌<◌, length, get_or, set, take, drop}
 use Rattle.set.specs.Words.{words, as_number, word_of}
 use Rattle.set.specs.declared.Set.{Set}
 
@@ -12,6 +12,10 @@ row_of rows s = as_number words (λ i. get_or rows (s * words + i) 0)
 -- how many rows
 abbrev pub height : List ℕ → ℕ
 height rows = length rows / words
+
+-- each state of a list has a row
+abbrev pub HasRows : (rows ss : List ℕ) → Type 0
+HasRows rows ss = (i : ℕ) → i < length ss → get_or ss i 0 < height rows
 
 -- n rows from row a on
 abbrev pub rows_in : (a n : ℕ) → List ℕ → List ℕ

@@ -33,9 +33,7 @@ pub fn clear(rows: &mut [Word], n: usize)
     requires { (n ≤ most_states) × (n ≤ height rows.old) }
     ensures { (i : ℕ) → i < n → row_of rows.new i ≡ 0 }
 {
-    for i in 0..n {
-        put(rows, i, set::empty());
-    }
+    rows[..n * Set::WORDS].fill(0);
 }
 
 // 1 for a related pair, else 0: a shift brings its bit to the lowest place of its word, and the remainder is the bit.
@@ -52,9 +50,5 @@ pub fn count(rows: &[Word], n: usize) -> u32
     requires { (n ≤ most_states) × (n ≤ height rows.now) }
     ensures { result ≡ pairs_of n (holds rows.now) }
 {
-    let mut pairs: u32 = 0;
-    for s in 0..n {
-        pairs += set::count(get(rows, s));
-    }
-    pairs
+    (0..n).map(|s| get(rows, s).count()).sum()
 }

@@ -1,5 +1,5 @@
 -- Laws of the definitions of specs/, in reading order.
 -- Assumes nothing.
-pub mod Tables
 pub mod Counting
 pub mod Bounds
+pub mod Writing

@@ -1,11 +1,10 @@
 -- Computed examples: the two tables in the input, and the text for P and C, for a verdict of yes, for a refused table and for a tree that is too long.
 -- Assumes nothing.
-use Rattle.std.specs.Prelude.{◌≡◌, refl, List, [], ◌∷◌, ◌++◌, ℕ}
+use Rattle.std.specs.Prelude.{◌≡◌, refl, codes, List, [], ◌∷◌, ◌++◌, ℕ}
 use Rattle.simulation.specs.Round.{maximum, zeros}
 use Rattle.report.specs.Input.{first_of_input, second_of_input}
-use Rattle.digits.specs.Writes.{pieces}
 use Rattle.digits.specs.Digits.{digits, decimal}
-use Rattle.report.specs.Text.{pair_line, ranks_text, row_line, rows_text, summary_line, bytes_text, tree_line, tree_text, report_text, answer_text}
+use Rattle.report.specs.Text.{pieces, pair_line, ranks_text, row_line, rows_text, summary_line, bytes_text, tree_line, tree_or_refusal, tree_text, report_text, answer_text}
 
 unfoldable P : List ℕ
 P = 2 ∷ 0 ∷ 10 ∷ 0 ∷ 20 ∷ 0 ∷ 3 ∷ 1 ∷ 1 ∷ 0 ∷ 2 ∷ 0 ∷ 10 ∷ 0 ∷ 2 ∷ 20 ∷ 0 ∷ 1 ∷ 3 ∷ 0 ∷ 1 ∷ 3 ∷ 0 ∷ 2 ∷ 1 ∷ 0 ∷ 1 ∷ 1 ∷ 0 ∷ []
@@ -46,35 +45,35 @@ tree_PC = 1 ∷ 10 ∷ 0 ∷ 2 ∷ 1 ∷ 3 ∷ 0 ∷ 1 ∷ 20 ∷ 0 ∷ 1 ∷ 1 
 
 lines_PC : List ℕ
 lines_PC =
-    (116 ∷ 97 ∷ 98 ∷ 108 ∷ 101 ∷ 115 ∷ 32 ∷ 51 ∷ 32 ∷ 51 ∷ 10 ∷ [])  -- tables 3 3
-    ++ (114 ∷ 111 ∷ 119 ∷ 32 ∷ 48 ∷ 32 ∷ 50 ∷ 32 ∷ 49 ∷ 32 ∷ 49 ∷ 10 ∷ [])  -- row 0 2 1 1
-    ++ (114 ∷ 111 ∷ 119 ∷ 32 ∷ 49 ∷ 32 ∷ 49 ∷ 32 ∷ 48 ∷ 32 ∷ 49 ∷ 10 ∷ [])  -- row 1 1 0 1
-    ++ (114 ∷ 111 ∷ 119 ∷ 32 ∷ 50 ∷ 32 ∷ 48 ∷ 32 ∷ 48 ∷ 32 ∷ 48 ∷ 10 ∷ [])  -- row 2 0 0 0
-    ++ (114 ∷ 111 ∷ 117 ∷ 110 ∷ 100 ∷ 115 ∷ 32 ∷ 50 ∷ 32 ∷ 107 ∷ 101 ∷ 112 ∷ 116 ∷ 32 ∷ 52 ∷ 32 ∷ 118 ∷ 101 ∷ 114 ∷ 100 ∷ 105 ∷ 99 ∷ 116 ∷ 32 ∷ 110 ∷ 111 ∷ 10 ∷ [])  -- rounds 2 kept 4 verdict no
+    codes "tables 3 3\n"
+    ++ codes "row 0 2 1 1\n"
+    ++ codes "row 1 1 0 1\n"
+    ++ codes "row 2 0 0 0\n"
+    ++ codes "rounds 2 kept 4 verdict no\n"
 
 tree_line_PC : List ℕ
 tree_line_PC =
-    (116 ∷ 114 ∷ 101 ∷ 101 ∷ 32 ∷ 48 ∷ 49 ∷ 32 ∷ 48 ∷ 97 ∷ 32 ∷ 48 ∷ 48 ∷ 32 ∷ 48 ∷ 50 ∷ 32 ∷ 48 ∷ 49 ∷ 32 ∷ 48 ∷ 51 ∷ 32 ∷ 48 ∷ 48 ∷ 32 ∷ 48 ∷ 49 ∷ 32 ∷ 49 ∷ 52 ∷ 32 ∷ 48 ∷ 48 ∷ 32 ∷ 48 ∷ 49 ∷ 32 ∷ 48 ∷ 49 ∷ 32 ∷ 48 ∷ 49 ∷ 32 ∷ 48 ∷ 48 ∷ 32 ∷ 48 ∷ 48 ∷ 32 ∷ 48 ∷ 50 ∷ 32 ∷ 48 ∷ 49 ∷ 32 ∷ 48 ∷ 48 ∷ 32 ∷ 48 ∷ 48 ∷ 10 ∷ [])  -- tree 01 0a 00 02 01 03 00 01 14 00 01 01 01 00 00 02 01 00 00
+    codes "tree 01 0a 00 02 01 03 00 01 14 00 01 01 01 00 00 02 01 00 00\n"
 
 PC_example : answer_text 0 0 19 3 3 (ranks_PC ++ (7 ∷ [])) (tree_PC ++ (7 ∷ [])) ≡ lines_PC ++ tree_line_PC
-unfolding ranks_PC tree_PC lines_PC tree_line_PC maximum zeros pieces digits decimal pair_line ranks_text row_line rows_text summary_line bytes_text tree_line tree_text report_text answer_text
+unfolding ranks_PC tree_PC lines_PC tree_line_PC maximum zeros pieces digits decimal pair_line ranks_text row_line rows_text summary_line bytes_text tree_line tree_or_refusal tree_text report_text answer_text
 PC_example = refl
 
 line_refused : List ℕ
 line_refused =
-    (116 ∷ 114 ∷ 101 ∷ 101 ∷ 32 ∷ 114 ∷ 101 ∷ 102 ∷ 117 ∷ 115 ∷ 101 ∷ 100 ∷ 32 ∷ 50 ∷ 51 ∷ 10 ∷ [])  -- tree refused 23
+    codes "tree refused 23\n"
 
 -- were its tree too long
 PC_refused_example : answer_text 0 23 0 3 3 ranks_PC [] ≡ lines_PC ++ line_refused
-unfolding ranks_PC lines_PC line_refused maximum zeros pieces digits decimal pair_line ranks_text row_line rows_text summary_line bytes_text tree_line tree_text report_text answer_text
+unfolding ranks_PC lines_PC line_refused maximum zeros pieces digits decimal pair_line ranks_text row_line rows_text summary_line bytes_text tree_line tree_or_refusal tree_text report_text answer_text
 PC_refused_example = refl
 
 lines_yes : List ℕ
 lines_yes =
-    (116 ∷ 97 ∷ 98 ∷ 108 ∷ 101 ∷ 115 ∷ 32 ∷ 49 ∷ 32 ∷ 50 ∷ 10 ∷ [])  -- tables 1 2
-    ++ (114 ∷ 111 ∷ 119 ∷ 32 ∷ 48 ∷ 32 ∷ 48 ∷ 32 ∷ 49 ∷ 10 ∷ [])  -- row 0 0 1
-    ++ (114 ∷ 111 ∷ 117 ∷ 110 ∷ 100 ∷ 115 ∷ 32 ∷ 49 ∷ 32 ∷ 107 ∷ 101 ∷ 112 ∷ 116 ∷ 32 ∷ 49 ∷ 32 ∷ 118 ∷ 101 ∷ 114 ∷ 100 ∷ 105 ∷ 99 ∷ 116 ∷ 32 ∷ 121 ∷ 101 ∷ 115 ∷ 10 ∷ [])  -- rounds 1 kept 1 verdict yes
+    codes "tables 1 2\n"
+    ++ codes "row 0 0 1\n"
+    ++ codes "rounds 1 kept 1 verdict yes\n"
 
 yes_example : answer_text 0 0 19 1 2 (0 ∷ 1 ∷ []) tree_PC ≡ lines_yes
-unfolding lines_yes maximum zeros pieces digits decimal pair_line ranks_text row_line rows_text summary_line bytes_text tree_line tree_text report_text answer_text
+unfolding lines_yes maximum zeros pieces digits decimal pair_line ranks_text row_line rows_text summary_line bytes_text tree_line tree_or_refusal tree_text report_text answer_text
 yes_example = refl

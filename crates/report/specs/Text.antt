@@ -1,56 +1,52 @@
 -- What the program prints, as a list of bytes.
 -- Assumes nothing.
-use Rattle.std.specs.Prelude.{Bool, cond, List, [], ◌∷◌, ◌++◌, ℕ, ◌+◌, ◌*◌, max, eqb, length, take, get_or}
+use Rattle.std.specs.Prelude.{Bool, cond, codes, Option, Some, None, option_map, unwrap_or, List, [], ◌++◌, ℕ, zero, suc, ◌+◌, ◌*◌, max, eqb, length, take, get_or}
+use Rattle.std.specs.List.{flat_map}
+use Rattle.std.specs.Borrow.{Bor}
 use Rattle.simulation.specs.Limits.{most_states, few_pairs, most_tree_bytes}
 use Rattle.simulation.specs.Round.{maximum, zeros}
-use Rattle.digits.specs.Writes.{pieces}
 use Rattle.digits.specs.Digits.{hex, labelled}
 
+-- f 0, …, f (n - 1), one after the other
+unfoldable pub pieces : (ℕ → List ℕ) → ℕ → List ℕ
+pieces f zero = []
+pieces f (suc n) = pieces f n ++ f n
+
 abbrev pub space : List ℕ
-space = 32 ∷ []
+space = codes " "
 
 abbrev pub newline : List ℕ
-newline = 10 ∷ []
+newline = codes "\n"
 
--- "tables "
 abbrev pub word_tables : List ℕ
-word_tables = 116 ∷ 97 ∷ 98 ∷ 108 ∷ 101 ∷ 115 ∷ 32 ∷ []
+word_tables = codes "tables "
 
--- "row "
 abbrev pub word_row : List ℕ
-word_row = 114 ∷ 111 ∷ 119 ∷ 32 ∷ []
+word_row = codes "row "
 
--- "rounds "
 abbrev pub word_rounds : List ℕ
-word_rounds = 114 ∷ 111 ∷ 117 ∷ 110 ∷ 100 ∷ 115 ∷ 32 ∷ []
+word_rounds = codes "rounds "
 
--- " kept "
 abbrev pub word_kept : List ℕ
-word_kept = 32 ∷ 107 ∷ 101 ∷ 112 ∷ 116 ∷ 32 ∷ []
+word_kept = codes " kept "
 
--- " verdict "
 abbrev pub word_verdict : List ℕ
-word_verdict = 32 ∷ 118 ∷ 101 ∷ 114 ∷ 100 ∷ 105 ∷ 99 ∷ 116 ∷ 32 ∷ []
+word_verdict = codes " verdict "
 
--- "yes\n"
 abbrev pub word_yes : List ℕ
-word_yes = 121 ∷ 101 ∷ 115 ∷ 10 ∷ []
+word_yes = codes "yes\n"
 
--- "no\n"
 abbrev pub word_no : List ℕ
-word_no = 110 ∷ 111 ∷ 10 ∷ []
+word_no = codes "no\n"
 
--- "refused "
 abbrev pub word_refused : List ℕ
-word_refused = 114 ∷ 101 ∷ 102 ∷ 117 ∷ 115 ∷ 101 ∷ 100 ∷ 32 ∷ []
+word_refused = codes "refused "
 
--- "tree"
 abbrev pub word_tree : List ℕ
-word_tree = 116 ∷ 114 ∷ 101 ∷ 101 ∷ []
+word_tree = codes "tree"
 
--- "tree refused 23\n"
 abbrev pub word_tree_refused : List ℕ
-word_tree_refused = 116 ∷ 114 ∷ 101 ∷ 101 ∷ 32 ∷ 114 ∷ 101 ∷ 102 ∷ 117 ∷ 115 ∷ 101 ∷ 100 ∷ 32 ∷ 50 ∷ 51 ∷ 10 ∷ []
+word_tree_refused = codes "tree refused 23\n"
 
 -- a line of a word and two numbers
 unfoldable pub pair_line : List ℕ → ℕ → ℕ → List ℕ
@@ -92,31 +88,44 @@ rounds_line ranks = summary_line (maximum ranks) (zeros ranks) (yes? ranks)
 
 -- bytes, a space before each
 unfoldable pub bytes_text : List ℕ → List ℕ
-unfolding pieces
-bytes_text bytes = pieces (λ i. space ++ hex (get_or bytes i 0)) (length bytes)
+bytes_text bytes = flat_map (λ b. space ++ hex b) bytes
 
 -- the bytes of a tree
 unfoldable pub tree_line : List ℕ → List ℕ
 unfolding bytes_text
 tree_line bytes = word_tree ++ bytes_text bytes ++ newline
 
--- on no, the tree or that it is too long
-unfoldable pub tree_text : Bool → Bool → List ℕ → List ℕ
+-- the tree, or that it is too long where there is none
+unfoldable pub tree_or_refusal : Option (List ℕ) → List ℕ
 unfolding tree_line
-tree_text good long bytes = cond good [] (cond long word_tree_refused (tree_line bytes))
+tree_or_refusal None = word_tree_refused
+tree_or_refusal (Some bytes) = tree_line bytes
 
--- all that is printed of two accepted tables with p and q states, from the ranks of their pairs, whether the tree is too long,
--- and its bytes where it is not
-unfoldable pub report_text : ℕ → ℕ → List ℕ → Bool → List ℕ → List ℕ
+-- the same on no alone
+unfoldable pub tree_text : Bool → Option (List ℕ) → List ℕ
+unfolding tree_or_refusal
+tree_text good tree = cond good [] (tree_or_refusal tree)
+
+-- the bytes of a tree that is lent, if one is
+abbrev pub lent_bytes : Option (Bor (List ℕ)) → Option (List ℕ)
+lent_bytes tree = option_map (λ bytes. bytes.now) tree
+
+-- all that is printed of two accepted tables with p and q states, from the ranks of their pairs and the bytes of the tree, none where it
+-- is too long
+unfoldable pub report_text : ℕ → ℕ → List ℕ → Option (List ℕ) → List ℕ
 unfolding rows_text summary_line tree_text
-report_text p q ranks long tree = tables_line p q ++ rows_text ranks q p ++ rounds_line ranks ++ tree_text (yes? ranks) long tree
+report_text p q ranks tree = tables_line p q ++ rows_text ranks q p ++ rounds_line ranks ++ tree_text (yes? ranks) tree
 
 -- the answer to two tables. A refusal that names a table: that alone. Else the report: the ranks of the pairs come first in `ranks`, the
 -- tree is the first `written` bytes of `tree`, and 23 says that it is too long
 unfoldable pub answer_text : (table number written p q : ℕ) → List ℕ → List ℕ → List ℕ
 unfolding pair_line report_text
 answer_text table number written p q ranks tree =
-    cond (eqb table 0) (report_text p q (take (p * q) ranks) (eqb number 23) (take written tree)) (refused_text table number)
+    cond (eqb table 0) (report_text p q (take (p * q) ranks) (cond (eqb number 23) None (Some (take written tree)))) (refused_text table number)
+
+-- the bytes of the tree, as far as there is one
+abbrev pub tree_size : Option (List ℕ) → ℕ
+tree_size tree = length (unwrap_or tree [])
 
 -- no text is longer, for tables with p and q states, ranks of 16 bits and k bytes of tree: 15 bytes for the numbers of states, p rows of
 -- 8 and 6 for each rank, 36 for rounds, kept pairs and verdict, 5 + 3 × k for the tree or 16 to say that it is too long

@@ -1,15 +1,18 @@
 // The text that the program prints, line by line.
-ghost use Rattle.std.specs.Prelude.{◌≡◌, cond, ◌++◌, ◌+◌, ◌*◌, ◌≤◌, length};
+#![tactic(auto, using(crate::proofs::Writing::writing), unfolding(crate::specs::Text::pair_line, crate::specs::Text::row_line, crate::specs::Text::rows_text, crate::specs::Text::summary_line, crate::specs::Text::tree_text, crate::specs::Text::tree_or_refusal, crate::specs::Text::tree_line, crate::specs::Text::bytes_text))]
+
+ghost use Rattle.std.specs.Prelude.{◌≡◌, ◌+◌, ◌*◌, ◌≤◌, length};
+ghost use Rattle.std.specs.List.{flat_map};
 ghost use Rattle.simulation.specs.Limits.{most_states};
-ghost use Rattle.report.specs.Text.{space, word_yes, word_no, refused_text, pair_line, ranks_text, row_line, rows_text, summary_line};
-ghost use Rattle.report.specs.Text.{rounds_line, bytes_text, tree_line, tree_text, report_text, answer_text, text_bound};
+ghost use Rattle.report.specs.Text.{space, refused_text, pair_line, row_line, rows_text, summary_line};
+ghost use Rattle.report.specs.Text.{rounds_line, bytes_text, tree_line, tree_text, lent_bytes, tree_size, report_text, answer_text, text_bound};
 ghost use Rattle.digits.specs.Digits.{hex, labelled};
-ghost use Rattle.digits.specs.Writes.{RoomFor, Writes};
+ghost use Rattle.digits.specs.Appending.{append, HasRoom};
 ghost use Rattle.buffer.specs.Buffer.{Filled};
 
 use crate::count::{is_kept, kept_of, rounds_of};
 use crate::input::front;
-use digits::{put_byte, put_hex, put_labelled, put_word};
+use digits::Text;
 use simulation::Table;
 
 // The length of a buffer that holds every text: longest-text of specs/.
@@ -29,6 +32,7 @@ pub const SHORT_TEXT: usize = 15
     + (5 + 3 * SHORT_TREE);
 
 // The text for an answer of the check: for a refused table that alone, else the report on tables with p and q states.
+#[tactic(auto, unfolding(crate::specs::Text::answer_text))]
 pub fn print(
     table: u32,
     number: u32,
@@ -45,168 +49,135 @@ pub fn print(
     if table != 0 {
         return refused(table, number, buf);
     }
-    let pairs = p * q;
-    let part = front(tree, written as usize);
-    report(p, q, &ranks[..pairs], number == 23, part, buf)
+    let shown = if number == 23 {
+        None
+    } else {
+        Some(front(tree, written as usize))
+    };
+    report(p, q, &ranks[..p * q], shown, buf)
 }
 
 // The text for a refused table: its place and the number of the refusal.
+#[tactic(auto, using(crate::proofs::Writing::filling))]
 pub fn refused(table: u32, number: u32, buf: &mut [u8]) -> usize
     requires { 30 ≤ length buf.old }
     ensures { Filled (refused_text table number) result buf.old buf.new }
 {
-    put_pair(b"refused ", table as usize, number as usize, buf, 0)
+    let mut text = Text::new(buf);
+    put_pair(&mut text, b"refused ", table as usize, number as usize);
+    text.len()
 }
 
-// The text for two accepted tables with p and q states: `ranks` are the ranks of their pairs, `long` says that the tree is too long,
-// `tree` is its bytes where it is not.
-pub fn report(p: usize, q: usize, ranks: &[u16], long: bool, tree: &[u8], buf: &mut [u8]) -> usize
-    requires { (p ≤ most_states) × (q ≤ most_states) × (p * q ≡ length ranks.now) × (text_bound p q (length tree.now) ≤ length buf.old) }
-    ensures { Filled (report_text p q ranks.now long tree.now) result buf.old buf.new }
+// The text for two accepted tables with p and q states: `ranks` are the ranks of their pairs, `tree` is the bytes of the tree, or none where
+// it is too long.
+#[tactic(auto, using(crate::proofs::Writing::filling))]
+pub fn report(p: usize, q: usize, ranks: &[u16], tree: Option<&[u8]>, buf: &mut [u8]) -> usize
+    requires { (p ≤ most_states) × (q ≤ most_states) × (p * q ≡ length ranks.now) × (text_bound p q (tree_size (lent_bytes tree)) ≤ length buf.old) }
+    ensures { Filled (report_text p q ranks.now (lent_bytes tree.entry)) result buf.old buf.new }
 {
-    put_report(p, q, ranks, long, tree, buf, 0)
+    let mut text = Text::new(buf);
+    put_report(&mut text, p, q, ranks, tree);
+    text.len()
 }
 
-fn put_report(
-    p: usize,
-    q: usize,
-    ranks: &[u16],
-    long: bool,
-    tree: &[u8],
-    buf: &mut [u8],
-    at: usize,
-) -> usize
-    requires { (p * q ≤ length ranks.now) × RoomFor (report_text p q ranks.now long tree.now) at buf.old }
-    ensures { Writes (report_text p q ranks.now long tree.now) at buf.old result buf.new }
+#[tactic(auto, using(crate::proofs::Writing::writing), unfolding(crate::specs::Text::report_text))]
+fn put_report(text: &mut Text, p: usize, q: usize, ranks: &[u16], tree: Option<&[u8]>)
+    requires { (p * q ≤ length ranks.now) × HasRoom text.old (report_text p q ranks.now (lent_bytes tree)) }
+    ensures { text.new ≡ append text.old (report_text p q ranks.now (lent_bytes tree.entry)) }
 {
-    let a = put_pair(b"tables ", p, q, buf, at);
-    let b = put_rows(ranks, q, p, buf, a);
-    let c = put_rounds(ranks, buf, b);
-    put_outcome(is_kept(ranks), long, tree, buf, c)
+    put_pair(text, b"tables ", p, q);
+    put_rows(text, ranks, q, p);
+    put_rounds(text, ranks);
+    put_outcome(text, is_kept(ranks), tree);
 }
 
 // A line of a word and two numbers.
-fn put_pair(word: &[u8], a: usize, b: usize, buf: &mut [u8], at: usize) -> usize
-    requires { RoomFor (pair_line word.now a b) at buf.old }
-    ensures { Writes (pair_line word.now a b) at buf.old result buf.new }
+fn put_pair(text: &mut Text, word: &[u8], a: usize, b: usize)
+    requires { HasRoom text.old (pair_line word.now a b) }
+    ensures { text.new ≡ append text.old (pair_line word.now a b) }
 {
-    let first = put_labelled(word, a, buf, at);
-    let second = put_labelled(b" ", b, buf, first);
-    put_byte(b'\n', buf, second)
+    text.labelled(word, a);
+    text.labelled(b" ", b);
+    text.byte(b'\n');
 }
 
-fn put_rows(ranks: &[u16], q: usize, p: usize, buf: &mut [u8], at: usize) -> usize
-    requires { (p * q ≤ length ranks.now) × RoomFor (rows_text ranks.now q p) at buf.old }
-    ensures { Writes (rows_text ranks.now q p) at buf.old result buf.new }
+fn put_rows(text: &mut Text, ranks: &[u16], q: usize, p: usize)
+    requires { (p * q ≤ length ranks.now) × HasRoom text.old (rows_text ranks.now q p) }
+    ensures { text.new ≡ append text.old (rows_text ranks.now q p) }
 {
-    let mut next = at;
-    let mut s = 0;
-    while s < p {
-        next = put_row(ranks, q, s, buf, next);
-        s += 1;
+    for s in 0..p {
+        put_row(text, ranks, q, s);
     }
-    next
 }
 
 // The row of the state s of the first table.
-fn put_row(ranks: &[u16], q: usize, s: usize, buf: &mut [u8], at: usize) -> usize
-    requires { (s * q + q ≤ length ranks.now) × RoomFor (row_line ranks.now q s) at buf.old }
-    ensures { Writes (row_line ranks.now q s) at buf.old result buf.new }
+fn put_row(text: &mut Text, ranks: &[u16], q: usize, s: usize)
+    requires { (s * q + q ≤ length ranks.now) × HasRoom text.old (row_line ranks.now q s) }
+    ensures { text.new ≡ append text.old (row_line ranks.now q s) }
 {
-    let label = put_labelled(b"row ", s, buf, at);
-    let end = put_ranks(ranks, s * q, q, buf, label);
-    put_byte(b'\n', buf, end)
+    let from = s * q;
+    text.labelled(b"row ", s);
+    put_ranks(text, &ranks[from..from + q]);
+    text.byte(b'\n');
 }
 
-// The q ranks from a place on.
-fn put_ranks(ranks: &[u16], from: usize, q: usize, buf: &mut [u8], at: usize) -> usize
-    requires { (from + q ≤ length ranks.now) × RoomFor (ranks_text ranks.now from q) at buf.old }
-    ensures { Writes (ranks_text ranks.now from q) at buf.old result buf.new }
+fn put_ranks(text: &mut Text, ranks: &[u16])
+    requires { HasRoom text.old (flat_map (labelled space) ranks.now) }
+    ensures { text.new ≡ append text.old (flat_map (labelled space) ranks.now) }
 {
-    let mut next = at;
-    let mut t = 0;
-    while t < q {
-        next = put_rank(ranks[from + t], buf, next);
-        t += 1;
+    for rank in ranks {
+        text.byte(b' ');
+        text.decimal(*rank as usize);
     }
-    next
 }
 
-fn put_rank(rank: u16, buf: &mut [u8], at: usize) -> usize
-    requires { RoomFor (labelled space rank) at buf.old }
-    ensures { Writes (labelled space rank) at buf.old result buf.new }
-{
-    put_labelled(b" ", rank as usize, buf, at)
-}
-
-fn put_rounds(ranks: &[u16], buf: &mut [u8], at: usize) -> usize
-    requires { RoomFor (rounds_line ranks.now) at buf.old }
-    ensures { Writes (rounds_line ranks.now) at buf.old result buf.new }
+fn put_rounds(text: &mut Text, ranks: &[u16])
+    requires { HasRoom text.old (rounds_line ranks.now) }
+    ensures { text.new ≡ append text.old (rounds_line ranks.now) }
 {
     let rounds = rounds_of(ranks) as usize;
-    put_summary(rounds, kept_of(ranks), is_kept(ranks), buf, at)
+    put_summary(text, rounds, kept_of(ranks), is_kept(ranks));
 }
 
-fn put_summary(rounds: usize, kept: usize, yes: bool, buf: &mut [u8], at: usize) -> usize
-    requires { RoomFor (summary_line rounds kept yes) at buf.old }
-    ensures { Writes (summary_line rounds kept yes) at buf.old result buf.new }
+fn put_summary(text: &mut Text, rounds: usize, kept: usize, yes: bool)
+    requires { HasRoom text.old (summary_line rounds kept yes) }
+    ensures { text.new ≡ append text.old (summary_line rounds kept yes) }
 {
-    let a = put_labelled(b"rounds ", rounds, buf, at);
-    let b = put_labelled(b" kept ", kept, buf, a);
-    let c = put_word(b" verdict ", buf, b);
-    put_verdict(yes, buf, c)
-}
-
-fn put_verdict(yes: bool, buf: &mut [u8], at: usize) -> usize
-    requires { RoomFor (cond yes word_yes word_no) at buf.old }
-    ensures { Writes (cond yes word_yes word_no) at buf.old result buf.new }
-{
-    if yes {
-        return put_word(b"yes\n", buf, at);
-    }
-    put_word(b"no\n", buf, at)
+    text.labelled(b"rounds ", rounds);
+    text.labelled(b" kept ", kept);
+    text.word(b" verdict ");
+    text.word(if yes { b"yes\n" } else { b"no\n" });
 }
 
 // On no, the tree, or that it is too long.
-fn put_outcome(yes: bool, long: bool, tree: &[u8], buf: &mut [u8], at: usize) -> usize
-    requires { RoomFor (tree_text yes long tree.now) at buf.old }
-    ensures { Writes (tree_text yes long tree.now) at buf.old result buf.new }
+fn put_outcome(text: &mut Text, yes: bool, tree: Option<&[u8]>)
+    requires { HasRoom text.old (tree_text yes (lent_bytes tree)) }
+    ensures { text.new ≡ append text.old (tree_text yes (lent_bytes tree.entry)) }
 {
     if yes {
-        return at;
+        return;
     }
-    if long {
-        return put_word(b"tree refused 23\n", buf, at);
+    match tree {
+        Some(bytes) => put_tree(text, bytes),
+        None => text.word(b"tree refused 23\n"),
     }
-    put_tree(tree, buf, at)
 }
 
-fn put_tree(tree: &[u8], buf: &mut [u8], at: usize) -> usize
-    requires { RoomFor (tree_line tree.now) at buf.old }
-    ensures { Writes (tree_line tree.now) at buf.old result buf.new }
+fn put_tree(text: &mut Text, tree: &[u8])
+    requires { HasRoom text.old (tree_line tree.now) }
+    ensures { text.new ≡ append text.old (tree_line tree.now) }
 {
-    let a = put_word(b"tree", buf, at);
-    let b = put_bytes(tree, buf, a);
-    put_byte(b'\n', buf, b)
+    text.word(b"tree");
+    put_bytes(text, tree);
+    text.byte(b'\n');
 }
 
-fn put_bytes(tree: &[u8], buf: &mut [u8], at: usize) -> usize
-    requires { RoomFor (bytes_text tree.now) at buf.old }
-    ensures { Writes (bytes_text tree.now) at buf.old result buf.new }
+fn put_bytes(text: &mut Text, bytes: &[u8])
+    requires { HasRoom text.old (bytes_text bytes.now) }
+    ensures { text.new ≡ append text.old (bytes_text bytes.now) }
 {
-    let mut next = at;
-    let mut i = 0;
-    while i < tree.len() {
-        next = put_spaced(tree[i], buf, next);
-        i += 1;
+    for b in bytes {
+        text.byte(b' ');
+        text.hex(*b);
     }
-    next
-}
-
-fn put_spaced(b: u8, buf: &mut [u8], at: usize) -> usize
-    requires { RoomFor (space ++ hex b) at buf.old }
-    ensures { Writes (space ++ hex b) at buf.old result buf.new }
-{
-    let next = put_byte(b' ', buf, at);
-    put_hex(b, buf, next)
 }

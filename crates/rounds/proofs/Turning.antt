@@ -1,6 +1,7 @@
 -- From one round to the next, and the end.
 -- Assumes nothing.
-use mathlib.Core.Path.{◌≡◌, sym, ap, ap₂, ◌∙◌, subst}
+use Rattle.form.specs.declared.tables.Tables.{Tables}
+use mathlib.Core.Path.{◌≡◌, refl, sym, ap, ap₂, ◌∙◌, subst}
 use mathlib.Core.Bool.{Bool, true, false, cond, not, ◌&&◌, true≢false}
 use mathlib.Core.List.{List}
 use mathlib.Core.Logic.{◌≢◌, inl, inr}
@@ -8,6 +9,7 @@ use Prim.Native.Nat.{ℕ, suc, ◌+◌, ◌*◌, ◌≤◌, ◌<◌}
 use native.Mathlib.Numerals.{add-one}
 use native.Mathlib.Omega.{arith}
 use lib.Dec.{T}
+use Rattle.std.proofs.Common.{Bor}
 use lib.ListN.{length, get_or}
 use Rattle.simulation.specs.Table.{Transition, Table, weights, target_at, states_of, steps, transition}
 use Rattle.simulation.specs.Round.{Relation, related, round, pairs}
@@ -27,12 +29,12 @@ use Rattle.relation.specs.Related.{holds}
 use Rattle.decision.specs.Fitting.{held}
 use Rattle.fit.specs.Held.{matched}
 use Rattle.relation.specs.Rows.{row_of}
-use Rattle.links.specs.Places.{before_in, behind_in, doubt_in, lost_in}
+use Rattle.links.specs.declared.Marks.{Marks}
 use Rattle.links.specs.Links.{Linked, ContractLinked, Doubted}
-use Rattle.fit.specs.Known.{Tried}
 use Rattle.dropping.specs.Falling.{StatesOnly, DoubtsKnown, Fallen}
 use Rattle.rounds.specs.Rounds.{Placed, After, Settled}
-use Rattle.rounds.specs.Turns.{Standing, Work, work, Prepared, Turning, Refined}
+use Rattle.rounds.specs.Turns.{Standing, Prepared, Turning, Kept, Refined}
+use Rattle.rounds.specs.declared.Work.{Work}
 use Rattle.rounds.proofs.Fitting.{Alike, matched_agree}
 use Rattle.rounds.proofs.Settling.{row-place}
 use Rattle.rounds.proofs.RoundLaws.{held-round, in_test, kept_unless, lost-rank, more, moves, ranks-whole, rounds_are, rows_kept}
@@ -96,20 +98,26 @@ module _ {M N : Table} {k fell : ℕ} {rows ranks lost : List ℕ} (h : Standing
         columns = λ s t a b. is_false (holds rows s t) (λ m. let c : t < states_of N = round-columns h.after s a t m in omega arith);
       }
 
--- lengths are all that is asked of what is lent for work, beside what was tried
-pub prepared-still : {tables ranks ranks' sets rows rows' marks marks' tried tried' amounts amounts' : List ℕ} → Prepared tables (work ranks sets rows marks tried amounts)
-    → length ranks' ≡ length ranks → length rows' ≡ length rows → length marks' ≡ length marks → length amounts' ≡ length amounts → Tried tables rows' tried'
-    → Prepared tables (work ranks' sets rows' marks' tried' amounts')
-prepared-still p e r m x known =
-    record {
-      loaded = p.loaded;
-      ranks_room = omega (arith, p.ranks_room);
-      sets_known = p.sets_known;
-      rows_room = omega (arith, p.rows_room);
-      marks_room = omega (arith, p.marks_room);
-      amounts_room = omega (arith, p.amounts_room);
-      known = known;
-    }
+-- the same tables, sets, ranks and rows are at work
+pub kept_self : {W : Work} → Kept W W
+kept_self = record { tables = refl; sets = refl; ranks = refl; rows = refl }
+
+pub kept_more : {U V W : Work} → Kept U V → Kept V W → Kept U W
+kept_more k l =
+    record { tables = l.tables ∙ k.tables; sets = l.sets ∙ k.sets; ranks = l.ranks ∙ k.ranks; rows = l.rows ∙ k.rows }
+
+pub same_pairs : {W W' : Work} → Kept W W'
+    → pairs (first_table W'.tables.now) (contract_table W'.tables.now) ≡ pairs (first_table W.tables.now) (contract_table W.tables.now)
+same_pairs k = ap (λ (t : Bor Tables). pairs (first_table t.now) (contract_table t.now)) k.tables
+
+-- no pair falls next: the ranks are all there
+pub ended : {W W' : Work} {k fell : ℕ} (old : List ℕ) → Kept W W' → Turning W' k fell → fell ≡ 0
+    → ((i : ℕ) → pairs (first_table W.tables.now) (contract_table W.tables.now) ≤ i → get_or W'.ranks.now i 0 ≡ get_or old i 0)
+    → Refined (first_table W.tables.now) (contract_table W.tables.now) old W'.ranks.now W'.rows.now k
+ended {W} {W'} {k} {fell} old kept turning none beyond =
+    refined
+    (subst (λ (t : Bor Tables). Standing (first_table t.now) (contract_table t.now) k W'.rows.now W'.ranks.now W'.marks.now.lost fell) kept.tables turning.standing)
+    old none beyond
 
 -- the state s comes before each target of its transitions, by places
 link_at : (f before : List ℕ) (loaded : Loaded f) → Linked f before → (s k i : ℕ) → s < states_of (table_of f) → k < length (steps (table_of f) s)
@@ -121,7 +129,7 @@ link_at f before loaded linked s k i a b =
     linked.links s a (start_of f s + k) i (omega arith) (omega (arith, counts f loaded s a)) (omega (arith, weights-length m, targets-length m)))
 
 -- in the contract too, for a transition with the code of one of the first table
-module _ (tables behind : List ℕ) (loaded : BothLoaded tables) (linked : ContractLinked tables behind) (s c : ℕ) (own : c < length (steps (first_table tables) s)) where
+module _ (tables : Tables) (behind : List ℕ) (loaded : BothLoaded tables) (linked : ContractLinked tables behind) (s c : ℕ) (own : c < length (steps (first_table tables) s)) where
   -- a state comes before the target of an added transition, which is the state itself
   loop-at : (t p : ℕ) → t < states_of (second_table tables) → ¬ T (lists (second_table tables).codes p) → (transition (first_table tables) s c).code ≡ p
       → (j : ℕ) → j < 1 → holds behind (target_at (self_loop t p) j) t ≡ true
@@ -151,9 +159,10 @@ module _ (tables behind : List ℕ) (loaded : BothLoaded tables) (linked : Contr
           subst Behind (sym (ap (transition (complete cs N) t) e ∙ complete-added cs N t p a h)) (λ e. loop-at t (get_or (added N.codes cs) p 0) a (added_new cs N.codes p h) e j)
 
 -- a pair that is not in doubt has lost no pair behind it, so it stays matched
-pub sure : {tables : List ℕ} {W : Work} {k fell doubtful : ℕ} {rows' ranks' marks' : List ℕ} → Turning tables W k fell
-    → After (first_table tables) (contract_table tables) (k + 1) rows' ranks' → Doubted W.sets doubtful W.marks marks' → DoubtsKnown (first_table tables) (contract_table tables) rows' doubtful (doubt_in marks')
-sure {tables} {W} {k} {fell} {doubtful} {rows'} {ranks'} {marks'} h later doubted =
+pub sure : {W : Work} {k fell doubtful : ℕ} {rows' ranks' : List ℕ} {marks' : Marks} → Turning W k fell
+    → After (first_table W.tables.now) (contract_table W.tables.now) (k + 1) rows' ranks' → Doubted W.sets.now doubtful W.marks.now marks'
+    → DoubtsKnown (first_table W.tables.now) (contract_table W.tables.now) rows' doubtful marks'.doubt
+sure {W} {k} {fell} {doubtful} {rows'} {ranks'} {marks'} h later doubted =
     record {
       columns = round-columns later;
       states = doubted.within (states_of (first_table tables)) p.sets_known.first.states;
@@ -164,7 +173,10 @@ sure {tables} {W} {k} {fell} {doubtful} {rows'} {ranks'} {marks'} h later doubte
           (in_test (first_table tables) (contract_table tables) k s t (subst (λ (R : Relation). T (related R s t)) here m)));
     }
   where
-    p : Prepared tables W
+    tables : Tables
+    tables = W.tables.now
+
+    p : Prepared W
     p = h.prepared
 
     before : Relation
@@ -176,7 +188,7 @@ sure {tables} {W} {k} {fell} {doubtful} {rows'} {ranks'} {marks'} h later doubte
     next : After (first_table tables) (contract_table tables) (suc k) rows' ranks'
     next = subst (λ (n : ℕ). After (first_table tables) (contract_table tables) n rows' ranks') (add-one k) later
 
-    alike : (s t : ℕ) → s < states_of (first_table tables) → (member doubtful s && holds (doubt_in marks') s t) ≡ false → (c d : ℕ) → c < length (steps (first_table tables) s)
+    alike : (s t : ℕ) → s < states_of (first_table tables) → (member doubtful s && holds marks'.doubt s t) ≡ false → (c d : ℕ) → c < length (steps (first_table tables) s)
         → d < length (steps (contract_table tables) t) → (transition (first_table tables) s c).code ≡ (transition (contract_table tables) t d).code
         → Alike before now (transition (first_table tables) s c) (transition (contract_table tables) t d)
     alike s t a out c d u v e i j w z =
@@ -185,9 +197,9 @@ sure {tables} {W} {k} {fell} {doubtful} {rows'} {ranks'} {marks'} h later doubte
         let x = target_at (transition (table_of f) s c) i in
         let y = target_at (transition K t d) j in
         same_test (related before x y) (related now x y)
-        (λ q. kept_unless (table_of f) K k W.rows W.ranks h.standing.after (lost_in W.marks) h.standing.next.exact x y q
+        (λ q. kept_unless (table_of f) K k W.rows.now W.ranks.now h.standing.after W.marks.now.lost h.standing.next.exact x y q
         (λ m.
-        let r = doubted.raised x s y t (link_at f (before_in W.sets) p.loaded.first p.sets_known.first s c i a u w) (is_true (holds (lost_in W.marks) x y) m)
-        (behind_at tables (behind_in W.sets) p.loaded p.sets_known.second s c u t d j v e z) in
+        let r = doubted.raised x s y t (link_at f W.sets.now.before p.loaded.first p.sets_known.first s c i a u w) (is_true (holds W.marks.now.lost x y) m)
+        (behind_at tables W.sets.now.behind p.loaded p.sets_known.second s c u t d j v e z) in
         true≢false (sym (ap₂ ◌&&◌ r.0 r.1) ∙ out)))
         (round-falls (table_of f) K k x y)

@@ -9,14 +9,13 @@ ghost use Rattle.relation.specs.Rows.{height};
 ghost use Rattle.relation.specs.Related.{holds};
 ghost use Rattle.form.specs.Tables.{first_table, contract_table};
 ghost use Rattle.links.specs.Links.{Covered};
-ghost use Rattle.links.specs.Places.{HasMarks, lost_in};
 ghost use Rattle.rounds.specs.Rounds.{marked, Settled, Placed};
-ghost use Rattle.rounds.specs.Turns.{work, Turning, Turned, Starting, Refined};
+ghost use Rattle.rounds.specs.Turns.{Turning, Turned, Starting, Refined, Kept};
 
-use form::tables;
+use form::Tables;
 use links::{Marks, Sets};
 use relation::rows;
-use set::{Set, walk};
+use set::Set;
 use word::Word;
 
 // The rank k for the pairs of one row, whose ranks start at base.
@@ -24,31 +23,21 @@ fn mark_row(ranks: &mut [u16], set: Set, base: usize, k: u16)
     requires { (t : ℕ) → member (mask set) t ≡ true → base + t < length ranks.old }
     ensures { (i : ℕ) → get_or ranks.new i 0 ≡ marked (member (mask set)) base k ranks.old i }
 {
-    for w in 0..Set::WORDS {
-        let mut left = set.words[w];
-        while left != 0 {
-            let t = walk::lowest(set, w, left);
-            ranks[base + t] = k;
-            left = walk::without_lowest(set, w, left);
-        }
+    for t in set {
+        ranks[base + t] = k;
     }
 }
 
 // The lost pairs, in the rows of a set, leave the rows, and k is their rank, with q ranks to a row.
-fn settle(ranks: &mut [u16], rows: &mut [Word], marks: &[Word], fell: Set, q: usize, k: u16)
-    requires { (most_states ≤ height rows.old) × HasMarks marks.now × (q ≤ most_states) × Covered (mask fell) (lost_in marks.now)
-        × Placed q (length ranks.old) (lost_in marks.now) }
-    ensures { Settled q k (holds (lost_in marks.now)) rows.old rows.new ranks.old ranks.new }
+fn settle(ranks: &mut [u16], rows: &mut [Word], lost: &[Word], fell: Set, q: usize, k: u16)
+    requires { (most_states ≤ height rows.old) × (most_states ≤ height lost.now) × (q ≤ most_states) × Covered (mask fell) lost.now
+        × Placed q (length ranks.old) lost.now }
+    ensures { Settled q k (holds lost.now) rows.old rows.new ranks.old ranks.new }
 {
-    for w in 0..Set::WORDS {
-        let mut left = fell.words[w];
-        while left != 0 {
-            let s = walk::lowest(fell, w, left);
-            let lost = rows::get(marks, Marks::LOST + s);
-            mark_row(ranks, lost, s * q, k);
-            rows::put(rows, s, set::difference(rows::get(rows, s), lost));
-            left = walk::without_lowest(fell, w, left);
-        }
+    for s in fell {
+        let row = rows::get(lost, s);
+        mark_row(ranks, row, s * q, k);
+        rows::put(rows, s, rows::get(rows, s).difference(row));
     }
 }
 
@@ -59,52 +48,54 @@ pub struct Round {
     fell: Set,
 }
 
-// One round: the lost pairs get its number as their rank, and the next are found.
-fn turn(
-    tables: &[u16],
-    ranks: &mut [u16],
-    sets: &[Word],
-    rows: &mut [Word],
-    marks: &mut [Word],
-    tried: &mut [u8],
-    amounts: &mut [u32],
-    last: Round,
-) -> Round
-    requires { Turning tables.now (work ranks.old sets.now rows.old marks.old tried.old amounts.old) last.count (mask last.fell)
-        × (mask last.fell ≢ 0) }
-    ensures { (result.count ≡ last.count + 1)
-        × Turned tables.now
-        (work ranks.old sets.now rows.old marks.old tried.old amounts.old)
-        (work ranks.new sets.now rows.new marks.new tried.new amounts.new)
-        result.count (mask result.fell) }
-{
-    let count = last.count + 1;
-    let fell = last.fell;
-    settle(ranks, rows, marks, fell, tables::width(tables), count);
-    let doubtful = links::doubts(marks, fell, sets);
-    let targets = &sets[Sets::TARGETS_AT..Sets::WORDS];
-    let next = dropping::drop_rows(tables, targets, rows, marks, doubtful, tried, amounts);
-    Round { count, fell: next }
+// What the rounds work with: two tables, a rank for each pair, the sets that are known, the pairs that are left, those in doubt and lost,
+// what was tried, and room for a flow.
+#[derive(Drop)]
+pub struct Work<'a> {
+    pub tables: &'a Tables<'a>,
+    pub ranks: &'a mut [u16],
+    pub sets: &'a Sets,
+    pub rows: &'a mut [Word],
+    pub marks: &'a mut Marks,
+    pub tried: &'a mut [u8],
+    pub amounts: &'a mut [u32],
 }
 
-// Round after round, until no pair falls. Returns the count of rounds.
-pub fn refine(
-    tables: &[u16],
-    ranks: &mut [u16],
-    sets: &[Word],
-    rows: &mut [Word],
-    marks: &mut [Word],
-    tried: &mut [u8],
-    amounts: &mut [u32],
-) -> u16
-    requires { Starting tables.now (work ranks.old sets.now rows.old marks.old tried.old amounts.old) }
-    ensures { Refined (first_table tables.now) (contract_table tables.now)
-        ranks.old ranks.new rows.new result }
-{
-    let fell = dropping::first_round(tables, marks);
-    let mut last = Round { count: 0, fell };
-    while !set::is_empty(last.fell) {
-        last = turn(tables, ranks, sets, rows, marks, tried, amounts, last);
+impl Work<'_> {
+    // One round: the lost pairs get its number as their rank, and the next are found.
+    fn turn(&mut self, last: Round) -> Round
+        requires { Turning self.old last.count (mask last.fell) × (mask last.fell ≢ 0) }
+        ensures { (result.count ≡ last.count + 1) × Turned self.old self.new result.count (mask result.fell) }
+    {
+        let count = last.count + 1;
+        let fell = last.fell;
+        let rows = &mut *self.rows;
+        let q = self.tables.width();
+        settle(self.ranks, rows, &self.marks.lost, fell, q, count);
+        let doubtful = links::doubts(self.marks, fell, self.sets);
+        let next = dropping::drop_rows(
+            self.tables,
+            &self.sets.targets,
+            rows,
+            self.marks,
+            doubtful,
+            self.tried,
+            self.amounts,
+        );
+        Round { count, fell: next }
     }
-    last.count
+
+    // Round after round, until no pair falls. Returns the count of rounds.
+    pub fn refine(&mut self) -> u16
+        requires { Starting self.old }
+        ensures { Refined (first_table self.old.tables.now) (contract_table self.old.tables.now)
+            self.old.ranks.now self.new.ranks.now self.new.rows.now result × Kept self.old self.new }
+    {
+        let fell = dropping::first_round(self.tables, self.marks);
+        let mut last = Round { count: 0, fell };
+        while !last.fell.is_empty() {
+            last = self.turn(last);
+        }
+        last.count
+    }
 }

@@ -9,7 +9,7 @@ use native.Mathlib.Numerals.{add-one}
 use native.Mathlib.Decide.{ℕ_discrete}
 use native.Mathlib.Omega.{arith}
 use lib.Dec.{T}
-use lib.ListN.{set, length-set}
+use lib.ListN.{length, set}
 use lib.Seq.{get_or-set_same, get_or-set_other}
 use Rattle.simulation.specs.Limits.{most_states}
 use Rattle.simulation.specs.Sum.{sum, when}
@@ -19,8 +19,11 @@ use Rattle.word.specs.Mask.{Test, member, without_member, both, except, either, 
 use Rattle.relation.specs.Rows.{row_of, height}
 use Rattle.relation.specs.Related.{holds}
 use Rattle.word.proofs.Mask.{member-none, member_below, below_or_not, some-member}
-use Rattle.search.specs.Links.{HasLinks, from, via}
-use Rattle.search.specs.Search.{SearchRoom, RowsLinked, Grows, ColumnsFollowed, Closed, Levelled, Hit, HitOf, Forest, RowWalk, SearchOf}
+use Rattle.search.specs.declared.Link.{Link}
+use Rattle.search.specs.declared.Links.{Links}
+use Rattle.search.specs.Links.{link_at, from, via}
+use Rattle.std.specs.Prelude.{None}
+use Rattle.search.specs.Search.{SearchRoom, RowsLinked, Grows, ColumnsFollowed, Closed, Levelled, Hit, HitOf, Forest, RowWalk, Found, Stuck}
 use Rattle.matrix.proofs.MaskedLaws.{true_or_false, neither, both_at, both_out, except-at, except-out, either-at, either_left, either-right, drop_at, drop-out, no_members}
 
 -- the rows of `new` but those left are linked
@@ -28,60 +31,55 @@ pub record Linking (new left r j : ℕ) (from via from' via' : ℕ → ℕ) : Ty
   pub part : (i : ℕ) → member left i ≡ true → member new i ≡ true
   pub new_from : (i : ℕ) → member new i ≡ true → member left i ≡ false → from' i ≡ r
   pub new_via : (i : ℕ) → member new i ≡ true → member left i ≡ false → via' i ≡ j
-  pub old_from : (i : ℕ) → i < most_states → member new i ≡ false → from' i ≡ from i
-  pub old_via : (i : ℕ) → i < most_states → member new i ≡ false → via' i ≡ via i
+  pub old_from : (i : ℕ) → member new i ≡ false → from' i ≡ from i
+  pub old_via : (i : ℕ) → member new i ≡ false → via' i ≡ via i
 
 pub linking_none : {new r j : ℕ} {from via : ℕ → ℕ} → Linking new new r j from via from via
 linking_none = record {
   part = λ i h. h;
   new_from = λ i h l. absurd (neither h l);
   new_via = λ i h l. absurd (neither h l);
-  old_from = λ i b h. refl;
-  old_via = λ i b h. refl;
+  old_from = λ i h. refl;
+  old_via = λ i h. refl;
 }
 
 -- f' is f but at row t, where it is v
 record Changes (f f' : ℕ → ℕ) (t v : ℕ) : Type 0 where
   here : f' t ≡ v
-  other : (i : ℕ) → i < most_states → i ≢ t → f' i ≡ f i
+  other : (i : ℕ) → i ≢ t → f' i ≡ f i
 
--- the links with row t reached from row r by column j
-abbrev pub with_link : List ℕ → (t r j : ℕ) → List ℕ
-with_link links t r j = set (set links t r) (most_states + t) j
+-- the links with that of row t written
+abbrev pub with_link : Links → ℕ → Link → Links
+with_link links t link = record { rows = set links.rows t link }
 
-module _ (links : List ℕ) (t r j : ℕ) (h : HasLinks links) (l : t < most_states) where
-  from_changes : Changes (from links) (from (with_link links t r j)) t r
-  from_changes = record {
-    here = get_or-set_other (set links t r) (most_states + t) t j 0 (λ e. omega arith) ∙ get_or-set_same links t r 0 (omega arith);
-    other = λ i b n. get_or-set_other (set links t r) (most_states + t) i j 0 (λ e. omega arith) ∙ get_or-set_other links t i r 0 n;
-  }
-
-  via_changes : Changes (via links) (via (with_link links t r j)) t j
-  via_changes = record {
-    here = get_or-set_same (set links t r) (most_states + t) j 0 (omega (arith, length-set links t r));
-    other = λ i b n. get_or-set_other (set links t r) (most_states + t) (most_states + i) j 0 (λ e. n (omega arith)) ∙ get_or-set_other links t (most_states + i) r 0 (λ e. omega arith);
-  }
+-- one field of a link is written
+written : (field : Link → ℕ) (links : Links) (t : ℕ) (link : Link) → t < length links.rows
+    → Changes (λ i. field (link_at links i)) (λ i. field (link_at (with_link links t link) i)) t (field link)
+written field links t link l = record {
+  here = ap field (get_or-set_same links.rows t link _ l);
+  other = λ i n. ap field (get_or-set_other links.rows t i link _ n);
+}
 
 -- one row more has its link: f is from or via
-linked_at : (new left left' : ℕ) {r t : ℕ} {f f' : ℕ → ℕ} → new < 2 ^ most_states → Changes f f' t r → member left' ≡ without_member t (member left)
+linked_at : (new left left' : ℕ) {r t : ℕ} {f f' : ℕ → ℕ} → Changes f f' t r → member left' ≡ without_member t (member left)
     → ((i : ℕ) → member new i ≡ true → member left i ≡ false → f i ≡ r) → (i : ℕ) → member new i ≡ true → member left' i ≡ false → f' i ≡ r
-linked_at new left left' {r} {t} {f' = f'} b c d s i m l = elim (ℕ_discrete i t) [
+linked_at new left left' {r} {t} {f' = f'} c d s i m l = elim (ℕ_discrete i t) [
   | yes e ↦ ap f' e ∙ c.here
-  | no o ↦ c.other i (member_below most_states new i b m) o ∙ s i m (⊎_elim (λ e. absurd (o e)) (λ f. f) (drop-out (member left) t i d l))
+  | no o ↦ c.other i o ∙ s i m (⊎_elim (λ e. absurd (o e)) (λ f. f) (drop-out (member left) t i d l))
 ]
 
-pub linking_next : {new left left' r j t : ℕ} {f v : ℕ → ℕ} (links : List ℕ) → new < 2 ^ most_states → Linking new left r j f v (from links) (via links) → HasLinks links → t < most_states
-    → Lowest (member left) t → member left' ≡ without_member t (member left) → Linking new left' r j f v (from (with_link links t r j)) (via (with_link links t r j))
-linking_next {new} {left} {left'} {r} {j} {t} links b s h k l d =
-    let cf = from_changes links t r j h k in
-    let cv = via_changes links t r j h k in
+pub linking_next : {new left left' t : ℕ} {f v : ℕ → ℕ} (links : Links) (link : Link) → Linking new left link.from link.via f v (from links) (via links) → t < length links.rows
+    → Lowest (member left) t → member left' ≡ without_member t (member left) → Linking new left' link.from link.via f v (from (with_link links t link)) (via (with_link links t link))
+linking_next {new} {left} {left'} {t} links link s h l d =
+    let cf = written (λ k. k.from) links t link h in
+    let cv = written (λ k. k.via) links t link h in
     let not_t : (i : ℕ) → member new i ≡ false → i ≢ t = λ i m e. neither (s.part t l.here) (ap (member new) (sym e) ∙ m) in
     record {
       part = λ i m. s.part i (drop_at (member left) t i d m).0;
-      new_from = linked_at new left left' b cf d s.new_from;
-      new_via = linked_at new left left' b cv d s.new_via;
-      old_from = λ i g m. cf.other i g (not_t i m) ∙ s.old_from i g m;
-      old_via = λ i g m. cv.other i g (not_t i m) ∙ s.old_via i g m;
+      new_from = linked_at new left left' cf d s.new_from;
+      new_via = linked_at new left left' cv d s.new_via;
+      old_from = λ i m. cf.other i (not_t i m) ∙ s.old_from i m;
+      old_via = λ i m. cv.other i (not_t i m) ∙ s.old_via i m;
     }
 
 pub linking_end : {new left r j : ℕ} {from via from' via' : ℕ → ℕ} → left ≡ 0 → Linking new left r j from via from' via' → RowsLinked (member new) r j from via from' via'
@@ -111,7 +109,7 @@ pub grows_mono : {E E' : ℕ → ℕ → Type 0} {senders : List ℕ} {S S' : Te
 grows_mono {f' = f'} {v' = v'} h s = record { kept = s.kept; old_from = s.old_from; old_via = s.old_via; step = λ i m l. h (f' i) (v' i) (s.step i m l); sender = s.sender }
 
 -- the senders of one column that are not reached yet
-module _ (senders : List ℕ) (new S S' : ℕ) {r j : ℕ} {f v f' v' : ℕ → ℕ} (b : S < 2 ^ most_states) (l : RowsLinked (member new) r j f v f' v')
+module _ (senders : List ℕ) (new S S' : ℕ) {r j : ℕ} {f v f' v' : ℕ → ℕ} (l : RowsLinked (member new) r j f v f' v')
     (en : member new ≡ except (member (row_of senders j)) (member S)) (es : member S' ≡ either (member S) (member new)) where
   is_new : (i : ℕ) → member S i ≡ false → member S' i ≡ true → member new i ≡ true
   is_new i h m = ⊎_elim (λ c. absurd (neither c h)) (λ c. c) (either-at (member S) (member new) i es m)
@@ -122,8 +120,8 @@ module _ (senders : List ℕ) (new S S' : ℕ) {r j : ℕ} {f v f' v' : ℕ → 
   pub grows_link : Grows (λ k c. (k ≡ r) × (c ≡ j)) senders (member S) (member S') f v f' v'
   grows_link = record {
     kept = λ i h. either_left (member S) (member new) i es h;
-    old_from = λ i h. l.old_from i (member_below most_states S i b h) (is-old i h);
-    old_via = λ i h. l.old_via i (member_below most_states S i b h) (is-old i h);
+    old_from = λ i h. l.old_from i (is-old i h);
+    old_via = λ i h. l.old_via i (is-old i h);
     step = λ i h m. (l.new_from i (is_new i h m), l.new_via i (is_new i h m));
     sender = λ i h m. let c = is_new i h m in
         subst⁻¹ (λ (n : ℕ). holds senders n i ≡ true) (l.new_via i c) (except-at (member (row_of senders j)) (member S) i en c).0;
@@ -144,16 +142,16 @@ pub record Following (senders : List ℕ) (C left r S S' : ℕ) (from via from' 
 pub following_none : {senders : List ℕ} {C r S : ℕ} {from via : ℕ → ℕ} → Following senders C C r S S from via from via
 following_none {S = S} = record { part = λ j h. h; grows = grows_refl (member S); all = λ i j h l. absurd (neither h l) }
 
-pub following_next : {senders : List ℕ} {C left left' r S S' S'' j : ℕ} (new : ℕ) {from via f v f' v' : ℕ → ℕ} → S' < 2 ^ most_states → Following senders C left r S S' from via f v → Lowest (member left) j
+pub following_next : {senders : List ℕ} {C left left' r S S' S'' j : ℕ} (new : ℕ) {from via f v f' v' : ℕ → ℕ} → Following senders C left r S S' from via f v → Lowest (member left) j
     → member left' ≡ without_member j (member left) → member new ≡ except (member (row_of senders j)) (member S') → RowsLinked (member new) r j f v f' v' → member S'' ≡ either (member S') (member new)
     → Following senders C left' r S S'' from via f' v'
-following_next {senders} {C} {left} {left'} {r} {S} {S'} {S''} {j} new b s l d en k es =
-    let g = grows_link senders new S' S'' b k en es in
+following_next {senders} {C} {left} {left'} {r} {S} {S'} {S''} {j} new s l d en k es =
+    let g = grows_link senders new S' S'' k en es in
     record {
       part = λ i h. s.part i (drop_at (member left) j i d h).0;
       grows = grows_trans s.grows (grows_mono (λ i c e. (e.0, ap (member C) e.1 ∙ s.part j l.here)) g);
       all = λ i c h m u. ⊎_elim
-          (λ e. senders-reached senders new S' S'' b k en es i (subst (λ (n : ℕ). holds senders n i ≡ true) e u))
+          (λ e. senders-reached senders new S' S'' k en es i (subst (λ (n : ℕ). holds senders n i ≡ true) e u))
           (λ f. g.kept i (s.all i c h f u))
           (drop-out (member left) j c d m);
     }
@@ -217,15 +215,16 @@ hitting_next {rel} {free} {F} {left} {left'} {r} m s l d e z = record {
       (drop-out (member left) r i d k);
 }
 
-pub hitting_found : {rel : List ℕ} {free F left r : ℕ} (m : ℕ) → r < most_states → m < 2 ^ most_states → Hitting rel free F left → Lowest (member left) r
-    → member m ≡ both (member (row_of rel r)) (member free) → m ≢ 0 → HitOf rel free (member F) r
-hitting_found {rel} {free} {r = r} m h b s l e n = record {
-  found = λ _. let k = some-member most_states m b n in let w = both_at (member (row_of rel r)) (member free) k.0 e k.1 in (s.part r l.here, record { column = k.0; related = w.0; is_free = w.1 });
-  none = λ g. absurd (omega arith);
-}
+pub hitting_found : {rel : List ℕ} {free F left r : ℕ} (m : ℕ) → m < 2 ^ most_states → Hitting rel free F left → Lowest (member left) r
+    → member m ≡ both (member (row_of rel r)) (member free) → m ≢ 0 → (member F r ≡ true) × Hit rel free r
+hitting_found {rel} {free} {r = r} m b s l e n =
+    let k = some-member most_states m b n in
+    let w = both_at (member (row_of rel r)) (member free) k.0 e k.1 in
+    (s.part r l.here, record { column = k.0; related = w.0; is_free = w.1 })
 
-pub hitting_end : {rel : List ℕ} {free F left : ℕ} → left ≡ 0 → Hitting rel free F left → HitOf rel free (member F) most_states
-hitting_end z s = record { found = λ h. absurd (omega arith); none = λ _ i j h u. s.none i j h (no_members z i) u }
+pub hitting_end : {rel : List ℕ} {free F left : ℕ} → left ≡ 0 → Hitting rel free F left
+    → (i j : ℕ) → member F i ≡ true → holds rel i j ≡ true → member free j ≡ false
+hitting_end z s i j h u = s.none i j h (no_members z i) u
 
 -- S is reached, the rows of F last, in `depth` steps and no fewer; the others have gone to all their columns and have no free one
 pub record Frontier (rel senders : List ℕ) (short free : ℕ) (from via : ℕ → ℕ) (S F seen depth : ℕ) : Type 0 where
@@ -258,8 +257,8 @@ frontier_none {rel} {senders} {short} = record {
     none-near (RowWalk.here m) l = m
     none-near (RowWalk.step i' j w r u) l = absurd (omega arith)
 
-module _ {rel senders : List ℕ} {short free : ℕ} {from via from' via' : ℕ → ℕ} {S F seen depth r : ℕ} (S' F' seen' : ℕ) (s : Frontier rel senders short free from via S F seen depth)
-    (h : HitOf rel free (member F) r) (o : most_states ≤ r) (l : Levelled rel senders (member F) (member seen) (member seen') (member S) (member S') from via from' via')
+module _ {rel senders : List ℕ} {short free : ℕ} {from via from' via' : ℕ → ℕ} {S F seen depth : ℕ} (S' F' seen' : ℕ) (s : Frontier rel senders short free from via S F seen depth)
+    (h : HitOf rel free (member F) None) (l : Levelled rel senders (member F) (member seen) (member seen') (member S) (member S') from via from' via')
     (e : member F' ≡ except (member S') (member S)) where
   abbrev new_rank : ℕ → ℕ
   new_rank i = cond (member S i) (s.rank i) (suc depth)
@@ -317,7 +316,7 @@ module _ {rel senders : List ℕ} {short free : ℕ} {from via from' via' : ℕ 
     deep = λ i m. fresh_rank i (except-at (member S') (member S) i e m).1 ∙ sym (add-one depth);
     closed = l.closed;
     gone = λ i j m n u. let c = was_in i m n in ⊎_elim (λ f. l.all i j f u) (λ f. l.still j (s.gone i j c f u)) (true_or_false (member F i));
-    shut = λ i j m n u. let c = was_in i m n in ⊎_elim (λ f. h.none o i j f u) (λ f. s.shut i j c f u) (true_or_false (member F i));
+    shut = λ i j m n u. let c = was_in i m n in ⊎_elim (λ f. h i j f u) (λ f. s.shut i j c f u) (true_or_false (member F i));
     near = λ k i w g. next-near w g;
     nearer = next_nearer;
   }
@@ -328,24 +327,21 @@ frontier_shortest : {rel senders : List ℕ} {short free : ℕ} {from via : ℕ 
 frontier_shortest {depth = depth} s k i w h =
     ⊎_elim (λ l. absurd (neither h.is_free (s.shut i h.column (s.near k i w (omega arith)) (s.nearer k i w l) h.related))) (λ l. l) (below_or_not k depth)
 
-pub frontier_found : {rel senders : List ℕ} {short free : ℕ} {from via : ℕ → ℕ} {S F seen depth r : ℕ} → Frontier rel senders short free from via S F seen depth → HitOf rel free (member F) r → r < most_states
-    → SearchOf rel senders short free from via (member S) r depth
-frontier_found s h l = record {
-  found = λ _. let w = h.found l in record { rank = s.rank; forest = s.forest; inside = s.inside _ w.0; deep = s.deep _ w.0; hit = w.1; shortest = frontier_shortest s };
-  none = λ g. absurd (omega arith);
+pub frontier_found : {rel senders : List ℕ} {short free : ℕ} {from via : ℕ → ℕ} {S F seen depth r : ℕ} → Frontier rel senders short free from via S F seen depth
+    → (member F r ≡ true) × Hit rel free r → Found rel senders short free from via (record { row = r; depth = depth })
+frontier_found s h = record {
+  reached = _;
+  reaches = record { rank = s.rank; forest = s.forest; inside = s.inside _ h.0; deep = s.deep _ h.0; hit = h.1; shortest = frontier_shortest s };
 }
 
 pub frontier_end : {rel senders : List ℕ} {short free : ℕ} {from via : ℕ → ℕ} {S F seen depth : ℕ} → F ≡ 0 → Frontier rel senders short free from via S F seen depth
-    → SearchOf rel senders short free from via (member S) most_states depth
+    → Stuck rel senders short free from via (member S)
 frontier_end z s = record {
-  found = λ h. absurd (omega arith);
-  none = λ _. record {
-    rank = s.rank;
-    forest = s.forest;
-    starts = s.starts;
-    shut = λ i j h u. s.shut i j h (no_members z i) u;
-    closed = λ i i' j h u v. s.closed.senders_in i' j (s.gone i j h (no_members z i) u) v;
-  };
+  rank = s.rank;
+  forest = s.forest;
+  starts = s.starts;
+  shut = λ i j h u. s.shut i j h (no_members z i) u;
+  closed = λ i i' j h u v. s.closed.senders_in i' j (s.gone i j h (no_members z i) u) v;
 }
 
 -- what holds of the short rows and of all senders holds of every row of a forest
@@ -354,7 +350,7 @@ pub forest-all : {rel senders : List ℕ} {from via : ℕ → ℕ} {short : ℕ}
 forest-all P t h u zero i m e = h i (t.root i m e)
 forest-all {via = via} P t h u (suc k) i m e = u i (via i) (t.sender i k m e)
 
-pub frontier_rows : {rel senders links : List ℕ} {short free : ℕ} {from via : ℕ → ℕ} {S F seen depth : ℕ} → SearchRoom rel senders links short → Frontier rel senders short free from via S F seen depth
+pub frontier_rows : {rel senders : List ℕ} {short free : ℕ} {from via : ℕ → ℕ} {S F seen depth : ℕ} → SearchRoom rel senders short → Frontier rel senders short free from via S F seen depth
     → (i : ℕ) → member F i ≡ true → i < height rel
 frontier_rows {rel} w s i m = forest-all (λ (k : ℕ). k < height rel) s.forest w.starts w.rows (s.rank i) i (s.inside i m) refl
 

@@ -1,13 +1,14 @@
--- The row and the column by which each row below most-states was reached, in one list: the rows first, then the columns.
+-- The row and the column by which each row below most-states was reached.
 -- Assumes nothing.
-use Rattle.std.specs.Prelude.{List, ℕ, ◌+◌, ◌*◌, ◌≤◌, length, get_or}
-use Rattle.simulation.specs.Limits.{most_states}
+use Rattle.std.specs.Prelude.{ℕ, get_or}
+use Rattle.search.specs.declared.Link.{Link}
+use Rattle.search.specs.declared.Links.{Links}
 
-abbrev pub HasLinks : List ℕ → Type 0
-HasLinks links = 2 * most_states ≤ length links
+abbrev pub link_at : Links → ℕ → Link
+link_at links i = get_or links.rows i (record { from = 0; via = 0 })
 
-abbrev pub from : List ℕ → ℕ → ℕ
-from links i = get_or links i 0
+abbrev pub from : Links → ℕ → ℕ
+from links i = (link_at links i).from
 
-abbrev pub via : List ℕ → ℕ → ℕ
-via links i = get_or links (most_states + i) 0
+abbrev pub via : Links → ℕ → ℕ
+via links i = (link_at links i).via

@@ -1,27 +1,26 @@
 -- The search from the short rows, level by level, over masks: what each of its functions says.
 -- A row goes to the columns that it is related to, and a column to its senders. from and via give the row and the column by which a row was reached.
 -- Assumes nothing.
-use Rattle.std.specs.Prelude.{◌≡◌, true, false, List, ℕ, zero, suc, ◌≤◌, ◌<◌, get_or}
-use Rattle.simulation.specs.Limits.{most_states}
+use Rattle.std.specs.Prelude.{◌≡◌, true, false, List, Option, MatchOption, Result, MatchResult, ℕ, zero, suc, ◌≤◌, ◌<◌, get_or}
 use Rattle.word.specs.Mask.{Test, member}
 use Rattle.relation.specs.Rows.{height}
 use Rattle.relation.specs.Related.{holds}
 use Rattle.matrix.specs.Masks.{MaskOf}
-use Rattle.search.specs.Links.{HasLinks}
+use Rattle.set.specs.Words.{mask}
+use Rattle.set.specs.declared.Set.{Set}
+use Rattle.search.specs.declared.Path.{Path}
 
--- the lists are long enough, and the rows that can be reached have masks
-pub record SearchRoom (rel senders links : List ℕ) (short : ℕ) : Type 0 where
-  pub columns : most_states ≤ height senders
-  pub links_room : HasLinks links
+-- the rows that can be reached have masks
+pub record SearchRoom (rel senders : List ℕ) (short : ℕ) : Type 0 where
   pub starts : (i : ℕ) → member short i ≡ true → i < height rel
   pub rows : (i j : ℕ) → holds senders j i ≡ true → i < height rel
 
--- the rows of a set are reached from row r by column j, the other rows as they were; past most-states, where no row is, from runs into via
+-- the rows of a set are reached from row r by column j, the other rows as they were
 pub record RowsLinked (X : Test) (r j : ℕ) (from via from' via' : ℕ → ℕ) : Type 0 where
   pub new_from : (i : ℕ) → X i ≡ true → from' i ≡ r
   pub new_via : (i : ℕ) → X i ≡ true → via' i ≡ j
-  pub old_from : (i : ℕ) → i < most_states → X i ≡ false → from' i ≡ from i
-  pub old_via : (i : ℕ) → i < most_states → X i ≡ false → via' i ≡ via i
+  pub old_from : (i : ℕ) → X i ≡ false → from' i ≡ from i
+  pub old_via : (i : ℕ) → X i ≡ false → via' i ≡ via i
 
 -- S grows to S' along steps of E from a row to a column, and from there to a sender
 pub record Grows (E : ℕ → ℕ → Type 0) (senders : List ℕ) (S S' : Test) (from via from' via' : ℕ → ℕ) : Type 0 where
@@ -53,10 +52,10 @@ pub record Hit (rel : List ℕ) (free r : ℕ) : Type 0 where
   pub related : holds rel r column ≡ true
   pub is_free : member free column ≡ true
 
--- r is a row of the set F with a free column; most-states where there is none
-pub record HitOf (rel : List ℕ) (free : ℕ) (F : Test) (r : ℕ) : Type 0 where
-  pub found : r < most_states → (F r ≡ true) × Hit rel free r
-  pub none : most_states ≤ r → (i j : ℕ) → F i ≡ true → holds rel i j ≡ true → member free j ≡ false
+-- a row of the set F with a free column, or none has one
+abbrev pub HitOf : List ℕ → ℕ → Test → Option ℕ → Type 0
+HitOf rel free F hit =
+    MatchOption hit ((i j : ℕ) → F i ≡ true → holds rel i j ≡ true → member free j ≡ false) (λ r. (F r ≡ true) × Hit rel free r)
 
 -- each row of S has a rank: 0 for a short row, else one more than the row it was reached from
 pub record Forest (rel senders : List ℕ) (short : ℕ) (from via : ℕ → ℕ) (S : Test) (rank : ℕ → ℕ) : Type 0 where
@@ -88,10 +87,15 @@ pub record Stuck (rel senders : List ℕ) (short free : ℕ) (from via : ℕ →
   pub shut : (i j : ℕ) → S i ≡ true → holds rel i j ≡ true → member free j ≡ false
   pub closed : (i i' j : ℕ) → S i ≡ true → holds rel i j ≡ true → holds senders j i' ≡ true → S i' ≡ true
 
--- the search's answer: row r, or most-states where there is no path
-pub record SearchOf (rel senders : List ℕ) (short free : ℕ) (from via : ℕ → ℕ) (S : Test) (r depth : ℕ) : Type 0 where
-  pub found : r < most_states → Reaches rel senders short free from via S r depth
-  pub none : most_states ≤ r → Stuck rel senders short free from via S
+-- a path that a search found, whatever rows it reached
+pub record Found (rel senders : List ℕ) (short free : ℕ) (from via : ℕ → ℕ) (path : Path) : Type 0 where
+  pub reached : Test
+  pub reaches : Reaches rel senders short free from via reached path.row path.depth
+
+-- the search's answer: a path, or the rows reached where there is none
+abbrev pub SearchOf : (rel senders : List ℕ) (short free : ℕ) (from via : ℕ → ℕ) → Result Path Set → Type 0
+SearchOf rel senders short free from via answer =
+    MatchResult answer (λ path. Found rel senders short free from via path) (λ reached. Stuck rel senders short free from via (member (mask reached)))
 
 -- no path is left in a flow: short rows, free columns and links of the last search
 pub record Ended (p q : ℕ) (rel supply demand senders : List ℕ) (S : Test) : Type 0 where

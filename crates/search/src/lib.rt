@@ -6,24 +6,31 @@ ghost use Rattle.simulation.specs.Limits.{most_states};
 ghost use Rattle.word.specs.Mask.{member};
 ghost use Rattle.set.specs.Words.{mask};
 ghost use Rattle.relation.specs.Rows.{height};
-ghost use Rattle.search.specs.Links.{HasLinks, from, via};
+ghost use Rattle.search.specs.Links.{from, via};
 ghost use Rattle.search.specs.Search.{SearchRoom, RowsLinked, ColumnsFollowed, Closed, Levelled, HitOf, SearchOf};
 
+use matrix::Flow;
 use relation::rows;
-use set::{Set, walk};
+use set::Set;
 use simulation::Table;
 use word::Word;
 
-// Where the row and the column by which each row was reached lie in a lent slice.
+// The row and the column by which a row was reached.
+#[derive(Clone, Copy)]
+pub struct Link {
+    pub from: u8,
+    pub via: u8,
+}
+
+impl Link {
+    // What stands where no row was reached.
+    pub const NONE: Link = Link { from: 0, via: 0 };
+}
+
+// The links of all rows.
 #[derive(Drop)]
-pub struct Links {}
-
-impl Links {
-    pub const FROM_AT: usize = 0;
-
-    pub const VIA_AT: usize = Table::STATES;
-
-    pub const SIZE: usize = 2 * Table::STATES;
+pub struct Links {
+    pub rows: [Link; Table::STATES],
 }
 
 // The short rows and the free columns.
@@ -40,88 +47,69 @@ struct Visited {
     seen: Set,
 }
 
-// The rows reached, and the row of a free column with the length of its path; row Table::STATES where there is none.
+// A row with a free column, and how many steps it is from a short row.
 #[derive(Clone, Copy)]
 pub struct Path {
-    pub reached: Set,
     pub row: usize,
     pub depth: usize,
 }
 
-// The first of the rows with a free column; Table::STATES where there is none.
-fn hit(rel: &[Word], free: Set, rows: Set) -> usize
+// The first of the rows with a free column.
+fn hit(rel: &[Word], free: Set, rows: Set) -> Option<usize>
     requires { (i : ℕ) → member (mask rows) i ≡ true → i < height rel.now }
     ensures { HitOf rel.now (mask free) (member (mask rows)) result }
 {
-    for w in 0..Set::WORDS {
-        let mut left = rows.words[w];
-        while left != 0 {
-            let r = walk::lowest(rows, w, left);
-            if !set::is_empty(set::intersection(rows::get(rel, r), free)) {
-                return r;
-            }
-            left = walk::without_lowest(rows, w, left);
+    for r in rows {
+        if !rows::get(rel, r).intersection(free).is_empty() {
+            return Some(r);
         }
     }
-    Table::STATES
+    None
 }
 
 // The rows of a set were reached from row r by column j.
-fn link_rows(links: &mut [u8], rows: Set, r: usize, j: usize)
-    requires { HasLinks links.old × (r < most_states) × (j < most_states) }
+fn link_rows(links: &mut Links, rows: Set, r: usize, j: usize)
+    requires { (r < most_states) × (j < most_states) }
     ensures { RowsLinked (member (mask rows)) r j
         (from links.old) (via links.old) (from links.new) (via links.new) }
 {
-    for w in 0..Set::WORDS {
-        let mut left = rows.words[w];
-        while left != 0 {
-            let i = walk::lowest(rows, w, left);
-            links[Links::FROM_AT + i] = r as u8;
-            links[Links::VIA_AT + i] = j as u8;
-            left = walk::without_lowest(rows, w, left);
-        }
+    for i in rows {
+        links.rows[i] = Link {
+            from: r as u8,
+            via: j as u8,
+        };
     }
 }
 
 // Row r goes by its columns to their senders. Returns the rows reached then.
-fn follow(senders: &[Word], links: &mut [u8], columns: Set, r: usize, reached: Set) -> Set
-    requires { (most_states ≤ height senders.now) × HasLinks links.old × (r < most_states) }
-    ensures { ColumnsFollowed senders.now (member (mask columns)) r (member (mask reached)) (member (mask result))
+fn follow(flow: &Flow, links: &mut Links, columns: Set, r: usize, reached: Set) -> Set
+    requires { r < most_states }
+    ensures { ColumnsFollowed flow.now.senders.now (member (mask columns)) r (member (mask reached)) (member (mask result))
         (from links.old) (via links.old) (from links.new) (via links.new) }
 {
     let mut all = reached;
-    for w in 0..Set::WORDS {
-        let mut left = columns.words[w];
-        while left != 0 {
-            let j = walk::lowest(columns, w, left);
-            let new = set::difference(rows::get(senders, j), all);
-            link_rows(links, new, r, j);
-            all = set::union(all, new);
-            left = walk::without_lowest(columns, w, left);
-        }
+    for j in columns {
+        let new = flow.column(j).difference(all);
+        link_rows(links, new, r, j);
+        all = all.union(new);
     }
     all
 }
 
 // The rows of a level go by all their columns that were not gone to.
-fn level(rel: &[Word], senders: &[Word], links: &mut [u8], rows: Set, covered: Visited) -> Visited
-    requires { (most_states ≤ height senders.now) × HasLinks links.old × ((i : ℕ) → member (mask rows) i ≡ true → i < height rel.now)
-        × Closed senders.now (member (mask covered.seen)) (member (mask covered.reached)) }
-    ensures { Levelled rel.now senders.now (member (mask rows))
+fn level(rel: &[Word], flow: &Flow, links: &mut Links, rows: Set, covered: Visited) -> Visited
+    requires { ((i : ℕ) → member (mask rows) i ≡ true → i < height rel.now)
+        × Closed flow.now.senders.now (member (mask covered.seen)) (member (mask covered.reached)) }
+    ensures { Levelled rel.now flow.now.senders.now (member (mask rows))
         (member (mask covered.seen)) (member (mask result.seen)) (member (mask covered.reached)) (member (mask result.reached))
         (from links.old) (via links.old) (from links.new) (via links.new) }
 {
     let mut all = covered.reached;
     let mut gone = covered.seen;
-    for w in 0..Set::WORDS {
-        let mut left = rows.words[w];
-        while left != 0 {
-            let r = walk::lowest(rows, w, left);
-            let columns = set::difference(rows::get(rel, r), gone);
-            all = follow(senders, links, columns, r, all);
-            gone = set::union(gone, columns);
-            left = walk::without_lowest(rows, w, left);
-        }
+    for r in rows {
+        let columns = rows::get(rel, r).difference(gone);
+        all = follow(flow, links, columns, r, all);
+        gone = gone.union(columns);
     }
     Visited {
         reached: all,
@@ -129,38 +117,26 @@ fn level(rel: &[Word], senders: &[Word], links: &mut [u8], rows: Set, covered: V
     }
 }
 
-// Levels from the short rows on, up to the first with a free column.
-pub fn search(rel: &[Word], senders: &[Word], links: &mut [u8], ends: Ends) -> Path
-    requires { SearchRoom rel.now senders.now links.old (mask ends.short) }
-    ensures { SearchOf rel.now senders.now (mask ends.short) (mask ends.free)
-        (from links.new) (via links.new) (member (mask result.reached)) result.row result.depth }
+// Levels from the short rows on, up to the first with a free column. Where none has one, the rows reached.
+pub fn search(rel: &[Word], flow: &Flow, links: &mut Links, ends: Ends) -> Result<Path, Set>
+    requires { SearchRoom rel.now flow.now.senders.now (mask ends.short) }
+    ensures { SearchOf rel.now flow.now.senders.now (mask ends.short) (mask ends.free)
+        (from links.new) (via links.new) result }
 {
-    let short = ends.short;
-    let free = ends.free;
-    let mut reached = short;
-    let mut rows = short;
-    let mut seen = set::empty();
+    let mut covered = Visited {
+        reached: ends.short,
+        seen: Set::empty(),
+    };
+    let mut rows = ends.short;
     let mut depth = 0;
-    while !set::is_empty(rows) {
-        let r = hit(rel, free, rows);
-        if r < Table::STATES {
-            return Path {
-                reached,
-                row: r,
-                depth,
-            };
+    while !rows.is_empty() {
+        if let Some(row) = hit(rel, ends.free, rows) {
+            return Ok(Path { row, depth });
         }
-        let next = level(rel, senders, links, rows, Visited { reached, seen });
-        let all = next.reached;
-        let gone = next.seen;
-        rows = set::difference(all, reached);
-        reached = all;
-        seen = gone;
+        let next = level(rel, flow, links, rows, covered);
+        rows = next.reached.difference(covered.reached);
+        covered = next;
         depth += 1;
     }
-    Path {
-        reached,
-        row: Table::STATES,
-        depth,
-    }
+    Err(covered.reached)
 }

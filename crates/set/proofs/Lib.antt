@@ -2,3 +2,5 @@
 -- Assumes nothing.
 pub mod Words
 pub mod Sets
+pub mod ByWord
+pub mod Walks

@@ -1,9 +1,9 @@
 -- Sets of states and walks over them: the laws of numbers made of words, at the words of a set.
 -- Assumes nothing.
 use mathlib.Core.Path.{◌≡◌, refl, sym, ap, ap₂, ◌∙◌, subst, fun_ext}
-use mathlib.Core.Bool.{Bool, true, false, cond, not, ◌&&◌, true≢false}
+use mathlib.Core.Bool.{Bool, true, false, not, ◌&&◌, true≢false}
 use mathlib.Core.List.{List, [], ◌∷◌}
-use mathlib.Core.Logic.{◌⊎◌, inl, inr, ⊎_elim, ◌≢◌}
+use mathlib.Core.Logic.{⊎_elim, ◌≢◌}
 use native.Mathlib.Decide.{ℕ_discrete}
 use borrow.Author.Tests.{lt-ltb, le-ltb, eq-eqb, ne_eqb, eqb-true, eqb-false}
 use Prim.Native.Nat.{ℕ, zero, suc, ◌+◌, ◌-◌, ◌*◌, ◌/◌, ◌%◌, ◌^◌, ◌≤◌, ◌<◌, min}
@@ -11,16 +11,16 @@ use native.Mathlib.Nat.{not-suc-le-zero, le_of_suc-le-suc, lt_irrefl}
 use native.Mathlib.Omega.{arith}
 use lib.Dec.{eqb, ltb}
 use lib.Bits.{bit_or}
-use lib.ListN.{length, get_or, set, take, drop, length-set, length-take, length-drop}
-use lib.Seq.{get_or-set_same, get_or-set_other, get_or-take, get_or-drop}
+use lib.ListN.{length, get_or, set, length-set}
+use lib.Seq.{get_or-set_same, get_or-set_other}
 use Rattle.simulation.specs.Sum.{sum}
 use Rattle.word.specs.Mask.{Test, member, up_to, without_member, both, except, part, size, Lowest, word_bits}
 use Rattle.simulation.specs.Limits.{most_states}
 use Rattle.simulation.proofs.Finite.Tests.{neither_true}
-use Rattle.set.specs.Words.{words, word_of, mask, rest, after}
+use Rattle.set.specs.Words.{words, word_of, mask}
 use Rattle.set.specs.declared.Set.{Set}
 use Rattle.word.proofs.Mask.{member-none, member_or, below_or_not, no_member}
-use Rattle.set.proofs.Words.{equation, bit_at, number_lt, words_are, number_ext, number-none, word_wise, word_put, number_lowest, number-drop, number-less, words_size}
+use Rattle.set.proofs.Words.{equation, bit_at, number_lt, words_are, number-none, word_wise, word_put, number_lowest, number-drop, number-less, words_size}
 
 abbrev pub of_words : List ℕ → Set
 of_words l = record { words = l }
@@ -155,99 +155,6 @@ second s x = two (λ j. j ≢ 0 → word_of (of_words (x ∷ word_of s 1 ∷ [])
 pub second-alone : (s : Set) (x : ℕ) → word_of s 0 ≡ 0 → (j : ℕ) → j < words → j ≢ 1 → word_of (of_words (0 ∷ x ∷ [])) j ≡ word_of s j
 second-alone s x z = two (λ j. j ≢ 1 → word_of (of_words (0 ∷ x ∷ [])) j ≡ word_of s j) (λ ne. sym z) (λ ne. absurd (ne refl))
 
--- a walk: what is left in word w is `left`, nothing before it, and the set after it
-module _ (s : Set) where
-  left_in : ℕ → ℕ → ℕ → ℕ
-  left_in w left i = cond (ltb i w) 0 (cond (eqb i w) left (word_of s i))
-
-  left_here : (w left : ℕ) → left_in w left w ≡ left
-  unfolding left_in
-  left_here w left = rw (le-ltb w w (omega arith), eq-eqb w w refl)
-
-  left-before : (w left j : ℕ) → j < w → left_in w left j ≡ 0
-  unfolding left_in
-  left-before w left j lt = rw (lt-ltb j w lt)
-
-  left_other : (w x y j : ℕ) → j ≢ w → left_in w x j ≡ left_in w y j
-  unfolding left_in
-  left_other w x y j ne = rw (ne_eqb j w ne)
-
-  module _ (w left u : ℕ) (lw : w < words) (lu : u < word_bits) (l : Lowest (member left) u) where
-    no-left : (j v : ℕ) → j < w → member (left_in w left j) v ≡ false
-    no-left j v lt = ap (λ (n : ℕ). member n v) (left-before w left j lt) ∙ member-none v
-
-    in_word : Lowest (member (left_in w left w)) u
-    in_word = subst (λ (n : ℕ). Lowest (member n) u) (sym (left_here w left)) l
-
-    pub walk_lowest : Lowest (member (rest w left s)) (w * word_bits + u)
-    unfolding rest left_in
-    walk_lowest = number_lowest words (left_in w left) w u lw lu no-left in_word
-
-    pub walk_drop : (y : ℕ) → member y ≡ without_member u (member left) → (t : ℕ) → Lowest (member (rest w left s)) t
-        → member (rest w y s) ≡ without_member t (member (rest w left s))
-    unfolding rest left_in
-    walk_drop y e =
-        number-drop words (left_in w left) (left_in w y) w u lw lu no-left in_word
-        (ap member (left_here w y) ∙ e ∙ ap (λ (n : ℕ). without_member u (member n)) (sym (left_here w left)))
-        (λ j _ ne. left_other w y left j ne)
-
-  -- it starts with the set, goes from a word to the next, and ends with nothing
-  pub after-all : after 0 s ≡ mask s
-  unfolding after mask
-  after-all = number_ext words (λ i. cond (ltb i 0) 0 (word_of s i)) (word_of s) (λ i lt. ap (λ b. cond b 0 (word_of s i)) (le-ltb i 0 (omega arith)))
-
-  pub after-rest : (w : ℕ) → after w s ≡ rest w (word_of s w) s
-  unfolding after rest
-  after-rest w = number_ext words (λ i. cond (ltb i w) 0 (word_of s i)) (λ i. cond (ltb i w) 0 (cond (eqb i w) (word_of s w) (word_of s i))) (λ i lt. ap (cond (ltb i w) 0) (at i (ℕ_discrete i w)))
-    where
-      at : (i : ℕ) → Dec (i ≡ w) → word_of s i ≡ cond (eqb i w) (word_of s w) (word_of s i)
-      at i (yes e) = ap (word_of s) e ∙ ap (λ b. cond b (word_of s w) (word_of s i)) (sym (eq-eqb i w e))
-      at i (no q) = ap (λ b. cond b (word_of s w) (word_of s i)) (sym (ne_eqb i w q))
-
-  pub rest-after : (w : ℕ) → rest w 0 s ≡ after (w + 1) s
-  unfolding after rest
-  rest-after w = number_ext words (λ i. cond (ltb i w) 0 (cond (eqb i w) 0 (word_of s i))) (λ i. cond (ltb i (w + 1)) 0 (word_of s i)) (λ i lt. at i (below_or_not i w) (ℕ_discrete i w))
-    where
-      at : (i : ℕ) → (i < w) ⊎ (w ≤ i) → Dec (i ≡ w) → cond (ltb i w) 0 (cond (eqb i w) 0 (word_of s i)) ≡ cond (ltb i (w + 1)) 0 (word_of s i)
-      at i (inl lt) d = rw (lt-ltb i w lt, lt-ltb i (w + 1) (omega arith))
-      at i (inr ge) (yes e) = rw (le-ltb i w ge, eq-eqb i w e, lt-ltb i (w + 1) (omega arith))
-      at i (inr ge) (no q) = rw (le-ltb i w ge, ne_eqb i w q, le-ltb i (w + 1) (omega (arith, q)))
-
-  pub after_none : after words s ≡ 0
-  unfolding after
-  after_none = number-none words (λ i. cond (ltb i words) 0 (word_of s i)) (λ i lt. ap (λ b. cond b 0 (word_of s i)) (lt-ltb i words lt))
-
-  -- the same for whatever is known of what is left
-  module _ (P : ℕ → Type 0) where
-    pub walk_begin : P (mask s) → P (after 0 s)
-    walk_begin = subst P (sym after-all)
-
-    pub walk_into : (w : ℕ) → P (after w s) → P (rest w (word_of s w) s)
-    walk_into w = subst P (after-rest w)
-
-    pub walk_on : (w left : ℕ) → left ≡ 0 → P (rest w left s) → P (after (w + 1) s)
-    walk_on w left e h = subst P (rest-after w) (subst (λ (n : ℕ). P (rest w n s)) e h)
-
-  pub walk_done : (w : ℕ) → w ≡ words → after w s ≡ 0
-  walk_done w e = ap (λ (n : ℕ). after n s) e ∙ after_none
-
--- tests that agree below n
-part_ext : (n : ℕ) (X Y : Test) → ((j : ℕ) → j < n → X j ≡ Y j) → part n X ≡ part n Y
-part_ext n X Y e = fun_ext (λ k. ⊎_elim
-    (λ lt. ap (λ b. ltb k n && b) (e k lt))
-    (λ le. ap (λ b. b && X k) (le-ltb k n le) ∙ sym (ap (λ b. b && Y k) (le-ltb k n le)))
-    (below_or_not k n))
-
--- the places of a list whose number passes
-abbrev pub passing : Test → List ℕ → Test
-passing F ts = part (length ts) (λ j. F (get_or ts j 0))
-
-pub part-take : (F : Test) (k : ℕ) (ts : List ℕ) → k ≤ length ts → passing F (take k ts) ≡ part k (λ j. F (get_or ts j 0))
-part-take F k ts h =
-    let m : length (take k ts) ≡ k = simp length-take (omega arith) in
-    ap (λ (n : ℕ). part n (λ j. F (get_or (take k ts) j 0))) m
-    ∙ part_ext k (λ j. F (get_or (take k ts) j 0)) (λ j. F (get_or ts j 0)) (λ j l. ap F (get_or-take k ts j 0 l))
-
 -- the first w words of a list have the bits of a test
 pub record FilledBy (X : Test) (w : ℕ) (l : List ℕ) : Type 0 where
   pub size : length l ≡ words
@@ -273,20 +180,6 @@ module _ (X : Test) where
       (λ i u li lu. ap (λ Y. Y u) (h.each i (omega arith)) ∙ ap (λ b. b && X (i * word_bits + u)) (lt-ltb u word_bits lu))
       (λ t le. out t (omega arith))
 
--- the same for the places of a list that pass a test
-abbrev pub PlacesFilled : (F : Test) (ts : List ℕ) (w : ℕ) (l : List ℕ) → Type 0
-PlacesFilled F ts w l = FilledBy (passing F ts) w l
-
-module _ (F : Test) (ts : List ℕ) where
-  pub places_start : {l : List ℕ} → length l ≡ words → PlacesFilled F ts 0 l
-  places_start = by_start (passing F ts)
-
-  pub places_next : (w x : ℕ) {l : List ℕ} → w < words → PlacesFilled F ts w l → member x ≡ part word_bits (λ u. passing F ts (w * word_bits + u)) → PlacesFilled F ts (w + 1) (set l w x)
-  places_next = by_next (passing F ts)
-
-  pub places_all : {w : ℕ} (s : Set) → w ≡ words → length ts ≤ most_states → PlacesFilled F ts w s.words → member (mask s) ≡ passing F ts
-  places_all s e few h = by_all (passing F ts) s e (λ t out. ap (λ b. b && F (get_or ts t 0)) (le-ltb t (length ts) (omega arith))) h
-
 -- word w has the places from a to before b of those below n
 module _ (F : Test) (n w : ℕ) {a b : ℕ} (ea : a ≡ min (w * word_bits) n) (eb : b ≡ min ((w + 1) * word_bits) n) where
   inside : (k : ℕ) → k < b - a → (ltb k (b - a) && F (a + k)) ≡ part word_bits (λ u. part n F (w * word_bits + u)) k
@@ -304,19 +197,6 @@ module _ (F : Test) (n w : ℕ) {a b : ℕ} (ea : a ≡ min (w * word_bits) n) (
 
   pub word_part : part (b - a) (λ k. F (a + k)) ≡ part word_bits (λ u. part n F (w * word_bits + u))
   word_part = fun_ext (λ k. ⊎_elim (inside k) (outside k) (below_or_not k (b - a)))
-
--- the same for the places of a list
-pub slice_passing : (F : Test) (ts : List ℕ) (w : ℕ) {a b : ℕ} → a ≡ min (w * word_bits) (length ts) → b ≡ min ((w + 1) * word_bits) (length ts)
-    → passing F (take (b - a) (drop a ts)) ≡ part word_bits (λ u. passing F ts (w * word_bits + u))
-slice_passing F ts w {a} {b} ea eb =
-    let m : length (take (b - a) (drop a ts)) ≡ b - a = simp (length-take, length-drop) (omega arith) in
-    fun_ext (λ k.
-    ap (λ (n : ℕ). ltb k n && F (get_or (take (b - a) (drop a ts)) k 0)) m
-    ∙ ⊎_elim
-    (λ lt. ap (λ x. ltb k (b - a) && F x) (get_or-take (b - a) (drop a ts) k 0 lt ∙ get_or-drop a ts k 0))
-    (λ le. ap (λ c. c && F (get_or (take (b - a) (drop a ts)) k 0)) (le-ltb k (b - a) le) ∙ sym (ap (λ c. c && F (get_or ts (a + k) 0)) (le-ltb k (b - a) le)))
-    (below_or_not k (b - a)))
-    ∙ word_part (λ i. F (get_or ts i 0)) (length ts) w ea eb
 
 -- a set that was read from a row
 module _ {Z : Test} {g x : ℕ} (e : g ≡ x) where

@@ -8,16 +8,16 @@ use Rattle.simulation.specs.Limits.{most_codes, most_states, most_transitions, m
 use Rattle.layout.specs.Bytes.{actions, states_start, states, transitions_start, transitions, entries_start, entries, refusal}
 use Rattle.layout.proofs.Bounds.{passes, accepted_bounds, transitions_start_is, entries_start_is, end_is}
 use Rattle.table.specs.declared.parts.Layout.{Layout}
-use Rattle.table.specs.Stages.{layout}
+use Rattle.table.specs.Layouts.{layout}
 
 pub record Parts (w : ℕ) (s : List ℕ) (t : Layout) : Type 0 where
   pub actions_are : t.actions ≡ actions w s
-  pub states_are : t.states ≡ states w s
-  pub transitions-are : t.transitions ≡ transitions w s
-  pub entries-are : t.entries ≡ entries w s
-  pub counts-from : t.counts_at ≡ states_start w s + 1
-  pub transitions-from : t.transitions_at ≡ transitions_start w s + 2
-  pub entries_from : t.entries_at ≡ entries_start w s + 2
+  pub states_are : t.states.count ≡ states w s
+  pub transitions-are : t.transitions.count ≡ transitions w s
+  pub entries-are : t.entries.count ≡ entries w s
+  pub counts-from : t.states.at ≡ states_start w s + 1
+  pub transitions-from : t.transitions.at ≡ transitions_start w s + 2
+  pub entries_from : t.entries.at ≡ entries_start w s + 2
   pub after_states : transitions_start w s ≡ states_start w s + 1 + states w s
   pub after_transitions : entries_start w s ≡ transitions_start w s + 2 + (w + 1) * transitions w s
   pub at-end : entries_start w s + 2 + 3 * entries w s ≡ length s
@@ -31,12 +31,12 @@ parts-known w s t e q =
     let b = accepted_bounds w s e in
     record {
       actions_are = ap (λ (t : Layout). t.actions) q;
-      states_are = ap (λ (t : Layout). t.states) q;
-      transitions-are = ap (λ (t : Layout). t.transitions) q;
-      entries-are = ap (λ (t : Layout). t.entries) q;
-      counts-from = ap (λ (t : Layout). t.counts_at) q;
-      transitions-from = ap (λ (t : Layout). t.transitions_at) q;
-      entries_from = ap (λ (t : Layout). t.entries_at) q;
+      states_are = ap (λ (t : Layout). t.states.count) q;
+      transitions-are = ap (λ (t : Layout). t.transitions.count) q;
+      entries-are = ap (λ (t : Layout). t.entries.count) q;
+      counts-from = ap (λ (t : Layout). t.states.at) q;
+      transitions-from = ap (λ (t : Layout). t.transitions.at) q;
+      entries_from = ap (λ (t : Layout). t.entries.at) q;
       after_states = transitions_start_is w s;
       after_transitions = entries_start_is w s;
       at-end = sym (end_is w s) ∙ (passes w s e).of_end;

@@ -1,4 +1,4 @@
 -- The definitions, in reading order.
 -- Assumes nothing.
-pub mod Answers
-pub mod Stages
+pub mod Sections
+pub mod Layouts

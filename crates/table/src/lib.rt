@@ -5,5 +5,4 @@ pub mod parts;
 mod reader;
 mod sections;
 
-pub use parts::TableAnswer;
 pub use reader::{check, read};

@@ -1,32 +1,35 @@
 // Reads a table, its sections in their order.
-ghost use Rattle.std.specs.Prelude.{◌≡◌};
 ghost use Rattle.simulation.specs.Limits.{wide};
-ghost use Rattle.layout.specs.Bytes.{CodeWidth, refusal};
-ghost use Rattle.table.specs.Stages.{answer};
+ghost use Rattle.layout.specs.Bytes.{decode_as, refusal};
+ghost use Rattle.layout.specs.Refusals.{PassesUnless};
+ghost use Rattle.table.specs.Layouts.{Answers};
 
-use crate::parts::TableAnswer;
+use crate::parts::Layout;
 use crate::sections;
-use simulation::Width;
+use items::cursor::Cursor;
+use layout::{Refusal, TableBytes};
 
-// The table in the bytes, where a code takes width bytes, or the number of its refusal.
-pub fn read(s: &[u8], width: usize) -> TableAnswer
-    requires { CodeWidth width }
-    ensures { result ≡ answer width s.now }
+// Where the parts of the table lie, or what refuses the bytes.
+pub fn read(s: &TableBytes) -> Result<Layout, Refusal>
+    ensures { Answers s.now.width (decode_as s.now.width s.now.bytes.now) result }
 {
-    let a = sections::actions(s, width);
-    let b = sections::states(s, width, a);
-    let c = sections::transitions(s, width, b);
-    let d = sections::entries(s, width, c);
-    sections::end(s, width, d)
+    let (actions, c) = sections::actions(s, Cursor::new())?;
+    let (states, c) = sections::states(s, c)?;
+    let (transitions, c) = sections::transitions(s, actions, states, c)?;
+    let (entries, c) = sections::entries(s, states.count, transitions, c)?;
+    Refusal::Trailing.unless(c.at == s.bytes.len())?;
+    Ok(Layout {
+        actions,
+        states,
+        transitions,
+        entries,
+    })
 }
 
-// The number of the refusal of the bytes, 0 where they are accepted.
-pub fn check(bytes: &[u8]) -> u8
-    ensures { result ≡ refusal wide bytes.now }
+// What refuses the bytes of a table in the wide layout.
+pub fn check(bytes: &[u8]) -> Result<(), Refusal>
+    ensures { PassesUnless (refusal wide bytes.now) result }
 {
-    let answer = read(bytes, Width::WIDE);
-    match answer {
-        TableAnswer::Refused(number) => number,
-        TableAnswer::Accepted(_) => 0,
-    }
+    read(&TableBytes::wide(bytes))?;
+    Ok(())
 }

@@ -1,152 +1,102 @@
-// The four sections in their order: each takes the stage that the one before has reached.
+// The four sections in their order: each begins where its cursor stands, and hands back what it read and the cursor at the next.
 ghost use Rattle.std.specs.Prelude.{◌≡◌, ◌≤◌, ◌<◌};
-ghost use Rattle.layout.specs.Bytes.{CodeWidth};
-ghost use Rattle.table.specs.Answers.{items_read};
-ghost use Rattle.table.specs.Stages.{after_actions, after_states, after_transitions, after_entries, answer};
+ghost use Rattle.layout.specs.Bytes.{actions, states_start, states, actions_refusal, states_refusal, transitions_refusal, entries_refusal};
+ghost use Rattle.layout.specs.Refusals.{number_of, GivesUnless};
+ghost use Rattle.table.specs.Sections.{count_refusal, CountRead, CodesRead, StatesRead, TransitionsRead, EntriesRead};
 
-use crate::parts::{Layout, Stage, TableAnswer};
-use items::cursor::{Cursor, Read};
-use items::items::{codes_refusal, entries_refusal, sum_of, transitions_refusal};
+use crate::parts::Items;
+use items::cursor::Cursor;
+use items::items::{check_codes, check_entries, check_transitions, sum_of};
+use layout::{Refusal, TableBytes};
 use simulation::Table;
 
-// The items of a section: how many, where the first lies, and the cursor after the last; or the number of the refusal.
-#[derive(Clone, Copy)]
-pub enum Items {
-    Refused(u8),
-    At(usize, usize, Cursor),
+// A count of two bytes, at most limit and equal to total, or else refused; and then the count's items of width bytes each.
+fn counted(
+    s: &[u8],
+    c: Cursor,
+    limit: usize,
+    total: usize,
+    refusal: Refusal,
+    width: usize,
+) -> Result<(Items, Cursor), Refusal>
+    requires { (width ≤ 3) × (limit < 65536) }
+    ensures { GivesUnless (count_refusal s.now c.at limit total (number_of refusal) width) result
+        (λ r. CountRead s.now c.at width r.0 r.1.at) }
+{
+    let (count, c) = c.half(s)?;
+    refusal.unless(count <= limit)?;
+    refusal.unless(count == total)?;
+    let (at, c) = c.part(s, width * count)?;
+    Ok((Items { count, at }, c))
 }
 
-// A count of two bytes, at most limit and equal to total, or else the refusal number; and then the count's items of width bytes each.
-fn counted(s: &[u8], c: Cursor, limit: usize, total: usize, number: u8, width: usize) -> Items
-    requires { (0 < number) × (width ≤ 3) × (limit < 65536) }
-    ensures { result ≡ items_read s.now c.at limit total number width }
+// Section 1: the action codes, in fields as wide as their count. Returns how many there are.
+pub fn actions(s: &TableBytes, c: Cursor) -> Result<(usize, Cursor), Refusal>
+    requires { c.at ≡ 0 }
+    ensures { GivesUnless (actions_refusal s.now.width s.now.bytes.now) result
+        (λ r. CodesRead s.now.width s.now.bytes.now r.0 r.1.at) }
 {
-    let Read::Value(n, c) = c.half(s) else {
-        return Items::Refused(1);
-    };
-    if limit < n {
-        return Items::Refused(number);
-    }
-    if n != total {
-        return Items::Refused(number);
-    }
-    let Read::Value(at, c) = c.part(s, width * n) else {
-        return Items::Refused(1);
-    };
-    Items::At(n, at, c)
-}
-
-// Section 1: the action codes, of width bytes each, as is their count.
-pub fn actions(s: &[u8], width: usize) -> Stage
-    requires { CodeWidth width }
-    ensures { result ≡ after_actions width s.now }
-{
-    let Read::Value(n, c) = Cursor::new().field(s, width) else {
-        return Stage::Refused(1);
-    };
-    if Table::CODES < n {
-        return Stage::Refused(3);
-    }
-    let Read::Value(_, c) = c.part(s, width * n) else {
-        return Stage::Refused(1);
-    };
-    let refusal = codes_refusal(s, width, n);
-    if refusal != 0 {
-        return Stage::Refused(refusal);
-    }
-    let mut t = Layout::unread();
-    t.actions = n;
-    Stage::At(t, c)
+    let (n, c) = c.field(s)?;
+    Refusal::Codes.unless(n <= Table::CODES)?;
+    let (_, c) = c.part(s.bytes, s.width * n)?;
+    check_codes(s, n)?;
+    Ok((n, c))
 }
 
 // Section 2: how many transitions each state has.
-pub fn states(s: &[u8], width: usize, stage: Stage) -> Stage
-    requires { stage ≡ after_actions width s.now }
-    ensures { result ≡ after_states width s.now }
+pub fn states(s: &TableBytes, c: Cursor) -> Result<(Items, Cursor), Refusal>
+    requires { c.at ≡ states_start s.now.width s.now.bytes.now }
+    ensures { GivesUnless (states_refusal s.now.width s.now.bytes.now) result
+        (λ r. StatesRead s.now.width s.now.bytes.now r.0 r.1.at) }
 {
-    let Stage::At(t, c) = stage else {
-        return stage;
-    };
-    let Read::Value(n, c) = c.byte(s) else {
-        return Stage::Refused(1);
-    };
-    if n == 0 {
-        return Stage::Refused(4);
-    }
-    if Table::STATES < n {
-        return Stage::Refused(4);
-    }
-    let Read::Value(at, c) = c.part(s, n) else {
-        return Stage::Refused(1);
-    };
-    let mut t = t;
-    t.states = n;
-    t.counts_at = at;
-    Stage::At(t, c)
+    let (count, c) = c.byte(s.bytes)?;
+    Refusal::States.unless(0 < count)?;
+    Refusal::States.unless(count <= Table::STATES)?;
+    let (at, c) = c.part(s.bytes, count)?;
+    Ok((Items { count, at }, c))
 }
 
-// Section 3: the transitions.
-pub fn transitions(s: &[u8], width: usize, stage: Stage) -> Stage
-    requires { CodeWidth width × (stage ≡ after_states width s.now) }
-    ensures { result ≡ after_transitions width s.now }
+// Section 3: the transitions of these states, where n codes are listed.
+pub fn transitions(
+    s: &TableBytes,
+    n: usize,
+    states: Items,
+    c: Cursor,
+) -> Result<(Items, Cursor), Refusal>
+    requires codes { (actions_refusal s.now.width s.now.bytes.now ≡ 0) × (n ≡ actions s.now.width s.now.bytes.now) }
+    requires states { (states_refusal s.now.width s.now.bytes.now ≡ 0) × StatesRead s.now.width s.now.bytes.now states c.at }
+    ensures { GivesUnless (transitions_refusal s.now.width s.now.bytes.now) result
+        (λ r. TransitionsRead s.now.width s.now.bytes.now r.0 r.1.at) }
 {
-    let Stage::At(t, c) = stage else {
-        return stage;
-    };
-    let total = sum_of(s, t.counts_at, 1, t.states);
-    let items = counted(s, c, Table::TRANSITIONS, total, 5, width + 1);
-    match items {
-        Items::Refused(number) => Stage::Refused(number),
-        Items::At(m, at, c) => {
-            let refusal = transitions_refusal(s, width, t.actions, at, m);
-            if refusal != 0 {
-                return Stage::Refused(refusal);
-            }
-            let mut t = t;
-            t.transitions = m;
-            t.transitions_at = at;
-            Stage::At(t, c)
-        }
-    }
+    let total = sum_of(s.bytes, states.at, 1, states.count);
+    let (items, c) = counted(
+        s.bytes,
+        c,
+        Table::TRANSITIONS,
+        total,
+        Refusal::Transitions,
+        s.width + 1,
+    )?;
+    check_transitions(s, n, items.at, items.count)?;
+    Ok((items, c))
 }
 
-// Section 4: the entries.
-pub fn entries(s: &[u8], width: usize, stage: Stage) -> Stage
-    requires { CodeWidth width × (stage ≡ after_transitions width s.now) }
-    ensures { result ≡ after_entries width s.now }
+// Section 4: the entries of these transitions, in a table of n states.
+pub fn entries(
+    s: &TableBytes,
+    n: usize,
+    transitions: Items,
+    c: Cursor,
+) -> Result<(Items, Cursor), Refusal>
+    requires states { n ≡ states s.now.width s.now.bytes.now }
+    requires transitions { (transitions_refusal s.now.width s.now.bytes.now ≡ 0)
+        × TransitionsRead s.now.width s.now.bytes.now transitions c.at }
+    ensures { GivesUnless (entries_refusal s.now.width s.now.bytes.now) result
+        (λ r. EntriesRead s.now.width s.now.bytes.now r.0 r.1.at) }
 {
-    let Stage::At(t, c) = stage else {
-        return stage;
-    };
-    let sizes = t.transitions_at + width;
-    let total = sum_of(s, sizes, width + 1, t.transitions);
-    let items = counted(s, c, Table::ENTRIES, total, 7, 3);
-    match items {
-        Items::Refused(number) => Stage::Refused(number),
-        Items::At(n, at, c) => {
-            let refusal = entries_refusal(s, width, t.states, sizes, t.transitions, at);
-            if refusal != 0 {
-                return Stage::Refused(refusal);
-            }
-            let mut t = t;
-            t.entries = n;
-            t.entries_at = at;
-            Stage::At(t, c)
-        }
-    }
-}
-
-// Nothing may follow section 4.
-pub fn end(s: &[u8], width: usize, stage: Stage) -> TableAnswer
-    requires { stage ≡ after_entries width s.now }
-    ensures { result ≡ answer width s.now }
-{
-    match stage {
-        Stage::Refused(number) => TableAnswer::Refused(number),
-        Stage::At(t, c) => if c.at == s.len() {
-            TableAnswer::Accepted(t)
-        } else {
-            TableAnswer::Refused(2)
-        },
-    }
+    let sizes = transitions.at + s.width;
+    let total = sum_of(s.bytes, sizes, s.width + 1, transitions.count);
+    let (items, c) = counted(s.bytes, c, Table::ENTRIES, total, Refusal::Entries, 3)?;
+    check_entries(s, n, sizes, transitions.count, items.at)?;
+    Ok((items, c))
 }

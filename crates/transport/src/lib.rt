@@ -4,22 +4,20 @@
 // something left to send, a column free while it can take more.
 #![tactic(auto)]
 
-ghost use Rattle.std.specs.Prelude.{◌≡◌, ℕ, ◌^◌, ◌<◌, ◌*◌, length, get_or};
-ghost use Rattle.simulation.specs.Limits.{most_states};
-ghost use Rattle.set.specs.Words.{words, mask};
-ghost use Rattle.relation.specs.Rows.{row_of};
+ghost use Rattle.std.specs.Prelude.{◌≡◌, ◌^◌, ◌<◌, length, get_or};
+ghost use Rattle.set.specs.Words.{mask};
 ghost use Rattle.matrix.specs.Problem.{Given};
 ghost use Rattle.matrix.specs.Masks.{MaskOf};
-ghost use Rattle.matrix.specs.Flow.{missing, partial, FlowIn};
-ghost use Rattle.search.specs.Links.{HasLinks};
+ghost use Rattle.matrix.specs.Flow.{missing, FlowIn};
+ghost use Rattle.matrix.specs.Held.{held, SameLists};
 ghost use Rattle.transport.specs.Answer.{MaximumFlow};
 ghost use Rattle.transport.specs.Paths.{Counts, Grown};
 
 use augment::push;
 use greedy::{begin, fill};
-use matrix::positive;
+use matrix::Flow;
 use relation::Relation;
-use search::{Ends, Links, search};
+use search::{Ends, Link, Links, search};
 use set::Set;
 use simulation::Table;
 use word::Word;
@@ -32,52 +30,25 @@ pub struct Outcome {
 }
 
 // A maximum flow from a partial one. Returns the rows that the last search reached, and the number of paths.
-fn improve(
-    amounts: &mut [u32],
-    supply: &mut [u32],
-    demand: &mut [u32],
-    senders: &mut [Word],
-    rel: &[Word],
-    links: &mut [u8],
-    free: Set,
-) -> Outcome
-    requires { FlowIn rel.now (partial amounts.old supply.old demand.old senders.old)
-        × MaskOf (length demand.old) (λ j. get_or demand.old j 0) (mask free) × HasLinks links.old
-        × (missing (length demand.old) demand.old < 2 ^ 32) }
-    ensures { Grown rel.now result.paths (partial amounts.old supply.old demand.old senders.old)
-        (partial amounts.new supply.new demand.new senders.new) (mask result.cut) }
+fn improve(flow: &mut Flow, rel: &[Word], links: &mut Links, free: Set) -> Outcome
+    requires { FlowIn rel.now (held flow.old)
+        × MaskOf (length flow.old.demand.now) (λ j. get_or flow.old.demand.now j 0) (mask free)
+        × (missing (length flow.old.demand.now) flow.old.demand.now < 2 ^ 32) }
+    ensures grown { Grown rel.now result.paths (held flow.old) (held flow.new) (mask result.cut) }
+    ensures same_lists { SameLists flow.old flow.new }
 {
-    let mut ends = Ends {
-        short: positive(supply),
-        free,
-    };
-    let mut path = search(rel, senders, links, ends);
+    let short = flow.short();
+    let mut ends = Ends { short, free };
     let mut paths = 0u32;
-    while path.row < Table::STATES {
-        ends = push(amounts, supply, demand, senders, rel, links, ends, path);
-        paths += 1;
-        path = search(rel, senders, links, ends);
+    loop {
+        match search(rel, flow, links, ends) {
+            Ok(path) => {
+                ends = push(flow, rel, links, ends, path);
+                paths += 1;
+            }
+            Err(cut) => return Outcome { cut, paths },
+        }
     }
-    let cut = path.reached;
-    Outcome { cut, paths }
-}
-
-fn no_amounts() -> [u32; Table::STATES]
-    ensures { length result ≡ most_states }
-{
-    [0u32; Table::STATES]
-}
-
-fn no_senders() -> [Word; Relation::WORDS]
-    ensures { (length result ≡ most_states * words) × ((j : ℕ) → row_of result j ≡ 0) }
-{
-    [0; Relation::WORDS]
-}
-
-fn no_links() -> [u8; Links::SIZE]
-    ensures { HasLinks result }
-{
-    [0u8; Links::SIZE]
 }
 
 // A maximum flow from the distribution m to n, in amounts, and 01's smallest of the sets with the largest excess: empty exactly if m fits n.
@@ -87,27 +58,19 @@ pub fn maximum_flow(m: &[u16], n: &[u16], rel: &[Word], amounts: &mut [u32]) -> 
     ensures { MaximumFlow m.now n.now rel.now amounts.old amounts.new (mask result.cut)
         × Counts m.now n.now rel.now amounts.new result.paths }
 {
-    let p = m.len();
-    let q = n.len();
-    let mut supply = no_amounts();
-    let mut demand = no_amounts();
-    let mut senders = no_senders();
-    let mut links = no_links();
-    begin(m, n, amounts, &mut supply, &mut demand);
-    let free = fill(
+    let mut supply = [0u32; Table::STATES];
+    let mut demand = [0u32; Table::STATES];
+    let mut senders = [0; Relation::WORDS];
+    let mut links = Links {
+        rows: [Link::NONE; Table::STATES],
+    };
+    let mut flow = Flow {
         amounts,
-        &mut supply[..p],
-        &mut demand[..q],
-        &mut senders,
-        rel,
-    );
-    improve(
-        amounts,
-        &mut supply[..p],
-        &mut demand[..q],
-        &mut senders,
-        rel,
-        &mut links,
-        free,
-    )
+        supply: &mut supply[..m.len()],
+        demand: &mut demand[..n.len()],
+        senders: &mut senders,
+    };
+    begin(&mut flow, m, n);
+    let free = fill(&mut flow, rel);
+    improve(&mut flow, rel, &mut links, free)
 }

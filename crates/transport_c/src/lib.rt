@@ -13,31 +13,14 @@ use word::Word;
 fn accepts(m: &[u16], n: &[u16], rel: &[Word], amounts: &[u32], cut: &[Word], paths: &[u32]) -> bool
     ensures { Accepts m.now n.now rel.now amounts.now cut.now paths.now result }
 {
-    if Table::STATES < m.len() {
-        return false;
-    }
-    if Table::STATES < n.len() {
-        return false;
-    }
-    if rel.len() / Set::WORDS < m.len() {
-        return false;
-    }
-    if amounts.len() < Table::PAIRS {
-        return false;
-    }
-    if cut.len() < Set::WORDS {
-        return false;
-    }
-    if paths.len() < 1 {
-        return false;
-    }
-    if (Table::TOTAL as u32) < greedy::total_weight(m) {
-        return false;
-    }
-    if (Table::TOTAL as u32) < greedy::total_weight(n) {
-        return false;
-    }
-    true
+    m.len() <= Table::STATES
+        && n.len() <= Table::STATES
+        && m.len() <= rel.len() / Set::WORDS
+        && Table::PAIRS <= amounts.len()
+        && Set::WORDS <= cut.len()
+        && 1 <= paths.len()
+        && greedy::total_weight(m) <= Table::TOTAL as u32
+        && greedy::total_weight(n) <= Table::TOTAL as u32
 }
 
 // The kernel's flow in amounts, its cut in the first words of cut and the number of augmenting paths in paths[0], and 1; or 0, with nothing

@@ -4,7 +4,7 @@
 use mathlib.Core.Path.{◌≡◌, refl, sym, ap, ap₂, ◌∙◌, subst}
 use mathlib.Core.Bool.{Bool, true, false, not, ◌&&◌, and-true, and-false}
 use mathlib.Core.List.{List, [], ◌∷◌, ◌++◌, map, append-nil}
-use Prim.Native.Nat.{ℕ, zero, suc, ◌+◌, ◌-◌, ◌≤◌, ◌<◌}
+use Prim.Native.Nat.{ℕ, zero, suc, ◌+◌, ◌-◌, ◌/◌, ◌%◌, ◌^◌, ◌≤◌, ◌<◌}
 use native.Mathlib.Nat.{le_refl, lt_irrefl}
 use native.Mathlib.Decide.{ℕ_discrete}
 use native.Mathlib.Omega.{arith}
@@ -13,6 +13,7 @@ use lib.ListN.{length, get_or, drop, length-map, drop_of_length-le, get_or-map}
 use lib.Seq.{drop-cons}
 use native.Mathlib.Numerals.{add-one}
 use borrow.Author.Tests.{eq-eqb, ne_eqb}
+use Rattle.std.specs.Int.{w16, to_le_bytes}
 use Rattle.simulation.specs.Limits.{most_states}
 use Rattle.simulation.specs.Sum.{sum, when}
 use Rattle.simulation.specs.Table.{Entry, Table, states_of}
@@ -22,6 +23,10 @@ use Rattle.simulation.proofs.Finite.Tests.{is_false}
 use Rattle.simulation.proofs.Trees.Nodes.{kids, kids_weights, steps_in, steps-out, node_count, targets_of}
 use Rattle.word.specs.Mask.{Lowest, without_member}
 use Rattle.tree.specs.Begin.{transition_head, head_bytes, entry_bytes}
+
+-- a number below 2 ^ 16, low byte first
+pub low_and_high : {n : ℕ} {bs : List ℕ} → bs ≡ to_le_bytes w16 n → n < 2 ^ 16 → (get_or bs 0 0 ≡ n % 256) × (get_or bs 1 0 ≡ n / 256)
+low_and_high e small = (ap (λ (l : List ℕ). get_or l 0 0) e, ap (λ (l : List ℕ). get_or l 1 0) e ∙ omega arith)
 
 abbrev pub weights_of : List Entry → ℕ → ℕ
 weights_of es i = get_or (map (λ (e : Entry). e.weight) es) i 0

@@ -8,6 +8,8 @@ use native.Mathlib.Omega.{arith}
 use lib.Dec.{T}
 use lib.ListN.{length, get_or, take, drop, length-append, length-drop, get_or-append}
 use lib.Seq.{get_or-take, length-take-le}
+use Rattle.std.specs.Prelude.{Option, None, IfSome}
+use Rattle.std.specs.Option.{option_or}
 use Rattle.simulation.specs.Limits.{most_states}
 use Rattle.simulation.specs.Table.{Transition, Table, weights, target_at, states_of, transition}
 use Rattle.simulation.specs.Round.{pairs, rank}
@@ -32,13 +34,14 @@ use Rattle.choice.proofs.Choices.{choice-number, below-lost}
 use Rattle.measure.specs.Lengths.{set_length, SumGiven, Measured}
 use Rattle.tree.specs.declared.write.Node.{Node}
 use Rattle.tree.specs.declared.write.Rest.{Rest}
+use Rattle.tree.specs.declared.write.Source.{Source}
 use Rattle.tree.specs.declared.write.Step.{Step}
 use Rattle.tree.specs.Begin.{head_bytes, entry_bytes, BeginGiven, TransitionBegun}
-use Rattle.tree.specs.Parts.{At, words_for, nothing, Remains, Depth, node_of, step_of, StepGiven, NodeGiven, Around}
+use Rattle.tree.specs.Parts.{At, words_for, offset, Depth, node_of, step_of, StepGiven, NodeGiven, Around}
 use Rattle.tree.proofs.Bytes.{children_from, child-at, no_children, step_is}
 use Rattle.tree.proofs.Lengths.{fallen-set, node_size}
 use Rattle.tree.proofs.Places.{at_self, at-is, at_front, at_back, piece, placed}
-use Rattle.tree.proofs.Slots.{Slot, slot_lent, slot_kept, PartLoop, around_done, stand_begins, stand_whole, stand_next, stand_ends}
+use Rattle.tree.proofs.Slots.{Slot, slot_lent, slot_kept, PartLoop, around_done, stand_begins, stand_whole, stand_next, stand_ends, offset_fits}
 use Rattle.tree.proofs.Nodes.{pair_lost, pair_long, pair_noted, LengthsKept, StepLoop, loop_begins, loop-next}
 
 -- ---- halves and levels
@@ -70,45 +73,45 @@ kept-below n i l ys le lt =
 
 -- ---- the loop over the children
 
-module _ (tables : List ℕ) where
+module _ (src : Source) where
   -- the transition of a pair
   abbrev pub chosen_of : Step → Transition
-  chosen_of step = chosen (first_table tables) (contract_table tables) step.s step.t
+  chosen_of step = chosen (first_table src.tables.now) (contract_table src.tables.now) step.s step.t
 
   -- the bytes of the children from place i on
   abbrev pub children_left : Step → ℕ → List ℕ
   children_left step i =
-      children_from (own_node (first_table tables) (contract_table tables) (pairs (first_table tables) (contract_table tables) - 1))
-      (set_of (first_table tables) (contract_table tables) step.s step.t) i (chosen_of step).entries
+      children_from (own_node (first_table src.tables.now) (contract_table src.tables.now) (pairs (first_table src.tables.now) (contract_table src.tables.now) - 1))
+      (set_of (first_table src.tables.now) (contract_table src.tables.now) step.s step.t) i (chosen_of step).entries
 
   -- where the loop stands
-  pub record AroundLoop (ranks choices lengths : List ℕ) (step : Step) (j n : ℕ) (amounts₀ stack₀ buf₀ amounts stack buf : List ℕ) (rest : Rest) (at i : ℕ) : Type 0 where
-    pub loop : StepLoop tables ranks choices lengths step amounts₀ stack₀ buf₀ amounts stack buf
-    pub choice : Choice tables step.s step.t j
+  pub record AroundLoop (step : Step) (j n : ℕ) (amounts stack buf : List ℕ) (rest : Option Rest) (at i : ℕ) : Type 0 where
+    pub loop : StepLoop src step amounts stack buf
+    pub choice : Choice src.tables.now step.s step.t j
     pub width : n ≡ length (chosen_of step).entries
-    pub sets : SetsChosen tables step.s step.t stack
-    pub place : At (step_of tables step.s step.t) at (children_left step i)
-    pub ends : at + length (children_left step i) ≡ length (step_of tables step.s step.t)
-    pub stands : PartLoop tables choices lengths (step_of tables step.s step.t) (step.limit / 2) head_length at rest buf
+    pub sets : SetsChosen src.tables.now step.s step.t stack
+    pub place : At (step_of src step.s step.t) at (children_left step i)
+    pub ends : at + length (children_left step i) ≡ length (step_of src step.s step.t)
+    pub stands : PartLoop src (step_of src step.s step.t) (step.limit / 2) at buf rest
 
-module _ {tables ranks choices lengths : List ℕ} {step : Step} {amounts stack buf : List ℕ} (g : StepGiven tables ranks choices lengths step amounts stack buf) where
-  step-parts : step_of tables step.s step.t ≡ head_bytes (chosen_of tables step) ++ children_left tables step 0
+module _ {src : Source} {step : Step} {amounts stack buf : List ℕ} (g : StepGiven src step amounts stack buf) where
+  step-parts : step_of src step.s step.t ≡ head_bytes (chosen_of src step) ++ children_left src step 0
   step-parts =
-      step_is (first_table tables) (contract_table tables) (own_node (first_table tables) (contract_table tables) (pairs (first_table tables) (contract_table tables) - 1)) step.s step.t
+      step_is (first_table src.tables.now) (contract_table src.tables.now) (own_node (first_table src.tables.now) (contract_table src.tables.now) (pairs (first_table src.tables.now) (contract_table src.tables.now) - 1)) step.s step.t
 
-  pub number-known : {j : ℕ} → Choice tables step.s step.t j → j < transitions_of (first_form tables)
-  number-known {j} = choice-number tables g.given.ranked.loaded.first step.s step.t j (pair_lost g.given g.measured).left
+  pub number-known : {j : ℕ} → Choice src.tables.now step.s step.t j → j < transitions_of (first_form src.tables.now)
+  number-known {j} = choice-number src.tables.now g.given.ranked.loaded.first step.s step.t j (pair_lost g.given g.measured).left
 
-  step-few : length (chosen_of tables step).entries ≤ most_states
+  step-few : length (chosen_of src step).entries ≤ most_states
   step-few =
-      let M = first_table tables in
-      let N = contract_table tables in
+      let M = first_table src.tables.now in
+      let N = contract_table src.tables.now in
       let p = pair_lost g.given g.measured in
       let c = chosen_law M N step.s step.t p.left p.right p.fell in
       subst (λ (m : Transition). length m.entries ≤ most_states) c.same
-      (omega (arith, (limited_of (first_form tables) g.given.ranked.loaded.first step.s c.place c.here).few, weights-length (transition M step.s c.place)))
+      (omega (arith, (limited_of (first_form src.tables.now) g.given.ranked.loaded.first step.s c.place c.here).few, weights-length (transition M step.s c.place)))
 
-  pub begin_given : BeginGiven tables ranks choices step.s step.t amounts stack buf
+  pub begin_given : BeginGiven src step.s step.t amounts stack buf
   begin_given =
       record {
         ranked = g.given.ranked;
@@ -122,11 +125,11 @@ module _ {tables ranks choices lengths : List ℕ} {step : Step} {amounts stack 
 
   module _ (short : length buf ≤ step.limit) where
     -- the limit has room for the head, and four bytes for each child
-    pub step-long : head_length + 4 * length (chosen_of tables step).entries ≤ step.limit
+    pub step-long : head_length + 4 * length (chosen_of src step).entries ≤ step.limit
     step-long = omega (arith, pair_long g.given g.measured, g.size)
 
     -- past the sets of the n children the stack has the words for the calls below
-    module _ {n : ℕ} (width : n ≡ length (chosen_of tables step).entries) where
+    module _ {n : ℕ} (width : n ≡ length (chosen_of src step).entries) where
       room-below : words * n + (words_for (g.depth.levels - 1) + 2 * words * most_states) ≤ length stack
       room-below = omega (arith, words-next g.depth.levels step.limit _ step-few step-long g.depth.deep, g.depth.words)
 
@@ -139,51 +142,51 @@ module _ {tables ranks choices lengths : List ℕ} {step : Step} {amounts stack 
           }
 
     -- the head is written, and the sets are on the stack
-    pub around_begins : {j : ℕ} {amounts₁ stack₁ buf₁ : List ℕ} → TransitionBegun tables step.s step.t j stack₁ buf buf₁ → (n : ℕ) → n ≡ length (first_step tables j).entries
-        → LengthsKept amounts stack buf amounts₁ stack₁ buf₁ → length buf < 2 ^ 64 → {rest : Rest} → rest ≡ nothing step.s step.t
-        → AroundLoop tables ranks choices lengths step j n amounts₁ stack₁ buf₁ amounts₁ stack₁ buf₁ rest head_length 0
-    around_begins b n en k small none =
-        let head = head_bytes (chosen_of tables step) in
-        let children = children_left tables step 0 in
+    pub around_begins : {j : ℕ} {amounts₁ stack₁ buf₁ : List ℕ} → TransitionBegun src.tables.now step.s step.t j stack₁ buf buf₁ → (n : ℕ) → n ≡ length (first_step src.tables.now j).entries
+        → LengthsKept amounts stack buf amounts₁ stack₁ buf₁ → length buf < 2 ^ 64
+        → AroundLoop src step j n amounts₁ stack₁ buf₁ None head_length 0
+    around_begins b n en k small =
+        let head = head_bytes (chosen_of src step) in
+        let children = children_left src step 0 in
         record {
           loop = loop_begins g short small k;
           choice = b.choice;
           width = en ∙ ap (λ (m : Transition). length m.entries) b.choice.is;
           sets = b.sets;
-          place = at_back head children (at-is step-parts (at_self (step_of tables step.s step.t)));
+          place = at_back head children (at-is step-parts (at_self (step_of src step.s step.t)));
           ends = omega (arith, ap length step-parts);
-          stands = stand_begins step.s step.t none (λ k lt. ap (λ (l : List ℕ). get_or l k 0) b.head
+          stands = stand_begins (omega arith) (λ k lt. ap (λ (l : List ℕ). get_or l k 0) b.head
               ∙ get_or-append head (drop head_length buf) 0 k lt
               ∙ sym (ap (λ (l : List ℕ). get_or l k 0) step-parts ∙ get_or-append head children 0 k lt));
         }
 
-module _ {tables ranks choices lengths : List ℕ} {step : Step} {j n : ℕ} {amounts₀ stack₀ buf₀ amounts stack buf : List ℕ} {rest : Rest} {at i : ℕ}
-    (l : AroundLoop tables ranks choices lengths step j n amounts₀ stack₀ buf₀ amounts stack buf rest at i) where
+module _ {src : Source} {step : Step} {j n : ℕ} {amounts stack buf : List ℕ} {rest : Option Rest} {at i : ℕ}
+    (l : AroundLoop src step j n amounts stack buf rest at i) where
   abbrev M : Table
-  M = first_table tables
+  M = first_table src.tables.now
 
   abbrev N : Table
-  N = contract_table tables
+  N = contract_table src.tables.now
 
   abbrev m : Transition
-  m = chosen_of tables step
+  m = chosen_of src step
 
   abbrev total : List ℕ
-  total = step_of tables step.s step.t
+  total = step_of src step.s step.t
 
-  abbrev g : StepGiven tables ranks choices lengths step amounts stack buf
+  abbrev g : StepGiven src step amounts stack buf
   g = l.loop.call
 
-  lost : Lost tables step.s step.t
+  lost : Lost src.tables.now step.s step.t
   lost = pair_lost g.given g.measured
 
   once : length buf ≤ 2 * (step.limit / 2) + 1
   once = omega (arith, half_law step.limit, l.loop.short)
 
-  pub around_ends : n ≤ i → Around tables choices lengths total (step.limit / 2) rest buf
+  pub around_ends : n ≤ i → Around src total (step.limit / 2) buf rest
   around_ends le =
-      let none : children_left tables step i ≡ [] = no_children (own_node M N (pairs M N - 1)) (set_of M N step.s step.t) i m.entries (omega (arith, l.width)) in
-      stand_ends (omega arith) (omega (arith, l.ends, ap length none)) l.stands
+      let none : children_left src step i ≡ [] = no_children (own_node M N (pairs M N - 1)) (set_of M N step.s step.t) i m.entries (omega (arith, l.width)) in
+      stand_ends (omega (arith, l.ends, ap length none)) l.stands
 
   pub children_few : n ≤ most_states
   children_few = omega (arith, l.width, step-few g)
@@ -199,16 +202,16 @@ module _ {tables ranks choices lengths : List ℕ} {step : Step} {j n : ℕ} {am
   child_bytes = node_bytes (own_node M N (pairs M N - 1) (target_at m i) (set_of M N step.s step.t i))
 
   abbrev later : List ℕ
-  later = children_left tables step (i + 1)
+  later = children_left src step (i + 1)
 
   module _ (lt : i < n) where
     place : i < length m.entries
     place = omega (arith, l.width)
 
-    pub place-known : i < length (first_step tables j).entries
+    pub place-known : i < length (first_step src.tables.now j).entries
     place-known = subst (λ (m : Transition). i < length m.entries) (sym l.choice.is) place
 
-    parts : children_left tables step i ≡ entry ++ (child_bytes ++ later)
+    parts : children_left src step i ≡ entry ++ (child_bytes ++ later)
     parts = child-at (own_node M N (pairs M N - 1)) (set_of M N step.s step.t) i m.entries place
 
     turn : At total at (entry ++ (child_bytes ++ later))
@@ -226,8 +229,8 @@ module _ {tables ranks choices lengths : List ℕ} {step : Step} {j n : ℕ} {am
   -- the entry of the child is written as ys, with the target w, and its set is in hand
   pub record Child (w : ℕ) (ys : List ℕ) (members : Set) : Type 0 where
     pub more : i < n
-    pub target : w ≡ target_at (first_step tables j) i
-    pub put : ys ≡ over (entry_bytes w (get_or (weights (first_step tables j)) i 0)) (piece at (at + 3) buf)
+    pub target : w ≡ target_at (first_step src.tables.now j) i
+    pub put : ys ≡ over (entry_bytes w (get_or (weights (first_step src.tables.now j)) i 0)) (piece at (at + 3) buf)
     pub same : length ys ≡ length (piece at (at + 3) buf)
     pub set : mask members ≡ row_of stack i
 
@@ -245,21 +248,21 @@ module _ {tables ranks choices lengths : List ℕ} {step : Step} {j n : ℕ} {am
     buf' = placed at (at + 3) buf ys
 
     -- the child's entry is in place
-    entry_stands : PartLoop tables choices lengths total (step.limit / 2) head_length (at + 3) rest buf'
+    entry_stands : PartLoop src total (step.limit / 2) (at + 3) buf' rest
     entry_stands =
         stand_whole l.stands (entry_slot child.more) ys child.same
         (λ k b. ap (λ (z : List ℕ). get_or z k 0) child.put
-        ∙ get_or-append (entry_bytes w (get_or (weights (first_step tables j)) i 0)) (drop 3 (piece at (at + 3) buf)) 0 k b
+        ∙ get_or-append (entry_bytes w (get_or (weights (first_step src.tables.now j)) i 0)) (drop 3 (piece at (at + 3) buf)) 0 k b
         ∙ ap₂ (λ (u w : ℕ). get_or (entry_bytes u w) k 0) target_is (ap (λ (m : Transition). get_or (weights m) i 0) l.choice.is))
 
     entry_kept : length buf' ≡ length buf
     entry_kept = slot_kept (entry_slot child.more) ys child.same
 
     -- the child's pairs
-    below : (v : ℕ) → T (X v) → Measured tables choices lengths w v
+    below : (v : ℕ) → T (X v) → Measured src.tables.now src.choices.now src.lengths.now w v
     below v h =
         let q = g.measured in
-        subst (λ (k : ℕ). Measured tables choices lengths k v) (sym target_is)
+        subst (λ (k : ℕ). Measured src.tables.now src.choices.now src.lengths.now k v) (sym target_is)
         (record {
           met = q.met;
           here = q.below step.s step.t i v q.here (place child.more) (subst (λ (X : Test). T (X v)) set_is h);
@@ -274,7 +277,7 @@ module _ {tables ranks choices lengths : List ℕ} {step : Step} {j n : ℕ} {am
       where
         target-low : target_at m i < states_of M
         target-low =
-            chosen-target M N (sound (first_form tables) g.given.ranked.loaded.first) step.s step.t lost.left lost.right lost.fell i
+            chosen-target M N (sound (first_form src.tables.now) g.given.ranked.loaded.first) step.s step.t lost.left lost.right lost.fell i
             (omega (arith, weights-length m, place child.more))
 
     child-lost : (v : ℕ) → T (X v) → (v < states_of N) × (0 < rank M N w v)
@@ -285,60 +288,60 @@ module _ {tables ranks choices lengths : List ℕ} {step : Step} {j n : ℕ} {am
     node = record { s = w; members = members; half = step.limit / 2 }
 
     -- which does not depend on the fuel
-    node_same : child_bytes ≡ node_of tables node
+    node_same : child_bytes ≡ node_of src node
     node_same =
         let loaded = g.given.ranked.loaded in
         let lower : RanksUpTo M N (pairs M N - 1) w X =
         record {
           state = child-state;
           ranks = λ v b h.
-              let q = below-lost tables loaded step.s step.t lost i v (place child.more) (subst (λ (X : Test). T (X v)) set_is h) in
+              let q = below-lost src.tables.now loaded step.s step.t lost i v (place child.more) (subst (λ (X : Test). T (X v)) set_is h) in
               let r : rank M N w v < rank M N step.s step.t = subst (λ (k : ℕ). rank M N k v < rank M N step.s step.t) (sym target_is) q.1 in
               ((child-lost v h).1, omega (arith, r, (rank_law M N step.s step.t lost.left lost.right).bound));
         } in
         ap₂ (λ (u : ℕ) (X : Test). node_bytes (own_node M N (pairs M N - 1) u X)) (sym target_is) (sym set_is)
-        ∙ ap node_bytes (node_fuel M N (sound (first_form tables) loaded.first) (pairs M N - 1) (pairs M N) w X lower
-        (fallen-set M N (sound (first_form tables) loaded.first) w child-state X child-lost))
+        ∙ ap node_bytes (node_fuel M N (sound (first_form src.tables.now) loaded.first) (pairs M N - 1) (pairs M N) w X lower
+        (fallen-set M N (sound (first_form src.tables.now) loaded.first) w child-state X child-lost))
 
-    node_turn : At total (at + 3) (node_of tables node ++ later)
+    node_turn : At total (at + 3) (node_of src node ++ later)
     node_turn = at-is (ap (λ (z : List ℕ). z ++ later) node_same) (at_back entry (child_bytes ++ later) (turn child.more))
 
     -- its length, from the list
-    node_sum : 1 + set_length (states_of N) lengths w X ≡ length (node_of tables node)
+    node_sum : 1 + set_length (states_of N) src.lengths.now w X ≡ length (node_of src node)
     node_sum =
         ap (◌+◌ 1) (sum_ext (states_of N) _ _ (λ v _. when-same (X v) _ _ (λ h. let q = below v h in q.right w v q.here)))
-        ∙ sym (node_size M N (sound (first_form tables) g.given.ranked.loaded.first) w child-state X child-lost)
+        ∙ sym (node_size M N (sound (first_form src.tables.now) g.given.ranked.loaded.first) w child-state X child-lost)
 
-    node_room : at + 3 + length (node_of tables node) ≤ length buf
-    node_room = omega (arith, node_turn.fits, length-append (node_of tables node) later, g.size)
+    node_room : at + 3 + length (node_of src node) ≤ length buf
+    node_room = omega (arith, node_turn.fits, length-append (node_of src node) later, g.size)
 
-    pub sum-given : SumGiven tables lengths w (mask members)
+    pub sum-given : SumGiven src.tables.now src.lengths.now w (mask members)
     sum-given =
         record {
           loaded = g.given.ranked.loaded;
-          low = omega (arith, child-state, (limits (first_form tables) g.given.ranked.loaded.first).states-few);
+          low = omega (arith, child-state, (limits (first_form src.tables.now) g.given.ranked.loaded.first).states-few);
           inside = λ v h. (child-lost v h).0;
           room = let row : suc w * states_of N ≤ states_of M * states_of N = mul-le-mul_right (states_of N) child-state in omega (arith, row, suc-mul w (states_of N), g.given.enough);
           small = omega (arith, node_sum, node_room, l.loop.small);
         }
 
-    module _ {r : ℕ} (er : r ≡ 1 + set_length (states_of N) lengths w X) where
-      r-is : r ≡ length (node_of tables node)
+    module _ {r : ℕ} (er : r ≡ 1 + set_length (states_of N) src.lengths.now w X) where
+      r-is : r ≡ length (node_of src node)
       r-is = er ∙ node_sum
 
-      pub child_slot : Slot total (at + 3) (at + 3 + r) buf' (node_of tables node)
+      pub child_slot : Slot total (at + 3) (at + 3 + r) buf' (node_of src node)
       child_slot =
           record {
             ordered = omega arith;
             room = omega (arith, r-is, node_room, entry_kept);
-            part = at_front (node_of tables node) later node_turn;
+            part = at_front (node_of src node) later node_turn;
             size = omega (arith, r-is);
           }
 
       pub child_fits : at + 3 + r < 2 ^ 64
       child_fits = omega (arith, r-is, node_room, l.loop.small)
 
-      pub child-given : NodeGiven tables ranks choices lengths node amounts (part-from (words * n) stack) (piece (at + 3) (at + 3 + r) buf')
+      pub child-given : NodeGiven src node amounts (part-from (words * n) stack) (piece (at + 3) (at + 3 + r) buf')
       child-given =
           record {
             given = g.given;
@@ -349,20 +352,20 @@ module _ {tables ranks choices lengths : List ℕ} {step : Step} {j n : ℕ} {am
             once = omega (arith, slot_lent child_slot, node_room, once);
           }
 
-      module _ {hole : Rest} {zs : List ℕ} (w' : Around tables choices lengths (node_of tables node) (step.limit / 2) hole zs) where
-        pub join-fits : 0 < hole.len → at + 3 + hole.at < 2 ^ 64
-        join-fits _ = omega (arith, w'.left.within, r-is, child_fits)
+      module _ {hole : Option Rest} {zs : List ℕ} (w' : Around src (node_of src node) (step.limit / 2) zs hole) where
+        pub child_offset : IfSome hole (λ (r : Rest). at + 3 + r.at < 2 ^ 64)
+        child_offset = offset_fits (at + 3) w'.left (omega (arith, r-is, child_fits))
 
-        pub around_next : (same' : length zs ≡ length (piece (at + 3) (at + 3 + r) buf')) {rest' : Rest} → Remains rest hole (at + 3) rest'
+        pub around_next : (same' : length zs ≡ length (piece (at + 3) (at + 3 + r) buf')) {moved rest' : Option Rest} → moved ≡ offset hole (at + 3) → rest' ≡ option_or moved rest
             → {amounts' : List ℕ} (ws : List ℕ) → length amounts' ≡ length amounts → length (back (words * n) stack ws) ≡ length stack
-            → AroundLoop tables ranks choices lengths step j n amounts₀ stack₀ buf₀ amounts' (back (words * n) stack ws) (placed (at + 3) (at + 3 + r) buf' zs) rest' (at + 3 + r) (i + 1)
-        around_next same' joined ws ea es =
+            → AroundLoop src step j n amounts' (back (words * n) stack ws) (placed (at + 3) (at + 3 + r) buf' zs) rest' (at + 3 + r) (i + 1)
+        around_next same' em er ws ea es =
             record {
               loop = loop-next l.loop (record { same-amounts = ea; same_stack = es; same_buf = slot_kept child_slot zs same' ∙ entry_kept });
               choice = l.choice;
               width = l.width;
               sets = record { set = λ k b. ap member (kept-below n k stack ws stack_room (omega (arith, l.width))) ∙ l.sets.set k b };
-              place = subst (λ (k : ℕ). At total (at + 3 + k) later) (sym r-is) (at_back (node_of tables node) later node_turn);
+              place = subst (λ (k : ℕ). At total (at + 3 + k) later) (sym r-is) (at_back (node_of src node) later node_turn);
               ends = omega (arith, l.ends, ap length (parts child.more), length-append entry (child_bytes ++ later), length-append child_bytes later, ap length node_same, r-is);
-              stands = stand_next entry_stands child_slot zs same' (omega (arith, r-is, node_room, once)) (around_done w') joined;
+              stands = stand_next entry_stands child_slot zs same' (omega (arith, r-is, node_room, once)) (around_done w') em er;
             }

@@ -1,6 +1,6 @@
 -- A tree written in any order: what a node and a transition are in bytes, the part of one that is still to be written.
 -- Assumes nothing.
-use Rattle.std.specs.Prelude.{◌≡◌, ◌⊎◌, List, ℕ, zero, suc, ◌+◌, ◌-◌, ◌*◌, ◌/◌, ◌^◌, ◌≤◌, ◌<◌, min, T, length, get_or}
+use Rattle.std.specs.Prelude.{◌≡◌, ◌⊎◌, List, ℕ, zero, suc, ◌+◌, ◌-◌, ◌*◌, ◌/◌, ◌^◌, ◌≤◌, ◌<◌, min, T, length, get_or, Option, Some, None, IfSome}
 use Rattle.simulation.specs.Limits.{most_pairs, most_states}
 use Rattle.simulation.specs.Table.{states_of}
 use Rattle.simulation.specs.Round.{pairs}
@@ -14,6 +14,7 @@ use Rattle.measure.specs.Lengths.{Measured}
 use Rattle.relate.specs.Ranked.{RanksRight}
 use Rattle.tree.specs.declared.write.Node.{Node}
 use Rattle.tree.specs.declared.write.Rest.{Rest}
+use Rattle.tree.specs.declared.write.Source.{Source}
 use Rattle.tree.specs.declared.write.Step.{Step}
 
 -- the list P stands in the list l at place a
@@ -30,18 +31,10 @@ words_for (suc levels) = words * min most_states (2 ^ suc levels / 4) + words_fo
 abbrev pub stack_words : ℕ
 stack_words = words * (11 * most_states - 1)
 
--- no part is left of a pair
-abbrev pub nothing : ℕ → ℕ → Rest
-nothing s t = record { s = s; t = t; at = 0; len = 0 }
-
--- what is left in a part of a buffer, at its place in the buffer, in which the part begins at `start`
-abbrev pub offset : Rest → ℕ → Rest
-offset hole start = record { s = hole.s; t = hole.t; at = start + hole.at; len = hole.len }
-
--- what is left of both: `hole`, which lies in the part from `start` on, or `rest` if that is none
-pub record Remains (rest hole : Rest) (start : ℕ) (r : Rest) : Type 0 where
-  pub none : hole.len ≡ 0 → r ≡ rest
-  pub some : 0 < hole.len → r ≡ offset hole start
+-- what is left in a part of a buffer, by its place in the buffer, in which the part begins at `start`
+abbrev pub offset : Option Rest → ℕ → Option Rest
+offset None start = None
+offset (Some hole) start = Some (record hole { at = start + hole.at })
 
 -- the calls below a limit are no deeper than the levels, and the stack has the words for them
 pub record Depth (limit : ℕ) (stack : List ℕ) : Type 0 where
@@ -49,66 +42,71 @@ pub record Depth (limit : ℕ) (stack : List ℕ) : Type 0 where
   pub deep : limit < 2 ^ levels
   pub words : words_for levels + 2 * words * most_states ≤ length stack
 
-module _ (tables : List ℕ) where
+module _ (src : Source) where
   -- the bytes of the node of a state and a set of states that it is not kept with; no rank is above the number of pairs
   abbrev pub node_of : Node → List ℕ
   node_of node =
-      node_bytes (own_node (first_table tables) (contract_table tables) (pairs (first_table tables) (contract_table tables)) node.s (member (mask node.members)))
+      let M = first_table src.tables.now in
+      let N = contract_table src.tables.now in
+      node_bytes (own_node M N (pairs M N) node.s (member (mask node.members)))
 
   -- the bytes of the transition of a pair that is not kept
   abbrev pub step_of : ℕ → ℕ → List ℕ
   step_of s t =
-      transition_bytes (own_step (first_table tables) (contract_table tables) (own_node (first_table tables) (contract_table tables) (pairs (first_table tables) (contract_table tables) - 1)) s t leaf)
+      let M = first_table src.tables.now in
+      let N = contract_table src.tables.now in
+      transition_bytes (own_step M N (own_node M N (pairs M N - 1)) s t leaf)
 
-  -- the part of `total` that a pair's transition takes
-  pub record PartOf (choices lengths total : List ℕ) (rest : Rest) : Type 0 where
-    pub measured : Measured tables choices lengths rest.s rest.t
+  -- the first n bytes of `total` are written, but for the part that a pair's transition takes
+  pub record PartLeft (total : List ℕ) (n : ℕ) (now : List ℕ) (rest : Rest) : Type 0 where
+    pub measured : Measured src.tables.now src.choices.now src.lengths.now rest.s rest.t
     pub size : rest.len ≡ length (step_of rest.s rest.t)
     pub part : At total rest.at (step_of rest.s rest.t)
-
-  -- the first n bytes of `total` are written, but for a pair's part that is still to be written; none is if its length is 0
-  pub record Left (choices lengths total : List ℕ) (n : ℕ) (rest : Rest) (now : List ℕ) : Type 0 where
     pub within : rest.at + rest.len ≤ n
     pub written : (k : ℕ) → k < n → (k < rest.at) ⊎ (rest.at + rest.len ≤ k) → get_or now k 0 ≡ get_or total k 0
-    pub part : 0 < rest.len → PartOf choices lengths total rest
+
+  -- the first n bytes of `total` are written, but for what is left
+  pub data Left (total : List ℕ) (n : ℕ) (now : List ℕ) : Option Rest → Type 0 where
+    whole : ((k : ℕ) → k < n → get_or now k 0 ≡ get_or total k 0) → Left total n now None
+    but : {rest : Rest} → PartLeft total n now rest → Left total n now (Some rest)
 
   -- what all writing rests on
-  pub record WriteGiven (ranks choices lengths amounts : List ℕ) : Type 0 where
-    pub ranked : RanksRight tables ranks
-    pub notes : pairs (first_table tables) (contract_table tables) ≤ length choices
-    pub enough : pairs (first_table tables) (contract_table tables) ≤ length lengths
+  pub record WriteGiven (amounts : List ℕ) : Type 0 where
+    pub ranked : RanksRight src.tables.now src.ranks.now
+    pub notes : pairs (first_table src.tables.now) (contract_table src.tables.now) ≤ length src.choices.now
+    pub enough : pairs (first_table src.tables.now) (contract_table src.tables.now) ≤ length src.lengths.now
     pub amounts_room : most_pairs ≤ length amounts
 
   -- the writing of a transition or its deferral
-  pub record StepGiven (ranks choices lengths : List ℕ) (step : Step) (amounts stack buf : List ℕ) : Type 0 where
-    pub given : WriteGiven ranks choices lengths amounts
+  pub record StepGiven (step : Step) (amounts stack buf : List ℕ) : Type 0 where
+    pub given : WriteGiven amounts
     pub depth : Depth step.limit stack
-    pub measured : Measured tables choices lengths step.s step.t
+    pub measured : Measured src.tables.now src.choices.now src.lengths.now step.s step.t
     pub size : length buf ≡ length (step_of step.s step.t)
 
   -- the transition is written if it is not longer than the limit, and is what is left if it is
-  pub record StepWritten (step : Step) (rest : Rest) (old new : List ℕ) : Type 0 where
-    pub short : length old ≤ step.limit → (rest.len ≡ 0) × (new ≡ step_of step.s step.t)
-    pub long : step.limit < length old → rest ≡ record { s = step.s; t = step.t; at = 0; len = length old }
+  pub record StepWritten (step : Step) (rest : Option Rest) (old new : List ℕ) : Type 0 where
+    pub short : length old ≤ step.limit → (rest ≡ None) × (new ≡ step_of step.s step.t)
+    pub long : step.limit < length old → rest ≡ Some (record { s = step.s; t = step.t; at = 0; len = length old })
 
   -- the writing of a node whose bytes have at most one part that is longer than half
-  pub record NodeGiven (ranks choices lengths : List ℕ) (node : Node) (amounts stack buf : List ℕ) : Type 0 where
-    pub given : WriteGiven ranks choices lengths amounts
+  pub record NodeGiven (node : Node) (amounts stack buf : List ℕ) : Type 0 where
+    pub given : WriteGiven amounts
     pub depth : Depth node.half stack
-    pub state : node.s < states_of (first_table tables)
-    pub measured : (t : ℕ) → T (member (mask node.members) t) → Measured tables choices lengths node.s t
+    pub state : node.s < states_of (first_table src.tables.now)
+    pub measured : (t : ℕ) → T (member (mask node.members) t) → Measured src.tables.now src.choices.now src.lengths.now node.s t
     pub size : length buf ≡ length (node_of node)
     pub once : length buf ≤ 2 * node.half + 1
 
   -- all but a part longer than half is written
-  pub record Around (choices lengths total : List ℕ) (half : ℕ) (rest : Rest) (now : List ℕ) : Type 0 where
-    pub left : Left choices lengths total (length total) rest now
-    pub less : rest.len < length total
-    pub long : 0 < rest.len → half < rest.len
+  pub record Around (total : List ℕ) (half : ℕ) (now : List ℕ) (rest : Option Rest) : Type 0 where
+    pub left : Left total (length total) now rest
+    pub less : IfSome rest (λ (r : Rest). r.len < length total)
+    pub long : IfSome rest (λ (r : Rest). half < r.len)
 
   -- what the writing of a pair's tree rests on
-  pub record TreeGiven (ranks choices lengths : List ℕ) (s t : ℕ) (amounts buf : List ℕ) : Type 0 where
-    pub given : WriteGiven ranks choices lengths amounts
-    pub measured : Measured tables choices lengths s t
-    pub short : tree_length (first_table tables) (contract_table tables) s t ≤ longest
-    pub room : tree_length (first_table tables) (contract_table tables) s t ≤ length buf
+  pub record TreeGiven (s t : ℕ) (amounts buf : List ℕ) : Type 0 where
+    pub given : WriteGiven amounts
+    pub measured : Measured src.tables.now src.choices.now src.lengths.now s t
+    pub short : tree_length (first_table src.tables.now) (contract_table src.tables.now) s t ≤ longest
+    pub room : tree_length (first_table src.tables.now) (contract_table src.tables.now) s t ≤ length buf

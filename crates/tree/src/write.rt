@@ -1,7 +1,7 @@
 // Writing a tree whose lengths are known: a node holds transitions and a transition holds nodes. The parts of the buffer are written in any
 // order, so that a call is made for parts of at most half the length only, and a longer part is left for a loop: the depth of calls is the
 // logarithm of the length.
-ghost use Rattle.std.specs.Prelude.{◌≡◌, ◌+◌, ◌/◌, ◌^◌, ◌≤◌, ◌<◌, length, get_or};
+ghost use Rattle.std.specs.Prelude.{◌≡◌, ◌+◌, ◌/◌, ◌^◌, ◌≤◌, ◌<◌, length, get_or, IfSome};
 ghost use Rattle.simulation.specs.Table.{weights, target_at};
 ghost use Rattle.simulation.specs.Tree.{tree, node_bytes};
 ghost use Rattle.simulation.specs.Length.{head_length};
@@ -9,15 +9,15 @@ ghost use Rattle.form.specs.Form.{transitions_of};
 ghost use Rattle.form.specs.Tables.{first_form, first_table, contract_table, first_step, BothLoaded};
 ghost use Rattle.buffer.specs.Buffer.{over, Filled};
 ghost use Rattle.tree.specs.Begin.{head_bytes, entry_bytes, BeginGiven, TransitionBegun};
-ghost use Rattle.tree.specs.Parts.{nothing, offset, Remains, step_of, node_of, StepGiven, StepWritten, NodeGiven, Around, TreeGiven};
+ghost use Rattle.tree.specs.Parts.{offset, step_of, node_of, StepGiven, StepWritten, NodeGiven, Around, TreeGiven};
 
 use choice::find_sets;
 use counting::count::{HEAD, LONGEST};
 use counting::pair::number;
-use form::{Form, tables};
+use form::Tables;
 use measure::{node_length, pair_length};
 use relation::rows;
-use set::{Set, walk};
+use set::Set;
 use simulation::Table;
 use word::Word;
 
@@ -27,7 +27,16 @@ use word::Word;
 // for the rows of a relation.
 pub const STACK: usize = Set::WORDS * (11 * Table::STATES - 1);
 
-// The pair whose part of the buffer is still to be written, and where it is; none if its length is 0.
+// What the writing reads: two loaded tables, the ranks of their pairs, and the transition chosen and the length of each pair that is measured.
+#[derive(Clone, Copy)]
+pub struct Source<'a> {
+    pub tables: &'a Tables<'a>,
+    pub ranks: &'a [u16],
+    pub choices: &'a [u8],
+    pub lengths: &'a [u32],
+}
+
+// The pair whose part of the buffer is still to be written, and where it is.
 #[derive(Clone, Copy)]
 pub struct Rest {
     pub s: usize,
@@ -53,122 +62,89 @@ pub struct Node {
 }
 
 // The code of the transition j, low byte first, and the number of its targets.
-fn put_head(tables: &[u16], j: usize, buf: &mut [u8])
+fn put_head(tables: &Tables, j: usize, buf: &mut [u8])
     requires { BothLoaded tables.now × (j < transitions_of (first_form tables.now)) × (head_length ≤ length buf.old) }
     ensures { buf.new ≡ over (head_bytes (first_step tables.now j)) buf.old }
 {
-    let code = tables::code(tables, Form::FIRST, j);
-    buf[0] = (code % 256) as u8;
-    buf[1] = (code / 256) as u8;
-    buf[2] = tables::targets(tables, Form::FIRST, j).len() as u8;
+    let code = tables.first.code(j);
+    let [low, high] = code.to_le_bytes();
+    buf[0] = low;
+    buf[1] = high;
+    buf[2] = tables.first.targets(j).len() as u8;
 }
 
 // The target and the weight at place i of the transition j; the target is returned.
-fn put_entry(tables: &[u16], j: usize, i: usize, buf: &mut [u8]) -> usize
+fn put_entry(tables: &Tables, j: usize, i: usize, buf: &mut [u8]) -> usize
     requires { BothLoaded tables.now × (j < transitions_of (first_form tables.now)) × (i < length (first_step tables.now j).entries)
         × (3 ≤ length buf.old) }
     ensures { (result ≡ target_at (first_step tables.now j) i)
         × (buf.new ≡ over (entry_bytes result (get_or (weights (first_step tables.now j)) i 0)) buf.old) }
 {
-    let target = tables::targets(tables, Form::FIRST, j)[i];
-    let weight = tables::weights(tables, Form::FIRST, j)[i];
+    let target = tables.first.targets(j)[i];
+    let weight = tables.first.weights(j)[i];
     buf[0] = target as u8;
-    buf[1] = (weight % 256) as u8;
-    buf[2] = (weight / 256) as u8;
+    let [low, high] = weight.to_le_bytes();
+    buf[1] = low;
+    buf[2] = high;
     target as usize
 }
 
 // Puts the sets of the targets of the pair's transition on the stack and its head into the buffer. Returns its number.
 fn begin_transition(
-    tables: &[u16],
-    ranks: &[u16],
-    choices: &[u8],
+    src: &Source,
     s: usize,
     t: usize,
     amounts: &mut [u32],
     stack: &mut [Word],
     buf: &mut [u8],
 ) -> usize
-    requires { BeginGiven tables.now ranks.now choices.now s t amounts.old stack.old buf.old }
-    ensures { TransitionBegun tables.now s t result stack.new buf.old buf.new }
+    requires { BeginGiven src.now s t amounts.old stack.old buf.old }
+    ensures { TransitionBegun src.now.tables.now s t result stack.new buf.old buf.new }
 {
+    let tables = src.tables;
+    let ranks = src.ranks;
     let p = number(tables, s, t);
-    let j = choices[p] as usize;
+    let j = src.choices[p] as usize;
     find_sets(tables, ranks, s, t, ranks[p], j, stack, amounts);
     put_head(tables, j, buf);
     j
 }
 
-// No part is left of the pair (s, t).
-fn nothing(s: usize, t: usize) -> Rest
-    ensures { result ≡ nothing s t }
-{
-    Rest {
-        s,
-        t,
-        at: 0,
-        len: 0,
-    }
-}
-
-// What is left in a part of the buffer from `start` on, at its place in the buffer.
-fn offset(hole: Rest, start: usize) -> Rest
-    requires { start + hole.at < 2 ^ 64 }
+// What is left in a part of the buffer from `start` on, by its place in the buffer.
+fn offset(hole: Option<Rest>, start: usize) -> Option<Rest>
+    requires { IfSome hole (λ r. start + r.at < 2 ^ 64) }
     ensures { result ≡ offset hole start }
 {
-    Rest {
-        s: hole.s,
-        t: hole.t,
-        at: start + hole.at,
-        len: hole.len,
-    }
-}
-
-// Of the two parts, the one that is there: the second lies in a part of the buffer from `start` on.
-fn join(rest: Rest, hole: Rest, start: usize) -> Rest
-    requires { 0 < hole.len → start + hole.at < 2 ^ 64 }
-    ensures { Remains rest hole start result }
-{
-    if hole.len == 0 {
-        return rest;
-    }
-    offset(hole, start)
+    hole.map(|rest| Rest {
+        at: start + rest.at,
+        ..rest
+    })
 }
 
 // The node, in a buffer of its length, but for a transition that is longer than half: that is what is left.
 #[cycle(writing)]
 fn write_node(
-    tables: &[u16],
-    ranks: &[u16],
-    choices: &[u8],
-    lengths: &[u32],
+    src: &Source,
     node: Node,
     amounts: &mut [u32],
     stack: &mut [Word],
     buf: &mut [u8],
-) -> Rest
-    requires { NodeGiven tables.now ranks.now choices.now lengths.now node amounts.old stack.old buf.old }
-    ensures { Around tables.now choices.now lengths.now (node_of tables.now node)
-        node.half result buf.new }
+) -> Option<Rest>
+    requires { NodeGiven src.now node amounts.old stack.old buf.old }
+    ensures { Around src.now (node_of src.now node) node.half buf.new result }
 {
     let s = node.s;
     let limit = node.half;
     let members = node.members;
-    buf[0] = set::count(members) as u8;
-    let mut rest = nothing(s, 0);
+    buf[0] = members.count() as u8;
+    let mut rest = None;
     let mut at = 1;
-    for w in 0..Set::WORDS {
-        let mut left = members.words[w];
-        while left != 0 {
-            let t = walk::lowest(members, w, left);
-            let end = at + pair_length(tables, lengths, s, t);
-            let step = Step { s, t, limit };
-            let out = &mut buf[at..end];
-            let hole = write_transition(tables, ranks, choices, lengths, step, amounts, stack, out);
-            rest = join(rest, hole, at);
-            at = end;
-            left = walk::without_lowest(members, w, left);
-        }
+    for t in members {
+        let end = at + pair_length(src.tables, src.lengths, s, t);
+        let step = Step { s, t, limit };
+        let hole = write_transition(src, step, amounts, stack, &mut buf[at..end]);
+        rest = offset(hole, at).or(rest);
+        at = end;
     }
     rest
 }
@@ -177,38 +153,32 @@ fn write_node(
 // left. The sets of its children take the first words of the stack.
 #[cycle(writing)]
 fn write_around(
-    tables: &[u16],
-    ranks: &[u16],
-    choices: &[u8],
-    lengths: &[u32],
+    src: &Source,
     step: Step,
     amounts: &mut [u32],
     stack: &mut [Word],
     buf: &mut [u8],
-) -> Rest
-    requires { StepGiven tables.now ranks.now choices.now lengths.now step amounts.old stack.old buf.old
-        × (length buf.old ≤ step.limit) }
-    ensures { Around tables.now choices.now lengths.now (step_of tables.now step.s step.t)
-        (step.limit / 2) result buf.new }
+) -> Option<Rest>
+    requires { StepGiven src.now step amounts.old stack.old buf.old × (length buf.old ≤ step.limit) }
+    ensures { Around src.now (step_of src.now step.s step.t) (step.limit / 2) buf.new result }
 {
-    let j = begin_transition(tables, ranks, choices, step.s, step.t, amounts, stack, buf);
-    let n = tables::targets(tables, Form::FIRST, j).len();
-    let mut rest = nothing(step.s, step.t);
+    let j = begin_transition(src, step.s, step.t, amounts, stack, buf);
+    let n = src.tables.first.targets(j).len();
+    let mut rest = None;
     let mut at = HEAD;
     for i in 0..n {
         let start = at + 3;
-        let target = put_entry(tables, j, i, &mut buf[at..start]);
+        let target = put_entry(src.tables, j, i, &mut buf[at..start]);
         let members = rows::get(stack, i);
-        let end = start + node_length(tables, lengths, target, members);
+        let end = start + node_length(src.tables, src.lengths, target, members);
         let node = Node {
             s: target,
             members,
             half: step.limit / 2,
         };
         let deeper = &mut stack[Set::WORDS * n..];
-        let out = &mut buf[start..end];
-        let hole = write_node(tables, ranks, choices, lengths, node, amounts, deeper, out);
-        rest = join(rest, hole, start);
+        let hole = write_node(src, node, amounts, deeper, &mut buf[start..end]);
+        rest = offset(hole, start).or(rest);
         at = end;
     }
     rest
@@ -218,68 +188,52 @@ fn write_around(
 // The loop goes down to the part that each turn leaves.
 #[cycle(writing)]
 fn write_transition(
-    tables: &[u16],
-    ranks: &[u16],
-    choices: &[u8],
-    lengths: &[u32],
+    src: &Source,
     step: Step,
     amounts: &mut [u32],
     stack: &mut [Word],
     buf: &mut [u8],
-) -> Rest
-    requires { StepGiven tables.now ranks.now choices.now lengths.now step amounts.old stack.old buf.old }
-    ensures { StepWritten tables.now step result buf.old buf.new }
+) -> Option<Rest>
+    requires { StepGiven src.now step amounts.old stack.old buf.old }
+    ensures { StepWritten src.now step result buf.old buf.new }
 {
-    let mut rest = Rest {
+    let len = buf.len();
+    let mut rest = Some(Rest {
         s: step.s,
         t: step.t,
         at: 0,
-        len: buf.len(),
-    };
-    if step.limit < rest.len {
+        len,
+    });
+    if step.limit < len {
         return rest;
     }
-    while rest.len != 0 {
-        let start = rest.at;
-        let end = start + rest.len;
+    while let Some(part) = rest {
         let inner = Step {
-            s: rest.s,
-            t: rest.t,
-            limit: step.limit,
+            s: part.s,
+            t: part.t,
+            ..step
         };
-        let out = &mut buf[start..end];
-        let hole = write_around(tables, ranks, choices, lengths, inner, amounts, stack, out);
-        rest = offset(hole, start);
+        let end = part.at + part.len;
+        let hole = write_around(src, inner, amounts, stack, &mut buf[part.at..end]);
+        rest = offset(hole, part.at);
     }
-    rest
+    None
 }
 
 // The tree of the pair (s, t), which is not kept; the lengths are those of the pairs that it meets. Returns its length.
-pub fn tree(
-    tables: &[u16],
-    ranks: &[u16],
-    choices: &[u8],
-    lengths: &[u32],
-    s: usize,
-    t: usize,
-    amounts: &mut [u32],
-    buf: &mut [u8],
-) -> usize
-    requires { TreeGiven tables.now ranks.now choices.now lengths.now s t amounts.old buf.old }
-    ensures { Filled (node_bytes (tree (first_table tables.now) (contract_table tables.now) s t)) result
+pub fn tree(src: &Source, s: usize, t: usize, amounts: &mut [u32], buf: &mut [u8]) -> usize
+    requires { TreeGiven src.now s t amounts.old buf.old }
+    ensures { Filled (node_bytes (tree (first_table src.now.tables.now) (contract_table src.now.tables.now) s t)) result
         buf.old buf.new }
 {
     let mut stack: [Word; STACK] = [1; STACK];
-    let end = 1 + pair_length(tables, lengths, s, t);
+    let end = 1 + pair_length(src.tables, src.lengths, s, t);
     buf[0] = 1;
     let step = Step {
         s,
         t,
         limit: LONGEST as usize,
     };
-    let out = &mut buf[1..end];
-    write_transition(
-        tables, ranks, choices, lengths, step, amounts, &mut stack, out,
-    );
+    write_transition(src, step, amounts, &mut stack, &mut buf[1..end]);
     end
 }

@@ -9,12 +9,9 @@ use lib.Dec.{ltb}
 use lib.ListN.{length}
 use borrow.Author.Tests.{lt-ltb, le-ltb}
 use Rattle.simulation.specs.Limits.{narrow}
-use Rattle.layout.specs.Bytes.{Decoded, refused, accepted, Octets, decode_as, table}
+use Rattle.layout.specs.Bytes.{Decoded, refused, Octets, decode_as, table}
 use Rattle.layout.specs.Encode.{encode}
 use Rattle.table.specs.declared.parts.Layout.{Layout}
-use Rattle.table.specs.declared.parts.TableAnswer.{TableAnswer}
-use Rattle.table.specs.declared.parts.TableAnswer.TheVariants.{Refused}
-use Rattle.table.specs.Stages.{answer_of, answer}
 use Rattle.table.proofs.AnswerLaws.{Located}
 use Rattle.table.proofs.PartLaws.{parts-known}
 use Rattle.buffer.specs.Buffer.{over, Filled}
@@ -24,21 +21,15 @@ use Rattle.widen.specs.Widened.{Widening, widened, widening}
 use Rattle.widen.specs.Parts.{wide_bytes}
 use Rattle.widen.proofs.Wide.{wide_is, encode-length}
 
-decoded_refused : (d : Decoded) {r : TableAnswer} {k : ℕ} → r ≡ answer_of narrow d → r ≡ Refused k → d ≡ refused k
-decoded_refused (refused j) e q = cc
-decoded_refused (accepted M) e q = let z : ◌≡◌ {A = ℕ} 0 1 = cc in absurd (omega arith)
-
 -- a faulty table
-pub widening-refused : (s out : List ℕ) {r : TableAnswer} {k : ℕ} {a : Answer} → r ≡ answer narrow s → r ≡ Refused k → a ≡ refusal k 1 0
-    → record { answer = a; out = out } ≡ widening s out
+pub widening-refused : (s out : List ℕ) {k : ℕ} {a : Answer} → decode_as narrow s ≡ refused k → a ≡ refusal k 1 0 → record { answer = a; out = out } ≡ widening s out
 unfolding widened
-widening-refused s out e q h =
-    ap (λ (a : Answer). record { answer = a; out = out }) h ∙ sym (ap (λ (d : Decoded). widened d out) (decoded_refused (decode_as narrow s) e q))
+widening-refused s out d h = ap (λ (a : Answer). record { answer = a; out = out }) h ∙ sym (ap (λ (d : Decoded). widened d out) d)
 
 -- an accepted table with this layout
 module _ (s out : List ℕ) (bytes : Octets s) {t : Layout} (told : Located narrow s t) where
   abbrev needed : ℕ
-  needed = length s + 1 + t.actions + t.transitions
+  needed = length s + 1 + t.actions + t.transitions.count
 
   needed_is : length (encode (table narrow s)) ≡ needed
   needed_is = let p = parts-known narrow s t told.passed told.laid in omega (arith, encode-length s bytes told.passed)

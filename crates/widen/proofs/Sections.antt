@@ -18,13 +18,13 @@ module _ (s : List ℕ) (t : Layout) where
   codes-part = wide_codes s (1 + t.actions)
 
   abbrev pub states-part : List ℕ
-  states-part = run_of s (t.counts_at - 1) (t.transitions_at - (t.counts_at - 1))
+  states-part = run_of s (t.states.at - 1) (t.transitions.at - (t.states.at - 1))
 
   abbrev pub transitions-part : List ℕ
-  transitions-part = wide_transitions s t.transitions_at t.transitions
+  transitions-part = wide_transitions s t.transitions.at t.transitions.count
 
   abbrev pub entries-part : List ℕ
-  entries-part = run_of s (t.entries_at - 2) (length s - (t.entries_at - 2))
+  entries-part = run_of s (t.entries.at - 2) (length s - (t.entries.at - 2))
 
   -- what is left before each part but the first
   abbrev pub entries-left : List ℕ
@@ -41,10 +41,10 @@ module _ (s : List ℕ) (t : Layout) where
     unfolding wide_bytes
     parts_are =
         let a : 1 + actions narrow s ≡ 1 + t.actions = omega arith in
-        let b : states_start narrow s ≡ t.counts_at - 1 = omega arith in
-        let b-long : 1 + states narrow s + 2 ≡ t.transitions_at - (t.counts_at - 1) = omega arith in
-        let d : entries_start narrow s ≡ t.entries_at - 2 = omega arith in
-        let d-long : 2 + 3 * entries narrow s ≡ length s - (t.entries_at - 2) = omega arith in
+        let b : states_start narrow s ≡ t.states.at - 1 = omega arith in
+        let b-long : 1 + states narrow s + 2 ≡ t.transitions.at - (t.states.at - 1) = omega arith in
+        let d : entries_start narrow s ≡ t.entries.at - 2 = omega arith in
+        let d-long : 2 + 3 * entries narrow s ≡ length s - (t.entries.at - 2) = omega arith in
         (λ i. wide_codes s (a i) ++ run_of s (b i) (b-long i) ++ wide_transitions s (sym p.transitions-from i) (sym p.transitions-are i) ++ run_of s (d i) (d-long i))
         ∙ simp (append_assoc, append-nil)
 

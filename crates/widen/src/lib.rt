@@ -4,24 +4,22 @@
 ghost use Rattle.std.specs.Prelude.{◌≡◌, ◌+◌, ◌*◌, ◌≤◌, length};
 ghost use Rattle.simulation.specs.Limits.{narrow};
 ghost use Rattle.layout.specs.Bytes.{refusal};
-ghost use Rattle.table.specs.Stages.{layout};
+ghost use Rattle.table.specs.Layouts.{layout};
 ghost use Rattle.buffer.specs.Buffer.{Filled};
 ghost use Rattle.widen.specs.Widened.{widening};
 ghost use Rattle.widen.specs.Parts.{run_of, wide_codes, wide_transitions, wide_bytes};
 
 use answer::{Answer, with_written};
-use simulation::Width;
+use layout::TableBytes;
 use table::parts::Layout;
-use table::{TableAnswer, read};
+use table::read;
 
 // n bytes from a place on, as they stand.
 fn put_bytes(s: &[u8], from: usize, n: usize, out: &mut [u8]) -> usize
     requires { (from + n ≤ length s.now) × (n ≤ length out.old) }
     ensures { Filled (run_of s.now from n) result out.old out.new }
 {
-    for i in 0..n {
-        out[i] = s[from + i];
-    }
+    out[..n].copy_from_slice(&s[from..from + n]);
     n
 }
 
@@ -56,11 +54,11 @@ fn put_table(s: &[u8], t: Layout, out: &mut [u8]) -> usize
     requires { (refusal narrow s.now ≡ 0) × (t ≡ layout narrow s.now) × (length (wide_bytes s.now) ≤ length out.old) }
     ensures { Filled (wide_bytes s.now) result out.old out.new }
 {
-    let states_at = t.counts_at - 1;
-    let entries_at = t.entries_at - 2;
+    let states_at = t.states.at - 1;
+    let entries_at = t.entries.at - 2;
     let mut at = put_codes(s, 1 + t.actions, out);
-    at += put_bytes(s, states_at, t.transitions_at - states_at, &mut out[at..]);
-    at += put_transitions(s, t.transitions_at, t.transitions, &mut out[at..]);
+    at += put_bytes(s, states_at, t.transitions.at - states_at, &mut out[at..]);
+    at += put_transitions(s, t.transitions.at, t.transitions.count, &mut out[at..]);
     at += put_bytes(s, entries_at, s.len() - entries_at, &mut out[at..]);
     at
 }
@@ -70,16 +68,14 @@ fn put_table(s: &[u8], t: Layout, out: &mut [u8]) -> usize
 pub fn widen(old: &[u8], out: &mut [u8]) -> Answer
     ensures { (record { answer = result; out = out.new }) ≡ widening old.now out.old }
 {
-    let read = read(old, Width::NARROW);
-    match read {
-        TableAnswer::Refused(number) => Answer::refused(number as u32, 1, 0),
-        TableAnswer::Accepted(t) => {
-            let needed = old.len() + 1 + t.actions + t.transitions;
-            if out.len() < needed {
-                return Answer::refused(27, 0, needed as u32);
-            }
-            put_table(old, t, out);
-            with_written(Answer::refused(0, 0, 0), needed as u32)
-        }
+    let t = match read(&TableBytes::narrow(old)) {
+        Ok(t) => t,
+        Err(refusal) => return Answer::refused(refusal.number(), 1, 0),
+    };
+    let needed = old.len() + 1 + t.actions + t.transitions.count;
+    if out.len() < needed {
+        return Answer::refused(27, 0, needed as u32);
     }
+    put_table(old, t, out);
+    with_written(Answer::refused(0, 0, 0), needed as u32)
 }

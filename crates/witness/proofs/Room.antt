@@ -1,5 +1,6 @@
 -- How long the flow buffer must be, summed up over the transitions of a state by their numbers in a loaded form.
 -- Assumes nothing.
+use Rattle.form.specs.declared.tables.Tables.{Tables}
 use mathlib.Core.Path.{◌≡◌, sym, ap, ap₂, ◌∙◌}
 use mathlib.Core.List.{List}
 use Prim.Native.Nat.{ℕ, ◌+◌, ◌-◌, ◌*◌, ◌≤◌, ◌<◌}
@@ -16,14 +17,14 @@ use Rattle.flows.proofs.FlowRoom.{room-none, room-more, room_next, room_mono, ro
 use Rattle.witness.specs.Shown.{room_asked}
 
 -- how many entries the transition k of the state s lists
-abbrev pub listed : (tables : List ℕ) (s k : ℕ) → ℕ
+abbrev pub listed : (tables : Tables) (s k : ℕ) → ℕ
 listed tables s k = entries_listed (first_form tables) (start_of (first_form tables) s + k)
 
 -- what the transitions of the state s before number j need, and the count before them
-abbrev pub so_far : (tables : List ℕ) (s j : ℕ) → ℕ
+abbrev pub so_far : (tables : Tables) (s j : ℕ) → ℕ
 so_far tables s j = room_for (states_of (second_table tables)) (j - start_of (first_form tables) s) (listed tables s)
 
-module _ (tables : List ℕ) (l : BothLoaded tables) (s : ℕ) (a : s < states_of (first_table tables)) where
+module _ (tables : Tables) (l : BothLoaded tables) (s : ℕ) (a : s < states_of (first_table tables)) where
   abbrev f : List ℕ
   f = first_form tables
 

@@ -1,8 +1,8 @@
 // Sets of numbers below 64 as a word: t is a member if bit t is one.
 #![tactic(auto)]
 
-ghost use Rattle.std.specs.Prelude.{◌≡◌, ℕ, ◌<◌, ◌≤◌};
-ghost use Rattle.word.specs.Mask.{member, «up_to», only, «with_member», «without_member», «with_bit», either, both, except, size, Lowest, bit, word_bits};
+ghost use Rattle.std.specs.Prelude.{◌≡◌, Bool, ℕ, ◌<◌, ◌≤◌};
+ghost use Rattle.word.specs.Mask.{Test, part, member, «up_to», only, «with_member», «without_member», «with_bit», either, both, except, size, Lowest, bit, word_bits};
 
 // A word: what sets are made of.
 pub type Word = u64;
@@ -34,6 +34,19 @@ pub fn below(n: usize) -> Word
         return (1 << n) - 1;
     }
     0xffff_ffff_ffff_ffff
+}
+
+// The numbers below n of which the test holds.
+pub fn from_fn<F: Fn(usize) -> bool>(n: usize, test: F) -> Word
+    requires room { n ≤ word_bits }
+    requires callable { (i : ℕ) → i < n → F.pre test i }
+    ensures { (X : Test) → ((i : ℕ) (b : Bool) → i < n → F.post test i b → b ≡ X i) → member result ≡ part n X }
+{
+    let mut set = 0;
+    for i in 0..n {
+        set = with_bit(set, i, test(i) as Word);
+    }
+    set
 }
 
 pub fn insert(set: Word, t: usize) -> Word

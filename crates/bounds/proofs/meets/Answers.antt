@@ -1,23 +1,15 @@
 -- `bounds::meets` meets its contract: a target with nothing near is the witness. Assumes nothing.
-use mathlib.Core.Bool.{true≢false}
+use Prim.Native.Nat.{◌<◌}
 use native.Mathlib.Omega.{arith}
-use Rattle.word.specs.Mask.{member}
-use Rattle.set.specs.Words.{mask}
-use Rattle.set.proofs.Sets.{both_of, is_none}
-use Rattle.bounds.proofs.Covering.{row-missing}
+use borrow.Author.Rules.{rules}
+use Rattle.std.proofs.lemmas.Iterator.{YieldsList-from_slice}
+use Rattle.std.proofs.lemmas.Iterator.Adapters.{serves_from_places}
+use Rattle.std.proofs.lemmas.Grind.{get_or_default_zero}
+use Rattle.relation.specs.Rows.{height}
 use Rattle.bounds.proofs.meets.Goals as goal
 
-pub overflow_cast-from : goal.overflow_cast-from
-overflow_cast-from c = omega (arith, c.type_inv.from c.loop-i.i)
-
-pub get-requires : goal.get-requires
-get-requires c = c.requires.below c.loop-i.i (omega arith)
-
-pub returns-then-is_empty : goal.returns-then-is_empty
-returns-then-is_empty c =
-    let a = c.args in
-    λ _. row-missing a.rows.now a.from.now (mask a.to) c.loop-i.i (mask c.intersection-near.result)
-    (both_of c.get.ensures (member (mask a.to)) c.intersection-near.ensures) (omega arith) (is_none c.is_empty.ensures c.if-is_empty.true)
-
-pub returns : goal.returns
-returns c = λ e. absurd (true≢false e)
+pub all-requires-clause-callable : goal.all-requires-clause-callable
+all-requires-clause-callable c =
+    serves_from_places (YieldsList-from_slice c.args.from.now cc) (λ x q k. search rules)
+    (λ x k lt e.
+    let state : x.now < height c.args.rows.now = omega (arith, e, get_or_default_zero c.args.from.now k x.now lt, c.requires.below k lt) in search rules)

@@ -1,17 +1,14 @@
 -- `choice::find_sets` meets its contract.
 -- Assumes nothing.
 use mathlib.Core.Path.{◌≡◌, sym, ap, ◌∙◌, subst}
-use Prim.Native.Nat.{◌+◌, ◌<◌}
+use Prim.Native.Nat.{◌<◌}
 use native.Mathlib.Omega.{arith}
 use lib.Dec.{T}
 use Rattle.simulation.specs.Table.{states_of}
 use Rattle.simulation.specs.Complete.{lists}
-use Rattle.simulation.proofs.Finite.Tests.{true_T}
-use Rattle.simulation.proofs.Finite.Sums.{one-most}
-use Rattle.word.proofs.Mask.{flag_is}
 use Rattle.form.specs.Form.{transitions_of}
 use Rattle.form.specs.Tables.{first_form, second_form, second_table, first_step}
-use Rattle.form.proofs.FormLaws.{limits, start-bound}
+use Rattle.form.proofs.FormLaws.{limits}
 use Rattle.choice.proofs.Choosing.{LostPair, number_of, second-state}
 use Rattle.choice.proofs.Added.{tested_added}
 use Rattle.choice.proofs.find_sets.Goals as goal
@@ -34,46 +31,25 @@ answer c =
     sym (c.lists_code.ensures ∙ ap (lists (second_table tables).codes) c.code-code.ensures)
 
 pub code-code-requires : goal.code-code-requires
-code-code-requires c = (c.requires.0.loaded.first, number (goal.at.code-code-requires c).Start)
+code-code-requires c = number (goal.at.code-code-requires c).Start
 
 pub lists_code-requires : goal.lists_code-requires
 lists_code-requires c = (c.requires.0.loaded, state (goal.at.lists_code-requires c).Start)
 
-pub find_listed-requires : goal.find_listed-requires
-find_listed-requires c =
+pub part_added-requires : goal.part_added-requires
+part_added-requires c =
     let p = c.requires in
-    (p.0, p.1, p.2, p.3, p.4, p.5, p.6, true_T (answer (goal.at.find_listed-requires c).After-lists_code ∙ c.if-lists_code.true))
-
-pub part_added-fits-requires : goal.part_added-fits-requires
-part_added-fits-requires c =
-    let p = c.requires in
-    (p.0, omega (arith, p.1.fell, p.2), number (goal.at.part_added-fits-requires c).Start, p.1.right, omega (arith, p.5))
+    (p.0, omega (arith, p.1.fell, p.2), number (goal.at.part_added-requires c).Start, p.1.right, omega (arith, p.5))
 
 pub overflow_add-t : goal.overflow_add-t
 overflow_add-t c =
     record { fits = omega (arith, state (goal.at.overflow_add-t c).Start, (limits (second_form c.args.tables.now) c.requires.0.loaded.second).states-few) }
 
-pub start_of-requires : goal.start_of-requires
-start_of-requires c =
-    (c.requires.0.loaded.second, omega (arith, state (goal.at.start_of-requires c).Start))
-
-pub overflow_add-result : goal.overflow_add-result
-overflow_add-result c =
-    let fits = c.part_added-fits.result in
-    let g = second_form c.args.tables.now in
-    let loaded = c.requires.0.loaded.second in
-    record {
-      fits = omega (
-        arith,
-        flag_is fits,
-        one-most fits,
-        c.start_of.ensures,
-        start-bound g loaded (c.args.t + 1) (omega (arith, state (goal.at.overflow_add-result c).Start)),
-        (limits g loaded).transitions-few,
-      );
-    }
+pub start_of-end-requires : goal.start_of-end-requires
+start_of-end-requires c =
+    omega (arith, state (goal.at.start_of-end-requires c).Start)
 
 pub returns : goal.returns
 returns c =
-    tested_added (pair (goal.at.returns c).Start) c.requires.3 c.requires.4 (λ h. subst T (answer (goal.at.returns c).After-lists_code ∙ c.if-lists_code.false) h) c.part_added-fits.result
-    c.part_added-fits.ensures c.start_of.ensures
+    tested_added (pair (goal.at.returns c).Start) c.requires.3 c.requires.4 (λ h. subst T (answer (goal.at.returns c).After-lists_code ∙ c.if-lists_code.false) h) c.part_added.result
+    c.part_added.ensures c.start_of-end.ensures c.then_some.ensures

@@ -1,6 +1,5 @@
 -- `choice::guessed` meets its contract.
 -- Assumes nothing.
-use mathlib.Core.Path.{refl}
 use Prim.Native.Nat.{pred, ◌<◌, ◌+◌}
 use native.Mathlib.Omega.{arith}
 use borrow.Author.Tests.{leb-false}
@@ -9,7 +8,6 @@ use Rattle.simulation.specs.Table.{states_of}
 use Rattle.form.specs.Form.{start_of}
 use Rattle.form.specs.Tables.{first_form, second_form, first_table, second_table, contract_table, first_step}
 use Rattle.form.proofs.FormLaws.{limits, starts_ascend}
-use Rattle.matrix.proofs.MaskedLaws.{neither}
 use Rattle.relate.proofs.Places.{few_places}
 use Rattle.choice.proofs.Choosing.{number_of, second-state, listed_answers}
 use Rattle.choice.proofs.guessed.Goals as goal
@@ -27,10 +25,10 @@ overflow_add-t c =
     record { fits = omega (arith, state (goal.at.overflow_add-t c).Start, (limits (second_form c.args.tables.now) c.requires.0.loaded.second).states-few) }
 
 pub start_of-end-requires : goal.start_of-end-requires
-start_of-end-requires c = (c.requires.0.loaded.second, omega (arith, state (goal.at.start_of-end-requires c).Start))
+start_of-end-requires c = omega (arith, state (goal.at.start_of-end-requires c).Start)
 
 pub start_of-requires : goal.start_of-requires
-start_of-requires c = (c.requires.0.loaded.second, omega (arith, state (goal.at.start_of-requires c).Start))
+start_of-requires c = omega (arith, state (goal.at.start_of-requires c).Start)
 
 pub overflow_sub-end : goal.overflow_sub-end
 overflow_sub-end c =
@@ -41,9 +39,6 @@ overflow_sub-end c =
       c.start_of.ensures,
       c.start_of-end.ensures,
     )
-
-pub returns-then-end-start_of-le-PARTNERS : goal.returns-then-end-start_of-le-PARTNERS
-returns-then-end-start_of-le-PARTNERS c = λ h. absurd (neither h refl)
 
 pub fits-requires : goal.fits-requires
 fits-requires c =

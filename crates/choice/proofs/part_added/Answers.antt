@@ -1,15 +1,13 @@
--- `choice::part_added` meets its contract: the targets before place i are tested.
+-- `choice::part_added` meets its contract: the targets passed are tested.
 -- Assumes nothing.
 use mathlib.Core.Path.{◌≡◌}
 use Prim.Native.Nat.{◌<◌, ◌≤◌}
 use native.Mathlib.Omega.{arith}
 use lib.ListN.{length}
 use Rattle.simulation.specs.Limits.{most_states}
-use Rattle.simulation.proofs.Finite.Sums.{one-most}
 use Rattle.form.specs.Tables.{first_form, first_step}
 use Rattle.form.proofs.FormLaws.{limits}
 use Rattle.form.proofs.Contract.{contract-few}
-use Rattle.relation.specs.Ranks.{lasts}
 use Rattle.relate.proofs.Places.{few_places, targets-count, target-state}
 use Rattle.choice.proofs.Choices.{pair_place}
 use Rattle.choice.proofs.Added.{parting_start, parting_few, parting_next, parting_end, lost-is}
@@ -31,29 +29,16 @@ place : (c : In-loop-i) → let a = c.args in c.loop-i.i < length (first_step a.
 place c =
     omega (arith, targets-count (first_form c.args.tables.now) c.args.j c.requires.0.loaded.first c.requires.2 _ c.targets-targets.ensures, c.loop-i-test.true)
 
--- 1 at most
-bit : (c : After-lasts-lost) → c.lasts-lost.result ≤ 1
-bit c = omega (arith, c.lasts-lost.ensures, one-most (lasts c.args.r c.rank_at-rank.result))
-
 pub loop-i-init : goal.loop-i-init
 loop-i-init c = parting_start _ _ _ _
 
-pub offset_bounds-targets-i : goal.offset_bounds-targets-i
-offset_bounds-targets-i c = record { fits = omega (arith, place c, few (goal.at.offset_bounds-targets-i c).After-targets-targets) }
-
-pub bounds-targets-i : goal.bounds-targets-i
-bounds-targets-i c = c.loop-i-test.true
-
-pub rank_at-rank-requires : goal.rank_at-rank-requires
-rank_at-rank-requires c =
+pub rank_at-requires : goal.rank_at-requires
+rank_at-requires c =
     let a = c.args in
     let p = c.requires in
     let f = first_form a.tables.now in
     let own = target-state f a.j p.0.loaded.first p.2 _ c.targets-targets.ensures c.loop-i.i c.loop-i-test.true in
-    (p.0.loaded, omega (arith, own, (limits f p.0.loaded.first).states-few), omega (arith, narrow (goal.at.rank_at-rank-requires c).Start), omega (arith, pair_place p.0 own p.3))
-
-pub overflow_sub-lost : goal.overflow_sub-lost
-overflow_sub-lost c = bit c
+    (p.0.loaded, omega (arith, own, (limits f p.0.loaded.first).states-few), omega (arith, narrow (goal.at.rank_at-requires c).Start), omega (arith, pair_place p.0 own p.3))
 
 pub with_bit-requires : goal.with_bit-requires
 with_bit-requires c =
@@ -67,24 +52,14 @@ pub overflow_add-apart : goal.overflow_add-apart
 overflow_add-apart c =
     record { fits = omega (arith, parting_few _ _ _ c.loop-i.invariant, place (goal.at.overflow_add-apart c).In-loop-i, few (goal.at.overflow_add-apart c).After-targets-targets) }
 
-pub overflow_add-i : goal.overflow_add-i
-overflow_add-i c =
-    record { fits = omega (arith, place (goal.at.overflow_add-i c).In-loop-i, few (goal.at.overflow_add-i c).After-targets-targets) }
-
-pub loop-i-smaller : goal.loop-i-smaller
-loop-i-smaller c = omega (arith, c.loop-i-test.true)
-
 pub loop-i-preserved : goal.loop-i-preserved
 loop-i-preserved c =
     let a = c.args in
     let p = c.requires in
     let l = c.loop-i in
     parting_next _ _ _ l.invariant c.with_bit.result (omega (arith, few (goal.at.loop-i-preserved c).After-targets-targets, p.4)) (place (goal.at.loop-i-preserved c).In-loop-i) c.empty.ensures
-    (lost-is p.0 a.j a.t a.r p.2 p.3 p.1 c.targets-targets.ensures l.i c.loop-i-test.true c.rank_at-rank.ensures c.lasts-lost.ensures)
+    (lost-is p.0 a.j a.t a.r p.2 p.3 p.1 c.targets-targets.ensures l.i c.loop-i-test.true c.rank_at.ensures c.lasts-lost.ensures)
     c.with_bit.ensures c.put.ensures
-
-pub shape_of-sets : goal.shape_of-sets
-shape_of-sets c = c.loop-i.invariant.size
 
 pub returns : goal.returns
 returns c = parting_end _ _ _ c.loop-i.invariant (omega (arith, count (goal.at.returns c).After-targets-targets, c.loop-i-test.false))

@@ -33,9 +33,6 @@ found c u =
     let n = second_step tables a.k in
     c.unrelated-more.ensures u ∙ ap (λ (ts : List ℕ). any (length n.entries) (apart-at R (get_or ts 0 0) n u)) c.targets.ensures
 
-pub bounds-targets-0 : goal.bounds-targets-0
-bounds-targets-0 c = lone (goal.at.bounds-targets-0 c).After-targets
-
 pub unrelated-more-requires : goal.unrelated-more-requires
 unrelated-more-requires c =
     let a = c.args in

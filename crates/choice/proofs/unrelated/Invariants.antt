@@ -1,16 +1,12 @@
--- `choice::unrelated` meets its contract: the targets before place i are tested.
+-- `choice::unrelated` meets its contract: the targets passed are tested.
 -- Assumes nothing.
-use Prim.Native.Nat.{◌-◌, pred}
-use lib.ListN.{length}
+use Prim.Native.Nat.{pred}
 use Rattle.simulation.specs.Round.{round}
 use Rattle.form.specs.Tables.{first_table, contract_table, second_step}
 use Rattle.set.specs.Words.{mask}
 use Rattle.choice.proofs.Parts.{Unrelating}
 use Rattle.choice.proofs.unrelated.Given as goal
 
-abbrev pub invariant-loop-i : goal.invariant-loop-i
-invariant-loop-i l =
-    Unrelating (round (first_table l.tables) (contract_table l.tables) (pred l.r)) l.s (second_step l.tables l.k) (mask l.apart) l.i
-
-abbrev pub decreases-loop-i : goal.decreases-loop-i
-decreases-loop-i l = length l.targets - l.i
+abbrev pub invariant-loop-t : goal.invariant-loop-t
+invariant-loop-t l =
+    Unrelating (round (first_table l.tables) (contract_table l.tables) (pred l.r)) l.s (second_step l.tables l.k) (mask l.apart) l.t-index

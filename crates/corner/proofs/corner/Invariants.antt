@@ -6,7 +6,7 @@ use Rattle.corner.proofs.Turn.{RuleAt}
 use Rattle.corner.proofs.corner.Given as goal
 
 abbrev pub invariant-loop-i : goal.invariant-loop-i
-invariant-loop-i l = RuleAt (joins l.rows l.from l.to) l.m l.n l.i l.j l.a l.b l.related
+invariant-loop-i l = RuleAt (joins l.rows l.m.targets.now l.n.targets.now) l.m.weights.now l.n.weights.now l.i l.j l.a l.b l.related
 
 abbrev pub decreases-loop-i : goal.decreases-loop-i
-decreases-loop-i l = (length l.m - l.i) + (length l.n - l.j)
+decreases-loop-i l = (length l.m.weights.now - l.i) + (length l.n.weights.now - l.j)

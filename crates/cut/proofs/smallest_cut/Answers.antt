@@ -15,4 +15,4 @@ returns-then-is_empty c =
     (is_none c.is_empty.ensures c.if-is_empty.true) c.by_weight.ensures
 
 pub returns : goal.returns
-returns c = let a = c.maximum_flow-flow.ensures.0 in record { fit = a.fit; smallest = a.smallest; no_others = a.no_others }
+returns c = let a = c.maximum_flow.ensures.0 in record { fit = a.fit; smallest = a.smallest; no_others = a.no_others }

@@ -1,29 +1,20 @@
--- `excess::by_columns` meets its contract: the sums by rows decide the question turned round.
--- Assumes nothing.
+-- `excess::by_columns` meets its contract: the sums by rows decide the question turned round. Assumes nothing.
 use mathlib.Core.Path.{◌∙◌}
+use native.Mathlib.Omega.{arith}
+use borrow.Author.Rules.{rules}
 use lib.ListN.{length}
 use Rattle.matrix.specs.Problem.{joins}
-use Rattle.excess.proofs.Hall.{FewSide, few_side, has_room, decides, fits_turned}
+use Rattle.excess.proofs.Sets.{few_members}
+use Rattle.excess.proofs.Hall.{fits_turned}
 use Rattle.excess.proofs.by_columns.Goals as goal
-use Rattle.excess.proofs.by_columns.Goals.{After-total_weight}
 
-begun : (c : After-total_weight)
-    → FewSide c.args.n.now c.args.m.now (length c.args.to.now) (length c.args.from.now) c.total_weight.result c.no_sums-sums.result
-begun c =
-    let h = c.requires.0 in
-    few_side h.columns_paired h.rows_paired c.total_weight.ensures c.requires.1 h.total_vs h.total_ws c.no_sums-sums.ensures
-
-pub row_sums-requires : goal.row_sums-requires
-row_sums-requires c = let h = c.requires.0 in (h.row_states, h.column_states, (begun (goal.at.row_sums-requires c).After-total_weight).begun)
-
-pub carries-requires : goal.carries-requires
-carries-requires c =
-    let a = c.args in
-    has_room (begun (goal.at.carries-requires c).After-total_weight) (λ j i. joins a.rows.now a.from.now a.to.now i j) c.total_weight-2.ensures c.row_sums.ensures
+pub by_sets-requires-clause-small : goal.by_sets-requires-clause-small
+by_sets-requires-clause-small c = λ i a lt e.
+    let x = c.args in
+    few_members (length x.n.targets.now) (joins x.rows.now x.m.targets.now x.n.targets.now i) a (omega arith) (search rules)
 
 pub returns : goal.returns
 returns c =
-    let a = c.args in
-    let R = joins a.rows.now a.from.now a.to.now in
-    decides (begun (goal.at.returns c).After-total_weight) (λ j i. R i j) c.total_weight-2.ensures c.row_sums.ensures c.carries.ensures
-    ∙ fits_turned R a.m.now a.n.now
+    let x = c.args in
+    let R = joins x.rows.now x.m.targets.now x.n.targets.now in
+    c.by_sets.ensures (λ j i. R i j) (λ i a lt e. search rules) ∙ fits_turned R x.m.weights.now x.n.weights.now

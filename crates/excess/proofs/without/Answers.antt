@@ -8,17 +8,11 @@ use lib.ListN.{get_or}
 use Rattle.simulation.specs.Sum.{when}
 use Rattle.word.specs.Mask.{member}
 use Rattle.word.proofs.Mask.{member_shift, power_is}
-use Rattle.excess.proofs.Subsets.{member-room}
 use Rattle.excess.proofs.without.Goals as goal
 use Rattle.excess.proofs.without.Goals.{Then-set-i-eq1}
 
 in_set : (c : Then-set-i-eq1) → member c.args.set c.args.i ≡ true
 in_set c = let a = c.args in sym (member_shift a.set a.i) ∙ eq-eqb _ 1 c.if-set-i-eq1.true
-
-pub overflow_sub-result : goal.overflow_sub-result
-overflow_sub-result c =
-    let a = c.args in
-    omega (arith, power_is a.i (omega arith), member-room a.i a.set (in_set c))
 
 pub returns-then-set-i-eq1 : goal.returns-then-set-i-eq1
 returns-then-set-i-eq1 c =

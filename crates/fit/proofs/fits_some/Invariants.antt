@@ -8,9 +8,9 @@ use Rattle.form.specs.Tables.{second_form}
 use Rattle.fit.proofs.Trying.{Unfitted}
 use Rattle.fit.proofs.fits_some.Given as goal
 
-abbrev pub invariant-loop-l : goal.invariant-loop-l
-invariant-loop-l l =
+abbrev pub invariant-loop-next : goal.invariant-loop-next
+invariant-loop-next l =
     (start_of (second_form l.tables) l.t ≤ l.l) × (l.tried ≡ l.initial.tried) × (length l.amounts ≡ length l.initial.amounts) × Unfitted l.tables l.rows l.j l.t l.l
 
-abbrev pub decreases-loop-l : goal.decreases-loop-l
-decreases-loop-l l = l.end - l.l
+abbrev pub decreases-loop-next : goal.decreases-loop-next
+decreases-loop-next l = l.end - l.l

@@ -20,29 +20,23 @@ has-place t =
     omega (arith, t.loop-l-test.true, t.loop-l.invariant.1, t.loop-l.invariant.2, (limits (second_form t.args.tables.now) t.requires.0.second).transitions-few, t.requires.1)
 
 pub start_of-n-requires : goal.start_of-n-requires
-start_of-n-requires c = (c.requires.0.second, omega (arith, c.states.ensures))
+start_of-n-requires c = omega (arith, c.states.ensures)
 
 pub loop-l-init : goal.loop-l-init
 loop-l-init c =
     let f = second_form c.args.tables.now in
     (omega arith, subst (λ (n : ℕ). c.start_of-n.result ≡ n) (last-start f) (rw (← c.states.ensures) c.start_of-n.ensures), refl, λ k a. absurd (omega arith))
 
-pub targets-requires : goal.targets-requires
-targets-requires c = (c.requires.0.second, omega (arith, c.loop-l.invariant.1, c.loop-l-test.true))
+pub targets-targets-requires : goal.targets-targets-requires
+targets-targets-requires c = omega (arith, c.loop-l.invariant.1, c.loop-l-test.true)
 
 pub set_of-requires : goal.set_of-requires
 set_of-requires c =
-    subst (Places most_states) (sym c.targets.ensures)
+    subst (Places most_states) (sym c.targets-targets.ensures)
     (places_of most_states (second_form c.args.tables.now) c.requires.0.second c.loop-l.l (omega (arith, c.loop-l.invariant.1, c.loop-l-test.true)) (omega arith))
 
 pub put-requires : goal.put-requires
 put-requires c = has-place (goal.at.put-requires c).In-loop-l
-
-pub overflow_add-l : goal.overflow_add-l
-overflow_add-l c = omega (arith, c.loop-l-test.true)
-
-pub loop-l-smaller : goal.loop-l-smaller
-loop-l-smaller c = omega (arith, c.loop-l-test.true)
 
 pub loop-l-preserved : goal.loop-l-preserved
 loop-l-preserved c =
@@ -53,7 +47,7 @@ loop-l-preserved c =
       omega (arith, c.loop-l-test.true),
       o.invariant.1,
       ap length e ∙ length_put o.sets o.l s.result ∙ o.invariant.2,
-      subst (SetsTo f (o.l + 1)) (sym e) (sets-next f o.sets o.l s.result (has-place (goal.at.loop-l-preserved c).In-loop-l) c.targets.ensures s.ensures o.invariant.3),
+      subst (SetsTo f (o.l + 1)) (sym e) (sets-next f o.sets o.l s.result (has-place (goal.at.loop-l-preserved c).In-loop-l) c.targets-targets.ensures s.ensures o.invariant.3),
     )
 
 pub shape_of-sets : goal.shape_of-sets

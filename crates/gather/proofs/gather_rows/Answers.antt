@@ -27,12 +27,6 @@ gather_row-requires c =
 pub put-requires : goal.put-requires
 put-requires c = has-row (goal.at.put-requires c).In-loop-i
 
-pub overflow_add-i : goal.overflow_add-i
-overflow_add-i c = omega (arith, c.loop-i-test.true)
-
-pub loop-i-smaller : goal.loop-i-smaller
-loop-i-smaller c = omega (arith, c.loop-i-test.true)
-
 pub loop-i-preserved : goal.loop-i-preserved
 loop-i-preserved c =
     let o = c.loop-i in

@@ -3,10 +3,10 @@ use mathlib.Core.Path.{refl}
 use Rattle.greedy.proofs.StartLaws.{supplies-is}
 use Rattle.greedy.proofs.begin.Goals as goal
 
-pub returns : goal.returns
-returns c =
+pub returns-clause-begun : goal.returns-clause-begun
+returns-clause-begun c =
     record {
-      cleared = c.clear_rows.ensures;
+      cleared = c.clear.ensures;
       supplies = supplies-is c.total_weight.ensures refl c.supplies.ensures;
       demands = supplies-is c.total_weight-2.ensures refl c.supplies-2.ensures;
     }

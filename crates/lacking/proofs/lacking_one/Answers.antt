@@ -8,14 +8,11 @@ use Rattle.set.specs.Words.{mask}
 use Rattle.set.specs.declared.Set.{Set}
 use Rattle.form.specs.Form.{transitions_of, table_of}
 use Rattle.form.specs.Tables.{first_form, contract_table}
-use Rattle.form.proofs.FormLaws.{limits, counts, start-bound}
+use Rattle.form.proofs.FormLaws.{counts, start-bound}
 use Rattle.form.proofs.Contract.{own_code}
 use Rattle.lacking.proofs.Lacked.{Lacked, lacked-start, lacked-next, lacked_again, lacked-end}
 use Rattle.lacking.proofs.lacking_one.Goals as goal
 use Rattle.lacking.proofs.lacking_one.Goals.{else-not-repeats, then-not-repeats, In-loop-j}
-
-pub overflow_add-s : goal.overflow_add-s
-overflow_add-s c = omega (arith, c.requires.1, (limits (first_form c.args.tables.now) c.requires.0.first).states-few)
 
 pub loop-j-init : goal.loop-j-init
 loop-j-init c =
@@ -31,21 +28,15 @@ own c =
     omega (arith, c.loop-j-test.true, c.start_of-end.ensures, start-bound (first_form c.args.tables.now) c.requires.0.first (c.args.s + 1) (omega (arith, c.requires.1)))
 
 pub repeats-requires : goal.repeats-requires
-repeats-requires c = (c.requires.0.first, own c)
+repeats-requires c = own c
 
 pub code-code-requires : goal.code-code-requires
-code-code-requires c = (c.requires.0.first, own (goal.at.code-code-requires c).In-loop-j)
+code-code-requires c = own (goal.at.code-code-requires c).In-loop-j
 
 pub unanswered-requires : goal.unanswered-requires
 unanswered-requires c =
     let f = first_form c.args.tables.now in
     (c.requires.0, lists-same (table_of f).codes c.code-code.ensures (own_code f c.requires.0.first c.loop-j.j (own (goal.at.unanswered-requires c).In-loop-j)))
-
-pub overflow_add-j : goal.overflow_add-j
-overflow_add-j c = omega (arith, c.loop-j-test.true)
-
-pub loop-j-smaller : goal.loop-j-smaller
-loop-j-smaller c = omega (arith, c.loop-j-test.true)
 
 pub loop-j-preserved : goal.loop-j-preserved
 loop-j-preserved c =

@@ -4,9 +4,6 @@ use Rattle.word.specs.Mask.{member}
 use Rattle.lacking.proofs.Lacked.{lacks-listed, lacks-added}
 use Rattle.lacking.proofs.unanswered.Goals as goal
 
-pub lacking-requires : goal.lacking-requires
-lacking-requires c = c.requires.0
-
 pub returns-then-lists : goal.returns-then-lists
 returns-then-lists c =
     let a = c.args in

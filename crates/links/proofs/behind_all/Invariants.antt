@@ -2,26 +2,16 @@
 use mathlib.Core.Path.{◌≡◌}
 use mathlib.Core.Bool.{true}
 use mathlib.Core.List.{List}
-use Prim.Native.Nat.{ℕ, ◌≤◌, ◌-◌}
+use Prim.Native.Nat.{ℕ}
 use Rattle.word.specs.Mask.{member}
-use Rattle.set.specs.Words.{words, mask, after, rest}
+use Rattle.set.specs.Words.{mask}
 use Rattle.relation.specs.Related.{holds}
-use Rattle.links.specs.Places.{behind_in}
 use Rattle.links.proofs.Walks.{EachPassed}
 use Rattle.links.proofs.behind_all.Given as goal
 
 -- the row of u lies in the set r
-abbrev pub Taken : (sets : List ℕ) (r u : ℕ) → Type 0
-Taken sets r u = (t : ℕ) → holds (behind_in sets) u t ≡ true → member r t ≡ true
+abbrev pub Taken : (rows : List ℕ) (r u : ℕ) → Type 0
+Taken rows r u = (t : ℕ) → holds rows u t ≡ true → member r t ≡ true
 
-abbrev pub invariant-loop-left : goal.invariant-loop-left
-invariant-loop-left l = EachPassed l.set (rest l.w l.left l.set) (Taken l.sets (mask l.r))
-
-abbrev pub decreases-loop-left : goal.decreases-loop-left
-decreases-loop-left l = l.left
-
-abbrev pub invariant-loop-w : goal.invariant-loop-w
-invariant-loop-w l = (l.w ≤ words) × EachPassed l.set (after l.w l.set) (Taken l.sets (mask l.r))
-
-abbrev pub decreases-loop-w : goal.decreases-loop-w
-decreases-loop-w l = words - l.w
+abbrev pub invariant-loop-u : goal.invariant-loop-u
+invariant-loop-u l = EachPassed l.fn.set (mask l.u-iterator.left) (Taken l.sets.behind (mask l.r))

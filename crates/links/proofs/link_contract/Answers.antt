@@ -7,7 +7,7 @@ use Rattle.links.proofs.Growing.{linked_looped}
 use Rattle.links.proofs.link_contract.Goals as goal
 
 pub link-requires : goal.link-requires
-link-requires c = (c.requires.0.second, c.requires.1, c.requires.2)
+link-requires c = (c.requires.1, c.requires.2)
 
 pub link_loops-requires : goal.link_loops-requires
 link_loops-requires c =

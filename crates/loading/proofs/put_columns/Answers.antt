@@ -1,30 +1,48 @@
 -- `loading::put_columns` meets its contract: the layout has the counts and places of the bytes, and the parts are written in ascending order.
 -- Assumes nothing.
-use mathlib.Core.Path.{◌∙◌}
+use Rattle.std.proofs.Common.{rules}
+use Prim.Native.Nat.{◌+◌, ◌*◌, ◌<◌}
 use native.Mathlib.Omega.{arith}
-use Rattle.simulation.specs.Limits.{wide}
-use Rattle.table.proofs.PartLaws.{parts-known}
-use Rattle.loading.proofs.FillLaws.{columns_by}
+use lib.ListN.{length}
+use Rattle.layout.specs.Bytes.{byte, half}
+use Rattle.loading.proofs.FillLaws.{parts_of, filled_as, columns_by}
 use Rattle.loading.proofs.put_columns.Goals as goal
 
 pub overflow_add-sizes_at : goal.overflow_add-sizes_at
-overflow_add-sizes_at c = let p = parts-known wide c.args.s.now c.args.t c.requires.0 c.requires.1 in omega arith
+overflow_add-sizes_at c = let p = parts_of c.requires in omega arith
 
-pub put_bytes-requires : goal.put_bytes-requires
-put_bytes-requires c = let p = parts-known wide c.args.s.now c.args.t c.requires.0 c.requires.1 in record { bytes = λ i l. omega arith; room = omega arith }
+pub put_column-requires-clause-room : goal.put_column-requires-clause-room
+put_column-requires-clause-room c = let p = parts_of c.requires in omega arith
 
-pub put_halves-requires : goal.put_halves-requires
-put_halves-requires c =
-    let p = parts-known wide c.args.s.now c.args.t c.requires.0 c.requires.1 in
-    let long = c.put_bytes.ensures.long in
-    record { bytes = λ i l. omega arith; room = omega arith }
+pub put_column-requires-clause-callable : goal.put_column-requires-clause-callable
+put_column-requires-clause-callable c =
+    let p = parts_of c.requires in
+    λ i h. let b : c.args.t.transitions.at + 2 + 3 * i < length c.args.s.now = omega arith in search rules
 
-pub put_halves-requires-2 : goal.put_halves-requires-2
-put_halves-requires-2 c =
-    let p = parts-known wide c.args.s.now c.args.t c.requires.0 c.requires.1 in
-    let long = c.put_halves.ensures.long ∙ c.put_bytes.ensures.long in
-    record { bytes = λ i l. omega arith; room = omega arith }
+pub put_column-requires-2-clause-room : goal.put_column-requires-2-clause-room
+put_column-requires-2-clause-room c =
+    let p = parts_of c.requires in
+    omega (arith, c.put_column.ensures.long)
+
+pub put_column-requires-2-clause-callable : goal.put_column-requires-2-clause-callable
+put_column-requires-2-clause-callable c =
+    let p = parts_of c.requires in
+    λ i h. let b : c.args.t.transitions.at + 3 * i + 1 < length c.args.s.now = omega arith in search rules
+
+pub put_column-requires-3-clause-room : goal.put_column-requires-3-clause-room
+put_column-requires-3-clause-room c =
+    let p = parts_of c.requires in
+    omega (arith, c.put_column.ensures.long, c.put_column-2.ensures.long)
+
+pub put_column-requires-3-clause-callable : goal.put_column-requires-3-clause-callable
+put_column-requires-3-clause-callable c =
+    let p = parts_of c.requires in
+    λ i h. let b : 2 + 2 * i + 1 < length c.args.s.now = omega arith in search rules
 
 pub returns : goal.returns
 returns c =
-    columns_by _ _ (parts-known wide c.args.s.now c.args.t c.requires.0 c.requires.1) c.put_bytes.ensures c.put_halves.ensures c.put_halves-2.ensures
+    let a = c.args in
+    columns_by _ _ (parts_of c.requires)
+    (filled_as (λ j. byte a.s.now (a.t.transitions.at + 2 + 3 * j)) c.put_column.ensures (λ i v l q. grind arith))
+    (filled_as (λ j. half a.s.now (a.t.transitions.at + 3 * j)) c.put_column-2.ensures (λ i v l q. grind arith))
+    (filled_as (λ i. half a.s.now (2 + 2 * i)) c.put_column-3.ensures (λ i v l q. grind arith))

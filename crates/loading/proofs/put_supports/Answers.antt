@@ -13,15 +13,15 @@ use Rattle.layout.specs.Bytes.{byte, size, start, transitions, entries}
 use Rattle.layout.proofs.Bounds.{accepted_bounds}
 use Rattle.layout.proofs.PlaceLaws.{run-within}
 use Rattle.form.specs.Form.{form_size, entry_starts_from, listed_from, entry_start}
-use Rattle.table.proofs.PartLaws.{Parts, parts-known}
+use Rattle.table.proofs.PartLaws.{Parts}
 use Rattle.loading.specs.Fill.{EntriesPut, support_of, support_start, Supports, SupportsUpTo}
-use Rattle.loading.proofs.FillLaws.{between_trans, between_wider}
+use Rattle.loading.proofs.FillLaws.{parts_of, between_trans, between_wider}
 use Rattle.loading.proofs.SupportLaws.{between_none, between-set, entries_of, support_start-few, starts_none, start_put, starts-kept, supports_more}
 use Rattle.loading.proofs.put_supports.Goals as goal
 use Rattle.loading.proofs.put_supports.Goals.{After-byte_at-size}
 
 pub overflow_add-sizes_at : goal.overflow_add-sizes_at
-overflow_add-sizes_at c = let p = parts-known wide c.args.s.now c.args.t c.requires.0 c.requires.1 in omega arith
+overflow_add-sizes_at c = let p = parts_of c.requires in omega arith
 
 pub loop-j-init : goal.loop-j-init
 loop-j-init c =
@@ -29,13 +29,13 @@ loop-j-init c =
     (omega arith, omega (arith, sum-none (size wide a.s.now)), sum-none _, starts_none a.s.now a.form.now, between_none entry_starts_from listed_from a.form.now)
 
 pub overflow_mul-j : goal.overflow_mul-j
-overflow_mul-j c = let p = parts-known wide c.args.s.now c.args.t c.requires.0 c.requires.1 in omega arith
+overflow_mul-j c = let p = parts_of c.requires in omega arith
 
 pub overflow_add-sizes_at-in-loop-j : goal.overflow_add-sizes_at-in-loop-j
-overflow_add-sizes_at-in-loop-j c = let p = parts-known wide c.args.s.now c.args.t c.requires.0 c.requires.1 in omega arith
+overflow_add-sizes_at-in-loop-j c = let p = parts_of c.requires in omega arith
 
 pub byte_at-size-requires : goal.byte_at-size-requires
-byte_at-size-requires c = let p = parts-known wide c.args.s.now c.args.t c.requires.0 c.requires.1 in omega arith
+byte_at-size-requires c = let p = parts_of c.requires in omega arith
 
 -- in a turn: the byte read is how many entries the transition lists, these lie within the bytes, and there is room for them
 module _ (c : After-byte_at-size) where
@@ -43,13 +43,13 @@ module _ (c : After-byte_at-size) where
   bytes = c.args.s.now
 
   parts : Parts wide bytes c.args.t
-  parts = parts-known wide bytes c.args.t c.requires.0 c.requires.1
+  parts = parts_of c.requires
 
   sized : c.byte_at-size.result ≡ size wide bytes c.loop-j.j
   sized = let p = parts in c.byte_at-size.ensures.is ∙ ap (byte bytes) (omega arith)
 
   within : start wide bytes c.loop-j.j + c.byte_at-size.result ≤ entries wide bytes
-  within = let p = parts in omega (arith, sized, run-within wide bytes c.loop-j.j c.requires.0 (omega arith))
+  within = let p = parts in omega (arith, sized, run-within wide bytes c.loop-j.j c.requires.passed (omega arith))
 
   fits : c.loop-j.n + c.byte_at-size.result ≤ most_entries
   fits = let p = parts in omega (arith, within, support_start-few bytes c.loop-j.j)
@@ -107,28 +107,28 @@ loop-j-preserved c =
 pub overflow_cast-form-2 : goal.overflow_cast-form-2
 overflow_cast-form-2 c =
     let s = c.args.s.now in
-    let e = c.requires.0 in
-    let p = parts-known wide c.args.s.now c.args.t c.requires.0 c.requires.1 in
+    let e = c.requires.passed in
+    let p = parts_of c.requires in
     let all : c.loop-j.j ≡ transitions wide s = omega arith in
     omega (arith, support_start-few s c.loop-j.j, ap (start wide s) all, (accepted_bounds wide s e).of_entries.counted)
 
 pub overflow_add-form-2 : goal.overflow_add-form-2
-overflow_add-form-2 c = let p = parts-known wide c.args.s.now c.args.t c.requires.0 c.requires.1 in omega arith
+overflow_add-form-2 c = let p = parts_of c.requires in omega arith
 
 pub offset_bounds-form-t : goal.offset_bounds-form-t
-offset_bounds-form-t c = let p = parts-known wide c.args.s.now c.args.t c.requires.0 c.requires.1 in omega arith
+offset_bounds-form-t c = let p = parts_of c.requires in omega arith
 
 pub bounds-form-t : goal.bounds-form-t
-bounds-form-t c = let p = parts-known wide c.args.s.now c.args.t c.requires.0 c.requires.1 in omega (arith, c.loop-j.invariant.4.long)
+bounds-form-t c = let p = parts_of c.requires in omega (arith, c.loop-j.invariant.4.long)
 
 pub shape_of-form : goal.shape_of-form
 shape_of-form c = length-set c.loop-j.form _ c.loop-j.n ∙ c.loop-j.invariant.4.long
 
 pub returns : goal.returns
 returns c =
-    let p = parts-known wide c.args.s.now c.args.t c.requires.0 c.requires.1 in
+    let p = parts_of c.requires in
     let bytes = c.args.s.now in
-    let m = c.args.t.transitions in
+    let m = c.args.t.transitions.count in
     let f = c.loop-j.form in
     let long : form_size ≤ length f = omega (arith, c.loop-j.invariant.4.long) in
     let few : m ≤ most_transitions = omega arith in

@@ -11,7 +11,7 @@ use Rattle.loading.proofs.put_supports.Given as goal
 -- before the transition j, whose entries begin at a place of the bytes and come next in the form
 abbrev pub invariant-loop-j : goal.invariant-loop-j
 invariant-loop-j l =
-    (l.j ≤ l.j-end) × (l.at ≡ l.t.entries_at + 3 * start wide l.s l.j) × (l.n ≡ support_start l.s l.j) × Supports l.s l.form l.j × Between entry_starts_from listed_from l.initial.form l.form
+    (l.j ≤ l.j-end) × (l.at ≡ l.t.entries.at + 3 * start wide l.s l.j) × (l.n ≡ support_start l.s l.j) × Supports l.s l.form l.j × Between entry_starts_from listed_from l.initial.form l.form
 
 abbrev pub decreases-loop-j : goal.decreases-loop-j
 decreases-loop-j l = l.j-end - l.j

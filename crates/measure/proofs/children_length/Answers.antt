@@ -16,25 +16,13 @@ small o i = omega (arith, o.type_inv.lengths i)
 fits : (c : After-node_length) → let r = c.node_length.result in
     (3 + r ≤ 4 + most_states * most) × (c.loop-i.len + (3 + r) ≤ most_children + (4 + most_states * most))
 fits c =
-    length-fits c.requires ((λ i. omega (arith, c.type_inv.lengths i))) c.loop-i.invariant c.loop-i-test.true c.get-members.ensures _ c.node_length.ensures
+    length-fits c.requires ((λ i. omega (arith, c.type_inv.lengths i))) c.loop-i.invariant c.loop-i-test.true c.get.ensures _ c.node_length.ensures
 
 pub loop-i-init : goal.loop-i-init
 loop-i-init c = let a = c.args in length-start a.tables.now a.lengths.now a.targets.now a.sets.now
 
-pub offset_bounds-targets-i : goal.offset_bounds-targets-i
-offset_bounds-targets-i c = record { fits = omega (arith, c.requires.few, c.loop-i-test.true) }
-
-pub bounds-targets-i : goal.bounds-targets-i
-bounds-targets-i c = c.loop-i-test.true
-
-pub overflow_cast-s : goal.overflow_cast-s
-overflow_cast-s c = record { fits = omega (arith, c.requires.low _ c.loop-i-test.true) }
-
-pub get-members-requires : goal.get-members-requires
-get-members-requires c = omega (arith, c.requires.words, c.loop-i-test.true)
-
 pub node_length-requires : goal.node_length-requires
-node_length-requires c = length_node c.requires (small (goal.at.node_length-requires c).At-loop-i) c.loop-i.invariant c.loop-i-test.true c.get-members.ensures
+node_length-requires c = length_node c.requires (small (goal.at.node_length-requires c).At-loop-i) c.loop-i.invariant c.loop-i-test.true c.get.ensures
 
 pub overflow_add-len : goal.overflow_add-len
 overflow_add-len c = record { fits = omega (arith, (fits c).0) }
@@ -42,15 +30,9 @@ overflow_add-len c = record { fits = omega (arith, (fits c).0) }
 pub overflow_add-len-in-loop-i : goal.overflow_add-len-in-loop-i
 overflow_add-len-in-loop-i c = record { fits = omega (arith, (fits c).1) }
 
-pub overflow_step-i : goal.overflow_step-i
-overflow_step-i c = record { fits = omega (arith, c.requires.few, c.loop-i-test.true) }
-
-pub loop-i-smaller : goal.loop-i-smaller
-loop-i-smaller c = omega (arith, c.loop-i-test.true)
-
 pub loop-i-preserved : goal.loop-i-preserved
 loop-i-preserved c =
-    length-next c.requires (small (goal.at.loop-i-preserved c).At-loop-i) c.loop-i.invariant c.loop-i-test.true c.get-members.ensures _ c.node_length.ensures
+    length-next c.requires (small (goal.at.loop-i-preserved c).At-loop-i) c.loop-i.invariant c.loop-i-test.true c.get.ensures _ c.node_length.ensures
 
 pub returns : goal.returns
 returns c = length-end c.requires (small (goal.at.returns c).At-loop-i) c.loop-i.invariant c.loop-i-test.false

@@ -1,10 +1,6 @@
 -- `measure::children_length` meets its contract. Assumes nothing.
-use Prim.Native.Nat.{◌-◌}
 use Rattle.measure.proofs.Measuring.{LengthLoop}
 use Rattle.measure.proofs.children_length.Given as goal
 
 abbrev pub invariant-loop-i : goal.invariant-loop-i
 invariant-loop-i l = LengthLoop l.tables l.lengths l.targets l.sets l.len l.i
-
-abbrev pub decreases-loop-i : goal.decreases-loop-i
-decreases-loop-i l = l.i-end - l.i

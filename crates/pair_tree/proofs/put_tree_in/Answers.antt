@@ -1,24 +1,22 @@
 -- `pair_tree::put_tree_in` meets its contract.
 -- Assumes nothing.
-use mathlib.Core.Logic.{inl, inr}
+use mathlib.Core.Path.{refl}
 use native.Mathlib.Omega.{arith}
-use Rattle.pair_tree.proofs.Putting.{tree-kept, tree-written}
+use Rattle.pair_tree.proofs.Putting.{tree-long, tree-short, tree-written}
 use Rattle.pair_tree.proofs.put_tree_in.Goals as goal
-use Rattle.pair_tree.proofs.put_tree_in.Goals.{then-len-gt-LONGEST-via-then-len-gt-LONGEST, then-len-gt-LONGEST-via-else-len-gt-LONGEST+then-buf-len}
 
-pub returns-then-len-gt-LONGEST : goal.returns-then-len-gt-LONGEST
-returns-then-len-gt-LONGEST c =
-    tree-kept _ _ _ _ c.requires.1.right c.tree_length-len.ensures.length
-    (elim c.then-len-gt-LONGEST.branch [
-      | then-len-gt-LONGEST-via-then-len-gt-LONGEST w ↦ inl w.if-len-gt-LONGEST.true
-      | then-len-gt-LONGEST-via-else-len-gt-LONGEST+then-buf-len w ↦ inr w.if-buf-len.true
-    ])
+pub returns-in_default : goal.returns-in_default
+returns-in_default c = tree-long _ _ _ _ c.requires.1.right c.in_default.ensures.length
+
+pub returns-then-buf-len : goal.returns-then-buf-len
+returns-then-buf-len c =
+    let e = c.in-Some.ensures.length in
+    tree-short _ _ _ _ c.requires.1.right e.0 e.1 c.if-buf-len.true
 
 pub tree-requires : goal.tree-requires
 tree-requires c =
     let p = c.requires in
-    let e = c.tree_length-len.ensures in
-    let short = c.if-len-gt-LONGEST.false in
+    let e = c.in-Some.ensures in
     record {
       given = record {
         ranked = p.0;
@@ -26,12 +24,12 @@ tree-requires c =
         enough = omega (arith, p.4);
         amounts_room = omega (arith, p.2);
       };
-      measured = e.measured (omega (arith, short));
-      short = omega (arith, e.length, short);
-      room = omega (arith, e.length, short, c.if-buf-len.false);
+      measured = e.measured refl;
+      short = omega (arith, e.length.0, e.length.1);
+      room = omega (arith, e.length.0, e.length.1, c.if-buf-len.false);
     }
 
 pub returns : goal.returns
 returns c =
-    tree-written _ _ _ _ c.requires.1.right c.tree_length-len.ensures.length (omega (arith, c.if-len-gt-LONGEST.false)) c.if-buf-len.false
-    c.tree.ensures.bytes
+    let e = c.in-Some.ensures.length in
+    tree-written _ _ _ _ c.requires.1.right e.0 e.1 c.if-buf-len.false c.tree.ensures.bytes

@@ -2,17 +2,12 @@
 -- Assumes nothing.
 use native.Mathlib.Omega.{arith}
 use Rattle.form.proofs.Contract.{contract-pairs}
-use Rattle.pair_tree.proofs.Putting.{count-is, count_small}
 use Rattle.pair_tree.proofs.tree_length.Goals as goal
-
-pub overflow_mul-states : goal.overflow_mul-states
-overflow_mul-states c = omega (arith, count_small c.requires.0.loaded c.states.ensures c.width.ensures)
 
 pub tree_length-requires : goal.tree_length-requires
 tree_length-requires c =
-    let p = c.requires in
-    let n = count-is p.0.loaded c.states.ensures c.width.ensures in (
-      record { ranked = p.0; room = omega (arith, n, c.if-states-width-le-SHORT_ORDER.true); notes = p.3; amounts_room = p.2 },
+    let p = c.requires in (
+      record { ranked = p.0; room = omega (arith, c.pairs.ensures, c.if-pairs-le-SHORT_ORDER.true); notes = p.3; amounts_room = p.2 },
       p.1,
       p.4,
     )

@@ -1,12 +1,11 @@
--- `pod::check_table` meets its contract: the number that the table's check returns decides what decoding gives.
+-- `pod::check_table` meets its contract.
 -- Assumes nothing.
 use mathlib.Core.Path.{sym, ◌∙◌}
-use borrow.Author.Rules.{rules}
 use Rattle.pod.proofs.TableLaws.{table-accepted, table-refused}
 use Rattle.pod.proofs.check_table.Goals as goal
 
-pub returns-then-number-eq0 : goal.returns-then-number-eq0
-returns-then-number-eq0 c = c.refused.ensures ∙ sym (table-accepted _ _ c.check-number.ensures c.if-number-eq0.true)
+pub returns-in-Ok : goal.returns-in-Ok
+returns-in-Ok c = c.refused.ensures ∙ sym (table-accepted _ c.in-Ok.ensures)
 
-pub returns : goal.returns
-returns c = c.refused-2.ensures ∙ sym (table-refused _ _ c.check-number.ensures c.if-number-eq0.false)
+pub returns-in-Err : goal.returns-in-Err
+returns-in-Err c = rw (c.refused-in-Err.ensures, c.number.ensures) (sym (table-refused _ _ c.in-Err.ensures))

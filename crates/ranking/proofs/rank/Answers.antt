@@ -6,8 +6,7 @@ use Rattle.form.specs.Tables.{first_form}
 use Rattle.fit.proofs.Sets.{last-start}
 use Rattle.ranking.proofs.rank.Goals as goal
 
-pub rank_untried-requires : goal.rank_untried-requires
-rank_untried-requires c =
+pub rank_with-requires : goal.rank_with-requires
+rank_with-requires c =
     let f = first_form c.args.tables.now in
-    let tried = c.few_tried-tried.ensures in
-    (c.requires, omega (arith, c.if-n-le-FEW.true, c.start_of-n.ensures, ap (start_of f) c.states.ensures ∙ last-start f, tried.0), tried.1)
+    (c.requires, omega (arith, c.if-n-le-FEW.true, c.start_of-n.ensures, ap (start_of f) c.states.ensures ∙ last-start f), omega arith)

@@ -1,63 +1,28 @@
 -- `search::level` meets its contract: the rows passed have gone to all their columns. Assumes nothing.
-use mathlib.Core.Path.{refl, ◌∙◌}
 use Rattle.word.specs.Mask.{member}
 use Rattle.set.specs.Words.{mask}
-use Rattle.set.proofs.Sets.{walk_begin, walk_into, walk_on, walk_done, except_of}
-use Rattle.search.proofs.SearchLaws.{levelling_none, levelling_next, levelling_end}
-use native.Mathlib.Omega.{arith}
-use Rattle.search.proofs.level.Invariants.{Passed}
+use Rattle.set.proofs.Sets.{except_of}
+use Rattle.set.proofs.Walks.{begun}
+use Rattle.search.specs.Links.{from, via}
+use Rattle.search.proofs.SearchLaws.{Levelling, levelling_none, levelling_next, levelling_end}
 use Rattle.search.proofs.level.Goals as goal
 
-pub loop-w-init : goal.loop-w-init
-loop-w-init c =
+pub loop-r-init : goal.loop-r-init
+loop-r-init c =
     let a = c.args in
     let b = a.covered in
-    (omega arith, refl, walk_begin a.rows (Passed a.rel.now a.senders.now a.rows b.seen b.seen b.reached b.reached a.links.now a.links.now) (levelling_none c.requires.3))
-
-pub loop-left-init : goal.loop-left-init
-loop-left-init c =
-    let a = c.args in
-    (refl, λ g s l. walk_into a.rows (Passed a.rel.now a.senders.now a.rows g c.loop-w.gone s c.loop-w.all l c.loop-w.links) c.loop-w.w)
-
-pub lowest-r-requires : goal.lowest-r-requires
-lowest-r-requires c = (omega arith, omega arith)
+    let l = a.links.now in
+    begun (λ n. Levelling a.rel.now a.flow.now.senders.now (mask a.rows) n (mask b.seen) (mask b.seen) (mask b.reached) (mask b.reached) (from l) (via l) (from l) (via l))
+    c.into_iter-r-iterator.ensures.into_iter_gives (levelling_none c.requires.1)
 
 pub get-requires : goal.get-requires
-get-requires c =
-    c.requires.2 _ ((c.loop-left.invariant.1 _ _ c.args.links.now c.loop-w.invariant.2).part _ c.lowest-r.ensures.1.here)
+get-requires c = c.requires.0 _ (c.loop-r.invariant.part _ c.in-Some.ensures.steps.lowest.here)
 
-pub follow-all-requires : goal.follow-all-requires
-follow-all-requires c = (omega arith, omega arith, omega arith)
-
-pub without_lowest-left-requires : goal.without_lowest-left-requires
-without_lowest-left-requires c = (omega arith, omega arith)
-
-pub loop-left-smaller : goal.loop-left-smaller
-loop-left-smaller c = c.without_lowest-left.ensures.1
-
-pub loop-left-preserved : goal.loop-left-preserved
-loop-left-preserved c =
-    let l = c.lowest-r.ensures.1 in
-    let u = c.loop-left in (
-      c.follow-all.auto.links ∙ u.invariant.0,
-      λ g s f h. levelling_next (mask c.difference-columns.result) (u.invariant.1 g s f h) l (c.without_lowest-left.ensures.0 _ l)
-          (except_of c.get.ensures (member (mask u.gone)) c.difference-columns.ensures) c.follow-all.ensures c.union-gone.ensures,
-    )
-
-pub loop-w-preserved : goal.loop-w-preserved
-loop-w-preserved c =
-    let u = c.loop-left in
-    let a = c.args in
-    let b = a.covered in (
-      omega arith,
-      u.invariant.0 ∙ c.loop-w.invariant.1,
-      walk_on a.rows (Passed a.rel.now a.senders.now a.rows b.seen u.gone b.reached u.all a.links.now u.links) c.loop-w.w u.left c.loop-left-test.false
-          (u.invariant.1 b.seen b.reached a.links.now c.loop-w.invariant.2),
-    )
-
-pub shape_of-links : goal.shape_of-links
-shape_of-links c = c.loop-w.invariant.1
+pub loop-r-preserved : goal.loop-r-preserved
+loop-r-preserved c =
+    let w = c.in-Some.ensures.steps in
+    levelling_next (mask c.difference-columns.result) c.loop-r.invariant w.lowest w.left
+    (except_of c.get.ensures (member (mask c.loop-r.gone)) c.difference-columns.ensures) c.follow-all.ensures c.union-gone.ensures
 
 pub returns : goal.returns
-returns c =
-    levelling_end (walk_done c.args.rows c.loop-w.w (omega arith)) c.loop-w.invariant.2
+returns c = levelling_end c.in-None.ensures.steps.0 c.loop-r.invariant

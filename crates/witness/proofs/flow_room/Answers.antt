@@ -14,21 +14,17 @@ pub overflow_add-s : goal.overflow_add-s
 overflow_add-s c = omega (arith, c.requires.1, (limits _ c.requires.0.first).states-few)
 
 pub start_of-end-requires : goal.start_of-end-requires
-start_of-end-requires c = (c.requires.0.first, omega (arith, c.requires.1))
+start_of-end-requires c = omega (arith, c.requires.1)
 
-pub start_of-j-requires : goal.start_of-j-requires
-start_of-j-requires c = (c.requires.0.first, omega (arith, c.requires.1))
+pub start_of-start-requires : goal.start_of-start-requires
+start_of-start-requires c = omega (arith, c.requires.1)
 
 pub loop-j-init : goal.loop-j-init
-loop-j-init c = (
-  omega (arith, c.start_of-j.ensures),
-  omega (arith, c.start_of-j.ensures, c.start_of-end.ensures, starts_ascend _ c.requires.0.first c.args.s (c.args.s + 1) (omega arith) (omega (arith, c.requires.1))),
-  room-start _ c.requires.0 _ c.requires.1 c.start_of-j.ensures,
-)
+loop-j-init c = room-start _ c.requires.0 _ c.requires.1 c.start_of-start.ensures
 
 pub entries_listed-requires : goal.entries_listed-requires
 entries_listed-requires c =
-    (c.requires.0.first, room-number _ c.requires.0 _ c.requires.1 _ c.loop-j.invariant.0 (omega (arith, c.start_of-end.ensures)))
+    room-number _ c.requires.0 _ c.requires.1 _ (omega (arith, c.start_of-start.ensures)) (omega (arith, c.start_of-end.ensures))
 
 -- what is added up stays small
 small : (c : After-entries_listed) →
@@ -36,7 +32,7 @@ small : (c : After-entries_listed) →
     (e ≤ most_entries) × (c.loop-j.room + (3 + 6 * e * c.states-width.result) ≤ most_flow)
 small c =
     let j = c.loop-j in
-    room_small _ c.requires.0 _ c.requires.1 j.j j.invariant.0 (omega (arith, c.start_of-end.ensures)) j.invariant.2
+    room_small _ c.requires.0 _ c.requires.1 j.j (omega (arith, c.start_of-start.ensures)) (omega (arith, c.start_of-end.ensures)) j.invariant
     c.states-width.ensures c.entries_listed.ensures
 
 pub overflow_mul-room : goal.overflow_mul-room
@@ -53,13 +49,11 @@ overflow_add-room-in-loop-j c = omega (arith, (small c).1)
 
 pub loop-j-preserved : goal.loop-j-preserved
 loop-j-preserved c =
-    let j = c.loop-j in (
-      omega arith,
-      omega arith,
-      room-added _ c.requires.0 _ c.requires.1 j.j j.invariant.0 (omega (arith, c.start_of-end.ensures)) j.invariant.2
-          c.states-width.ensures c.entries_listed.ensures,
-    )
+    let j = c.loop-j in
+    room-added _ c.requires.0 _ c.requires.1 j.j (omega (arith, c.start_of-start.ensures)) (omega (arith, c.start_of-end.ensures)) j.invariant
+    c.states-width.ensures c.entries_listed.ensures
 
 pub returns : goal.returns
 returns c =
-    c.loop-j.invariant.2 ∙ room-end _ c.requires.0 _ c.requires.1 (omega (arith, c.loop-j.invariant.1, c.start_of-end.ensures))
+    let ascend = starts_ascend _ c.requires.0.first c.args.s (c.args.s + 1) (omega arith) (omega (arith, c.requires.1)) in
+    c.loop-j.invariant ∙ room-end _ c.requires.0 _ c.requires.1 (omega (arith, ascend, c.start_of-start.ensures, c.start_of-end.ensures, c.loop-j.auto.j-end))

@@ -1,16 +1,13 @@
 -- `witness::show_tree` meets its contract.
 -- Assumes nothing.
-use native.Mathlib.Omega.{arith}
-use Rattle.witness.proofs.Showing.{tree-long, tree-refused, tree-shown}
+use Rattle.std.proofs.lemmas.Result.{err_from_is_err_and}
+use Rattle.witness.proofs.Showing.{tree-refused, tree-shown}
 use Rattle.witness.proofs.show_tree.Goals as goal
 
-pub returns-then-len-gt-LONGEST : goal.returns-then-len-gt-LONGEST
-returns-then-len-gt-LONGEST c = tree-long c.put_tree-len.ensures c.if-len-gt-LONGEST.true c.refused.ensures
-
-pub returns-then-tree-len : goal.returns-then-tree-len
-returns-then-tree-len c =
-    tree-refused c.put_tree-len.ensures (omega (arith, c.if-len-gt-LONGEST.false)) (omega (arith, c.if-tree-len.true)) c.refused-then-tree-len.ensures
+pub returns-in_err-len : goal.returns-in_err-len
+returns-in_err-len c =
+    let p = err_from_is_err_and c.from_residual.result c.from_residual.ensures.1 in
+    rw (p.1, p.2) (tree-refused c.in_err-len.ensures)
 
 pub returns : goal.returns
-returns c =
-    tree-shown c.put_tree-len.ensures (omega (arith, c.if-len-gt-LONGEST.false)) (omega (arith, c.if-tree-len.false)) c.with_written.ensures
+returns c = tree-shown c.in_ok-len.ensures c.with_written.ensures

@@ -1,5 +1,5 @@
 -- `count::hand_on` meets its contract. Assumes nothing.
-use mathlib.Core.Path.{refl, ◌∙◌}
+use mathlib.Core.Path.{◌∙◌}
 use Prim.Native.Nat.{◌+◌, ◌*◌, ◌^◌, ◌≤◌, ◌<◌}
 use native.Mathlib.Omega.{arith}
 use lib.ListN.{length, length-set, get_or}
@@ -30,14 +30,8 @@ fits : (c : After-targets-targets) → let a = c.args in
     a.bytes + get_or a.counts.now (a.s * c.width-width.result + a.t) 0 * (head_length + 4 * length c.targets-targets.result.now) < 2 ^ 30
 fits c = hand_fits c.requires (omega (arith, c.if-bytes-gt-LONGEST.false)) c.targets-targets.ensures _ c.width-width.ensures
 
-pub returns-then-bytes-gt-LONGEST : goal.returns-then-bytes-gt-LONGEST
-returns-then-bytes-gt-LONGEST c = record { tally = c.requires.tally; total = refl }
-
-pub width-width-requires : goal.width-width-requires
-width-width-requires c = c.requires.loaded.second
-
 pub targets-targets-requires : goal.targets-targets-requires
-targets-targets-requires c = let p = c.requires in (p.loaded.first, step-number (hand_choice p))
+targets-targets-requires c = let p = c.requires in step-number (hand_choice p)
 
 pub overflow_mul-at : goal.overflow_mul-at
 overflow_mul-at c = record { fits = omega (arith, low c) }
@@ -60,12 +54,6 @@ bounds-counts-at-2 c = place (goal.at.bounds-counts-at-2 c).After-targets-target
 pub add_counts-requires : goal.add_counts-requires
 add_counts-requires c =
     hand_counts c.requires (under (goal.at.add_counts-requires c).Else-bytes-gt-LONGEST) c.targets-targets.ensures _ c.width-width.ensures
-
-pub overflow_mul-result : goal.overflow_mul-result
-overflow_mul-result c = record { fits = omega (arith, few (goal.at.overflow_mul-result c).After-targets-targets) }
-
-pub overflow_add-result : goal.overflow_add-result
-overflow_add-result c = record { fits = omega (arith, few (goal.at.overflow_add-result c).After-targets-targets) }
 
 pub overflow_cast-result : goal.overflow_cast-result
 overflow_cast-result c = record { fits = omega (arith, few (goal.at.overflow_cast-result c).After-targets-targets) }

@@ -1,4 +1,5 @@
 -- `pair::number` meets its contract. Assumes nothing.
+use Rattle.form.specs.declared.tables.Tables.{Tables}
 use mathlib.Core.List.{List}
 use mathlib.Core.Path.{◌≡◌, ap}
 use Prim.Native.Nat.{ℕ, ◌+◌, ◌-◌, ◌*◌, ◌≤◌, ◌<◌}
@@ -10,7 +11,7 @@ use Rattle.form.specs.Tables.{contract_table, BothLoaded}
 use Rattle.form.proofs.Contract.{contract-few}
 use Rattle.counting.proofs.pair.number.Goals as goal
 
-small : (tables : List ℕ) (s n : ℕ) → BothLoaded tables → s < most_states → n ≡ states_of (contract_table tables) → s * n ≤ most_pairs - most_states
+small : (tables : Tables) (s n : ℕ) → BothLoaded tables → s < most_states → n ≡ states_of (contract_table tables) → s * n ≤ most_pairs - most_states
 small tables s n b a e =
     omega (arith, mul-le-mul_left s (let h : n ≤ most_states = omega (arith, contract-few tables b) in h))
 

@@ -17,7 +17,7 @@ overflow_add-l c =
     omega (arith, number (goal.at.overflow_add-l c).After-start_of, (limits (second_form c.args.tables.now) c.requires.0.loaded.second).transitions-few)
 
 pub targets-requires-2 : goal.targets-requires-2
-targets-requires-2 c = (c.requires.0.loaded.second, number (goal.at.targets-requires-2 c).After-start_of)
+targets-requires-2 c = number (goal.at.targets-requires-2 c).After-start_of
 
 pub put_one-requires : goal.put_one-requires
 put_one-requires c =

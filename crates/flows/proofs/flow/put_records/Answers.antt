@@ -17,8 +17,8 @@ plan k = records_plan k.args.mt.now k.args.nt.now (cell k.args.amounts.now) k.ar
 pub loop-i-init : goal.loop-i-init
 loop-i-init c = going_start (plan (goal.at.loop-i-init c).Start) (record { count = refl; bytes = refl })
 
-pub overflow_cast-mt : goal.overflow_cast-mt
-overflow_cast-mt c = omega (arith, c.requires.0.sources c.loop-i.i (omega arith))
+pub overflow_cast-target : goal.overflow_cast-target
+overflow_cast-target c = omega (arith, c.requires.0.sources c.loop-i.i (omega arith))
 
 pub slice_bounds-put_row-count : goal.slice_bounds-put_row-count
 slice_bounds-put_row-count c = going_within (plan (goal.at.slice_bounds-put_row-count c).Start) c.loop-i.invariant

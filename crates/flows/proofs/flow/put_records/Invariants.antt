@@ -1,6 +1,5 @@
 -- `flows::flow::put_records` meets its contract. The loop writes a piece for each target. Assumes nothing.
 use mathlib.Core.List.{[]}
-use Prim.Native.Nat.{◌-◌}
 use lib.ListN.{length}
 use Rattle.matrix.specs.Matrix.{cell}
 use Rattle.flows.proofs.Pieces.{Going}
@@ -9,6 +8,3 @@ use Rattle.flows.proofs.flow.put_records.Given as goal
 
 abbrev pub invariant-loop-i : goal.invariant-loop-i
 invariant-loop-i l = Going [] (flow_row-at l.mt l.nt (cell l.amounts)) (length l.mt) l.initial.buf l.i l.at l.buf
-
-abbrev pub decreases-loop-i : goal.decreases-loop-i
-decreases-loop-i l = length l.mt - l.i

@@ -1,11 +1,7 @@
 -- `flows::records::gather` meets its contract. Each turn takes or skips the record of one target. Assumes nothing.
-use Rattle.std.proofs.Common.{◌≡◌, length}
 use Rattle.matrix.specs.Matrix.{cell}
 use Rattle.flows.proofs.FlowRow.{Gathering}
 use Rattle.flows.proofs.records.gather.Given as goal
 
 abbrev pub invariant-loop-j : goal.invariant-loop-j
-invariant-loop-j l = record {
-  first : Gathering l.s l.nt (cell l.amounts l.i) l.rs l.n l.j;
-  kept : length l.rs ≡ length l.initial.rs;
-}
+invariant-loop-j l = Gathering l.s l.nt (cell l.amounts l.i) l.rs l.n l.j

@@ -3,11 +3,8 @@
 use Rattle.simulation.specs.Sum.{sum}
 use Rattle.layout.specs.Bytes.{byte}
 use mathlib.Core.Path.{◌≡◌}
-use Prim.Native.Nat.{◌+◌, ◌*◌, ◌-◌, ◌≤◌}
+use Prim.Native.Nat.{◌+◌, ◌*◌, ◌≤◌}
 use Rattle.items.proofs.items.sum_of.Given as goal
 
 abbrev pub invariant-loop-i : goal.invariant-loop-i
-invariant-loop-i l = (l.total ≡ sum l.i (λ k. byte l.s (l.from + l.step * k))) × (l.i ≤ l.n) × (l.total ≤ 255 * l.i)
-
-abbrev pub decreases-loop-i : goal.decreases-loop-i
-decreases-loop-i l = l.n - l.i
+invariant-loop-i l = (l.total ≡ sum l.i (λ k. byte l.s (l.from + l.step * k))) × (l.total ≤ 255 * l.i)

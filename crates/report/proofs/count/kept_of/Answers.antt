@@ -1,28 +1,19 @@
--- `report::count::kept_of` meets its contract: `kept` counts the zeros among the first i ranks. Assumes nothing.
-use mathlib.Core.Path.{ap, ◌∙◌}
-use Prim.Native.Nat.{◌+◌, zero-le}
-use native.Mathlib.Omega.{arith}
-use lib.Seq.{take_all}
-use Rattle.simulation.specs.Round.{zeros}
-use Rattle.report.proofs.Counting.{zeros-none, zeros-next, zeros_within}
+-- `report::count::kept_of` meets its contract. Assumes nothing.
+use Rattle.std.proofs.Common.{◌≡◌, ◌∙◌, sum_by, rules, tests, arith}
+use Rattle.std.proofs.lemmas.Iterator.{YieldsList-from_slice, YieldsList-from_map}
+use Rattle.std.proofs.lemmas.Iterator.Consumers.{fits_by_from_yields_list}
+use Rattle.report.proofs.Counting.{one, zeros-counted, zeros-most}
 use Rattle.report.proofs.count.kept_of.Goals as goal
 
-pub loop-i-init : goal.loop-i-init
-loop-i-init c = (zero-le, zeros-none)
-
-pub overflow_add-kept : goal.overflow_add-kept
-overflow_add-kept c =
-    let l = c.loop-i in
+pub sum-requires-clause-fits : goal.sum-requires-clause-fits
+sum-requires-clause-fits c =
     let ranks = c.args.ranks.now in
-    omega (arith, c.kept.ensures, zeros-next ranks l.i c.loop-i-test.true, zeros_within ranks (l.i + 1))
-
-pub loop-i-preserved : goal.loop-i-preserved
-loop-i-preserved c =
-    let l = c.loop-i in
-    let ranks = c.args.ranks.now in
-    (omega arith, omega (arith, c.kept.ensures, zeros-next ranks l.i c.loop-i-test.true))
+    fits_by_from_yields_list one ranks c.map.result _
+    (YieldsList-from_map _ one (YieldsList-from_slice ranks cc) c.map.ensures.closure (λ x r q k. search (rules, tests)))
+    (omega (arith, zeros-counted ranks, zeros-most ranks, c.iter.ensures.bound))
 
 pub returns : goal.returns
 returns c =
-    let l = c.loop-i in
-    l.invariant.1 ∙ ap zeros (take_all l.i c.args.ranks.now c.loop-i-test.false)
+    let ranks = c.args.ranks.now in
+    let counted : c.sum.result ≡ sum_by one ranks = search rules in
+    counted ∙ zeros-counted ranks

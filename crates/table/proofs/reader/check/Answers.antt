@@ -1,11 +1,17 @@
--- `table::reader::check` meets its contract: what `read` answers tells the refusal.
+-- `table::reader::check` meets its contract: what the bytes decode to tells the refusal.
 -- Assumes nothing.
-use mathlib.Core.Path.{sym}
-use Rattle.table.proofs.AnswerLaws.{accepted-told, refusal-told}
+use Rattle.std.proofs.Common.{rules}
+use Rattle.simulation.specs.Limits.{wide}
+use Rattle.layout.proofs.DecodeLaws.{decode-told}
+use Rattle.table.proofs.AnswerLaws.{refused_as}
 use Rattle.table.proofs.reader.check.Goals as goal
 
-pub returns-in-Refused : goal.returns-in-Refused
-returns-in-Refused c = refusal-told _ _ c.read-answer.ensures c.in-Refused.is
+pub returns-in_err-read : goal.returns-in_err-read
+returns-in_err-read c =
+    let told = refused_as wide c.args.bytes.now (rw (c.wide.ensures.width, c.wide.ensures.same) at c.in_err-read.ensures) in
+    search rules
 
-pub returns-in-Accepted : goal.returns-in-Accepted
-returns-in-Accepted c = sym (accepted-told _ _ c.read-answer.ensures c.in-Accepted.is).passed
+pub returns : goal.returns
+returns c =
+    let r = c.in_ok-read.ensures in
+    (decode-told wide c.args.bytes.now r.0 (rw (c.wide.ensures.width, c.wide.ensures.same) at r.1)).passed

@@ -1,92 +1,90 @@
--- `table::sections::actions` meets its contract: a lemma for each read says what it has told, and each return cites them.
+-- `table::sections::actions` meets its contract: each step tells a part of the section's refusal.
 -- Assumes nothing.
-use Prim.Native.Nat.{ℕ, pred, ◌*◌, ◌≤◌}
-use mathlib.Core.Path.{◌≡◌, sym, ◌∙◌, ap, ap₂}
-use mathlib.Core.Bool.{true, false}
+use Rattle.std.proofs.Common.{rules}
+use mathlib.Core.Path.{◌≡◌, sym, ◌∙◌, ap}
 use mathlib.Core.List.{List}
+use Prim.Native.Nat.{ℕ, pred, ◌+◌, ◌*◌}
 use native.Mathlib.Nat.{zero-add, mul-le-mul_right}
 use native.Mathlib.Omega.{arith}
 use lib.Dec.{leb}
 use lib.ListN.{length}
-use borrow.Author.Tests.{leb-true, le-leb, lt-leb}
+use borrow.Author.Tests.{leb-true}
 use Rattle.simulation.specs.Limits.{most_codes}
-use Rattle.layout.specs.Bytes.{refuse◌unless◌, first, actions, states_start, code_refusal, actions_refusal}
-use Rattle.items.specs.declared.cursor.Cursor.{Cursor}
-use Rattle.items.specs.declared.cursor.Read.{Read}
-use Rattle.items.specs.declared.cursor.Read.TheVariants.{Value, End}
-use Rattle.items.specs.Reads.{field_read, part_read}
-use Rattle.table.specs.Stages.{with_actions}
-use Rattle.layout.proofs.Laws.{refused_unless, not_refused}
-use Rattle.items.proofs.ReadLaws.{ValueTold, field_told, field-ended, part-told, part-ended}
-use Rattle.table.proofs.StageLaws.{stage-refused, stage_fault, stage_at}
-use Rattle.layout.proofs.SectionLaws.{section-end, section_rule, section-short, section_items}
+use Rattle.layout.specs.declared.refusals.Refusal.{Refusal}
+use Rattle.layout.specs.Bytes.{refuse◌unless◌, first, field, actions, states_start, code_refusal, actions_refusal}
+use Rattle.layout.specs.Refusals.{number_of}
+use Rattle.layout.proofs.SectionLaws.{accepted-holds}
+use Rattle.layout.proofs.RefusalLaws.{told_count, told_rule, told_whole, told_items}
 use Rattle.table.proofs.sections.actions.Goals as goal
 
-module _ (w : ℕ) (s : List ℕ) where
-  counted : {q : ℕ} → q ≡ 0 → {r : Read} {n : ℕ} {c : Cursor} → r ≡ field_read s w q → r ≡ Value n c → ValueTold (leb w (length s)) (actions w s) w n c
-  unfolding actions
-  counted at e is = rw (zero-add w) at (field_told s 0 at w e is)
+module _ (w : ℕ) (s : List ℕ) {p : ℕ} (start : p ≡ 0) where
+  begins : p + w ≡ w
+  begins = rw (start, zero-add)
 
-  -- the count's own rule holds
-  rule : {n : ℕ} → n ≡ actions w s → n ≤ most_codes → refuse 3 unless leb (actions w s) most_codes ≡ 0
-  rule is few = not_refused 3 (le-leb (actions w s) most_codes (omega arith))
+  at_count : (e : Refusal) → refuse 1 unless leb (p + w) (length s) ≡ number_of e → actions_refusal w s ≡ number_of e
+  at_count e h = told_count _ _ _ _ e (rw begins at h)
 
-  module _ {n : ℕ} {c : Cursor} (count : ValueTold (leb w (length s)) (actions w s) w n c) where
-    -- the bytes of so many codes
-    sized : w * n ≡ w * actions w s
-    sized = ap (◌*◌ w) count.value
+  module _ {n : ℕ} (present : refuse 1 unless leb (p + w) (length s) ≡ 0) (is : n ≡ field w s p) where
+    count : n ≡ actions w s
+    unfolding actions
+    count = rw start at is
 
-    whole : {r : Read} {m : ℕ} {d : Cursor} → r ≡ part_read s c.at (w * n) → r ≡ Value m d → ValueTold (leb (states_start w s) (length s)) w (states_start w s) m d
-    whole e is = part-told s w count.place _ sized e is
+    at_rule : (e : Refusal) → refuse 3 unless leb n most_codes ≡ number_of e → actions_refusal w s ≡ number_of e
+    at_rule e h = told_rule _ _ _ _ (rw begins at present) e (rw count at h)
 
-    short : {r : Read} → r ≡ part_read s c.at (w * n) → r ≡ End → leb (states_start w s) (length s) ≡ false
-    short e is = part-ended s w count.place _ sized e is
+    module _ {q : ℕ} (few : refuse 3 unless leb n most_codes ≡ 0) (place : q ≡ p + w) where
+      after : q + w * n ≡ states_start w s
+      after = rw (place, begins, count)
 
-    items : {k : ℕ} → n ≤ most_codes → leb (states_start w s) (length s) ≡ true → k ≡ first 0 (pred n) (code_refusal w s) → k ≡ actions_refusal w s
-    items few present e = e ∙ ap (λ (k : ℕ). first 0 (pred k) (code_refusal w s)) count.value ∙ sym (section_items _ _ _ _ count.present (rule count.value few) present)
+      at_items : (e : Refusal) → refuse 1 unless leb (q + w * n) (length s) ≡ number_of e → actions_refusal w s ≡ number_of e
+      at_items e h = told_whole _ _ _ _ (rw begins at present) (rw count at few) e (rw after at h)
 
-pub returns-in_default : goal.returns-in_default
-returns-in_default c =
-    let w = c.args.width in
-    let none = field-ended c.args.s.now 0 c.new.ensures w c.field.ensures c.in_default.is in
-    stage-refused _ 0 _ _ (section-end _ _ _ _ (rw (zero-add w) at none))
+      module _ (whole : refuse 1 unless leb (q + w * n) (length s) ≡ 0) where
+        items : actions_refusal w s ≡ first 0 (pred n) (code_refusal w s)
+        items =
+            told_items _ _ _ _ (rw begins at present) (rw count at few) (rw after at whole)
+            ∙ ap (λ (m : ℕ). first 0 (pred m) (code_refusal w s)) (sym count)
 
-pub returns-then-n-gt-CODES : goal.returns-then-n-gt-CODES
-returns-then-n-gt-CODES c =
-    let n = counted c.args.width c.args.s.now c.new.ensures c.field.ensures c.in-Value.is in
-    let many = lt-leb (actions c.args.width c.args.s.now) most_codes (omega (arith, n.value)) in
-    stage-refused _ 2 _ _ (section_rule _ _ _ _ 2 n.present (refused_unless 3 many))
+pub returns-in_err-n : goal.returns-in_err-n
+returns-in_err-n c =
+    let t = c.args.s.now in
+    let told = at_count t.width t.bytes.now c.requires c.in_err-n.field-0.0 c.in_err-n.ensures in
+    search rules
 
-pub overflow_mul-width : goal.overflow_mul-width
-overflow_mul-width c = let few = mul-le-mul_right c.in-Value.n c.requires.1 in omega arith
+pub returns-in_err-unless : goal.returns-in_err-unless
+returns-in_err-unless c =
+    let t = c.args.s.now in
+    let n = c.in_ok-n.ensures in
+    let told = at_rule t.width t.bytes.now c.requires n.0 n.1.0 c.in_err-unless.field-0.0 c.in_err-unless.ensures in
+    search rules
 
-pub returns-in_default-part : goal.returns-in_default-part
-returns-in_default-part c =
-    let w = c.args.width in
-    let s = c.args.s.now in
-    let n = counted w s c.new.ensures c.field.ensures c.in-Value.is in
-    stage-refused _ 0 _ _ (section-short _ _ _ _ n.present (rule w s n.value c.if-n-gt-CODES.false) (short w s n c.part.ensures c.in_default-part.is))
+pub overflow_mul-s : goal.overflow_mul-s
+overflow_mul-s c =
+    let few = leb-true _ most_codes (accepted-holds 2 _ c.in_ok-unless.ensures) in
+    let narrow = mul-le-mul_right c.in_ok-n.n c.args.s.now.coded.1 in
+    omega arith
 
-pub codes_refusal-refusal-requires : goal.codes_refusal-refusal-requires
-codes_refusal-refusal-requires c =
-    let w = c.args.width in
-    let s = c.args.s.now in
-    let n = counted w s c.new.ensures c.field.ensures c.in-Value.is in
-    let h = leb-true (states_start w s) (length s) (whole w s n c.part.ensures c.in-Value-part.is).present in
-    (c.requires, omega (arith, sized w s n))
+pub returns-in_err-c : goal.returns-in_err-c
+returns-in_err-c c =
+    let t = c.args.s.now in
+    let n = c.in_ok-n.ensures in
+    let told = at_items t.width t.bytes.now c.requires n.0 n.1.0 c.in_ok-unless.ensures n.1.1 c.in_err-c.field-0.0 c.in_err-c.ensures in
+    search rules
 
-pub returns-then-refusal-ne0 : goal.returns-then-refusal-ne0
-returns-then-refusal-ne0 c =
-    let w = c.args.width in
-    let s = c.args.s.now in
-    let n = counted w s c.new.ensures c.field.ensures c.in-Value.is in
-    let y = whole w s n c.part.ensures c.in-Value-part.is in
-    stage_fault _ _ _ (items w s n c.if-n-gt-CODES.false y.present c.codes_refusal-refusal.ensures) c.if-refusal-ne0.true
+pub returns-in_err-check_codes : goal.returns-in_err-check_codes
+returns-in_err-check_codes c =
+    let t = c.args.s.now in
+    let n = c.in_ok-n.ensures in
+    let told = items t.width t.bytes.now c.requires n.0 n.1.0 c.in_ok-unless.ensures n.1.1 c.in_ok-c.ensures.0 ∙ c.in_err-check_codes.ensures in
+    search rules
 
 pub returns : goal.returns
 returns c =
-    let w = c.args.width in
-    let s = c.args.s.now in
-    let n = counted w s c.new.ensures c.field.ensures c.in-Value.is in
-    let y = whole w s n c.part.ensures c.in-Value-part.is in
-    stage_at _ _ _ (sym (items w s n c.if-n-gt-CODES.false y.present c.codes_refusal-refusal.ensures) ∙ c.if-refusal-ne0.false) (ap₂ with_actions n.value c.unread-t.ensures) y.place
+    let t = c.args.s.now in
+    let n = c.in_ok-n.ensures in (
+      items t.width t.bytes.now c.requires n.0 n.1.0 c.in_ok-unless.ensures n.1.1 c.in_ok-c.ensures.0 ∙ c.in_ok-check_codes.ensures,
+      record {
+        count = count t.width t.bytes.now c.requires n.0 n.1.0;
+        cursor = c.in_ok-c.ensures.1.1 ∙ after t.width t.bytes.now c.requires n.0 n.1.0 c.in_ok-unless.ensures n.1.1;
+      },
+    )

@@ -1,71 +1,74 @@
--- `table::sections::counted` meets its contract: a lemma for each read says what it has told, and each return cites them.
+-- `table::sections::counted` meets its contract: each step tells a part of the section's refusal.
 -- Assumes nothing.
-use Prim.Native.Nat.{ℕ, suc, pred, ◌+◌, ◌*◌, ◌<◌, ◌≤◌}
-use mathlib.Core.Path.{◌≡◌, refl, sym, ◌∙◌, ap}
-use mathlib.Core.Bool.{Bool, true, false, ◌&&◌}
+use Rattle.std.proofs.Common.{rules}
+use mathlib.Core.Path.{◌≡◌, ◌∙◌}
+use mathlib.Core.Bool.{◌&&◌}
 use mathlib.Core.List.{List}
-use native.Mathlib.Nat.{mul-le-mul_right}
-use native.Mathlib.Omega.{arith}
+use Prim.Native.Nat.{ℕ, ◌+◌, ◌*◌}
 use lib.Dec.{leb, eqb}
 use lib.ListN.{length}
-use borrow.Author.Tests.{le-leb, lt-leb, eq-eqb, ne_eqb}
-use Rattle.layout.specs.Bytes.{refuse◌unless◌, section, half}
-use Rattle.items.specs.declared.cursor.Cursor.{Cursor}
-use Rattle.layout.proofs.Laws.{refused_unless, not_refused, both_hold}
-use Rattle.items.proofs.ReadLaws.{ValueTold, half-told, half-ended, part-told, part-ended}
-use Rattle.table.proofs.StageLaws.{items_fault, items_at}
-use Rattle.layout.proofs.SectionLaws.{section-end, section_rule, section-short, section_items}
+use Rattle.layout.specs.declared.refusals.Refusal.{Refusal}
+use Rattle.layout.specs.Bytes.{◌then◌, refuse◌unless◌, half}
+use Rattle.layout.specs.Refusals.{number_of}
+use Rattle.layout.proofs.SectionLaws.{then_zero}
+use Rattle.layout.proofs.RefusalLaws.{told_first, refuse_both, told_count, told_rule, told_whole, told_items}
+use Rattle.table.specs.Sections.{count_refusal}
 use Rattle.table.proofs.sections.counted.Goals as goal
 
-module _ (s : List ℕ) (p limit total number : ℕ) {n : ℕ} {c : Cursor} (count : ValueTold (leb (p + 2) (length s)) (half s p) (p + 2) n c) where
-  few : n ≤ limit → leb (half s p) limit ≡ true
-  few h = let is = count.value in le-leb (half s p) limit (omega arith)
+module _ (s : List ℕ) (p limit total k w : ℕ) where
+  at_count : (e : Refusal) → refuse 1 unless leb (p + 2) (length s) ≡ number_of e → count_refusal s p limit total k w ≡ number_of e
+  at_count e h = told_count _ _ _ _ e h
 
-  rule : n ≤ limit → n ≡ total → refuse number unless (leb (half s p) limit && eqb (half s p) total) ≡ 0
-  rule h e = let is = count.value in not_refused number (both_hold (few h) (eq-eqb (half s p) total (omega arith)))
+  module _ {n : ℕ} (present : refuse 1 unless leb (p + 2) (length s) ≡ 0) (is : n ≡ half s p) where
+    -- the count's own rule, in two tests
+    rule : refuse k unless (leb (half s p) limit && eqb (half s p) total) ≡ refuse k unless leb n limit then refuse k unless eqb n total
+    rule = rw (is, refuse_both)
 
-  -- the count's own rule refuses
-  broken : 0 < number → leb (half s p) limit && eqb (half s p) total ≡ false → (w : Bool)
-      → section (leb (p + 2) (length s)) (refuse number unless (leb (half s p) limit && eqb (half s p) total)) w 0 ≡ number
-  broken h e w =
-      let some : number ≡ suc (pred number) = omega arith in
-      section_rule _ _ _ _ _ count.present (refused_unless number e ∙ some) ∙ sym some
+    at_rule : (e : Refusal) → refuse k unless leb n limit then refuse k unless eqb n total ≡ number_of e → count_refusal s p limit total k w ≡ number_of e
+    at_rule e h = told_rule _ _ _ _ present e (rule ∙ h)
 
-pub returns-in_default : goal.returns-in_default
-returns-in_default c = items_fault _ _ _ _ (section-end _ _ _ _ (half-ended c.args.s.now _ refl c.half.ensures c.in_default.is)) (λ z. omega arith)
+    module _ {q : ℕ} (few : refuse k unless leb n limit ≡ 0) (same : refuse k unless eqb n total ≡ 0) (place : q ≡ p + 2) where
+      at_items : (e : Refusal) → refuse 1 unless leb (q + w * n) (length s) ≡ number_of e → count_refusal s p limit total k w ≡ number_of e
+      at_items e h = told_whole _ _ _ _ present (rule ∙ then_zero _ few ∙ same) e (rw (place, is) at h)
 
-pub returns-then-limit-n : goal.returns-then-limit-n
-returns-then-limit-n c =
+      passed : refuse 1 unless leb (q + w * n) (length s) ≡ 0 → count_refusal s p limit total k w ≡ 0
+      passed h = told_items _ _ _ _ present (rule ∙ then_zero _ few ∙ same) (rw (place, is) at h)
+
+pub returns-in_err-count : goal.returns-in_err-count
+returns-in_err-count c =
     let a = c.args in
-    let n = half-told a.s.now a.c.at refl c.half.ensures c.in-Value.is in
-    let is = n.value in
-    let above = lt-leb (half a.s.now a.c.at) a.limit (omega arith) in
-    items_fault _ _ _ _ (broken a.s.now a.c.at a.limit a.total a.number n c.requires.0 (rw above) _) (λ z. omega arith)
+    let told = at_count a.s.now a.c.at a.limit a.total (number_of a.refusal) a.width c.in_err-count.field-0.0 c.in_err-count.ensures in
+    search rules
 
-pub returns-then-n-total : goal.returns-then-n-total
-returns-then-n-total c =
+pub returns-in_err-unless : goal.returns-in_err-unless
+returns-in_err-unless c =
     let a = c.args in
-    let n = half-told a.s.now a.c.at refl c.half.ensures c.in-Value.is in
-    let is = n.value in
-    let other = ne_eqb (half a.s.now a.c.at) a.total (λ e. omega arith) in
-    let below = few a.s.now a.c.at a.limit a.total a.number n c.if-limit-n.false in
-    items_fault _ _ _ _ (broken a.s.now a.c.at a.limit a.total a.number n c.requires.0 (rw (below, other)) _) (λ z. omega arith)
+    let n = c.in_ok-count.ensures in
+    let e = c.in_err-unless.field-0.0 in
+    let told = at_rule a.s.now a.c.at a.limit a.total (number_of a.refusal) a.width n.0 n.1.0 e (told_first _ e c.in_err-unless.ensures) in
+    search rules
 
-pub overflow_mul-width : goal.overflow_mul-width
-overflow_mul-width c = let few = mul-le-mul_right c.in-Value.n c.requires.1 in omega arith
-
-pub returns-in_default-part : goal.returns-in_default-part
-returns-in_default-part c =
+pub returns-in_err-unless-2 : goal.returns-in_err-unless-2
+returns-in_err-unless-2 c =
     let a = c.args in
-    let n = half-told a.s.now a.c.at refl c.half.ensures c.in-Value.is in
-    let kept = rule a.s.now a.c.at a.limit a.total a.number n c.if-limit-n.false c.if-n-total.false in
-    let short = part-ended a.s.now (a.c.at + 2) n.place _ (ap (◌*◌ a.width) n.value) c.part.ensures c.in_default-part.is in
-    items_fault _ _ _ _ (section-short _ _ _ _ n.present kept short) (λ z. omega arith)
+    let n = c.in_ok-count.ensures in
+    let e = c.in_err-unless-2.field-0.0 in
+    let told = at_rule a.s.now a.c.at a.limit a.total (number_of a.refusal) a.width n.0 n.1.0 e (then_zero _ c.in_ok-unless.ensures ∙ c.in_err-unless-2.ensures) in
+    search rules
+
+pub returns-in_err-at : goal.returns-in_err-at
+returns-in_err-at c =
+    let a = c.args in
+    let n = c.in_ok-count.ensures in
+    let told = at_items a.s.now a.c.at a.limit a.total (number_of a.refusal) a.width n.0 n.1.0 c.in_ok-unless.ensures c.in_ok-unless-2.ensures n.1.1 c.in_err-at.field-0.0 c.in_err-at.ensures in
+    search rules
 
 pub returns : goal.returns
 returns c =
     let a = c.args in
-    let n = half-told a.s.now a.c.at refl c.half.ensures c.in-Value.is in
-    let kept = rule a.s.now a.c.at a.limit a.total a.number n c.if-limit-n.false c.if-n-total.false in
-    let w = part-told a.s.now (a.c.at + 2) n.place _ (ap (◌*◌ a.width) n.value) c.part.ensures c.in-Value-part.is in
-    items_at _ _ _ _ (section_items _ _ _ _ n.present kept w.present) n.value w.value w.place
+    let n = c.in_ok-count.ensures in
+    let i = c.in_ok-at.ensures in
+    let next : c.in_ok-count.c.at + a.width * c.in_ok-count.count ≡ a.c.at + 2 + a.width * half a.s.now a.c.at = rw (n.1.0, n.1.1) in (
+      passed a.s.now a.c.at a.limit a.total (number_of a.refusal) a.width n.0 n.1.0 c.in_ok-unless.ensures c.in_ok-unless-2.ensures n.1.1 i.0,
+      record { count = n.1.0; from = i.1.0 ∙ n.1.1; cursor = i.1.1 ∙ next },
+    )

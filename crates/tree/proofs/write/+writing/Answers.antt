@@ -1,15 +1,15 @@
 -- A node holds transitions and a transition holds nodes: each part of the buffer is written, and what is longer than half is left.
 -- Assumes nothing.
-use Rattle.std.proofs.Common.{◌≡◌, ℕ, ◌+◌, ◌-◌, ◌≤◌, List, length, take, drop, sym, ap, ◌∙◌, arith}
+use Rattle.std.proofs.Common.{◌≡◌, ℕ, ◌+◌, ◌-◌, ◌≤◌, List, length, take, drop, refl, ap, ◌∙◌, None, arith}
 use Rattle.form.specs.Tables.{first_step}
 use Rattle.form.proofs.FormLaws.{targets-length}
-use Rattle.set.proofs.Sets.{after-all, after-rest, walk_done}
+use Rattle.set.proofs.Walks.{begun}
 use Rattle.buffer.proofs.Buffer.{back}
 use Rattle.buffer.proofs.Parts.{part-size, part_length}
 use Rattle.tree.proofs.Slots.{slot_lent}
-use Rattle.tree.proofs.Nodes.{count-byte, word_next, word_done, kept-all, kept_then, Next, node_room, node_begins, node_same, node_asked, turn_slot, node_step, node_joins, node_next, node_ends}
-use Rattle.tree.proofs.Steps.{Child, step-long, begin_given, around_begins, children_few, stack_room, number-known, place-known, entry_slot, sum-given, child_slot, child_fits, child-given, join-fits, around_next, around_ends}
-use Rattle.tree.proofs.Holes.{hole_next, hole_ends}
+use Rattle.tree.proofs.Nodes.{count-byte, NodeLoop, Next, node_room, node_begins, node_asked, turn_slot, node_step, node_offset, node_next, node_ends}
+use Rattle.tree.proofs.Steps.{Child, step-long, begin_given, around_begins, children_few, stack_room, number-known, place-known, entry_slot, sum-given, child_slot, child_fits, child-given, child_offset, around_next, around_ends}
+use Rattle.tree.proofs.Holes.{hole_begins, hole_room, hole_step, hole_short, hole_offset, hole_less, hole_next, hole_ends}
 use Rattle.tree.proofs.write.+writing.Goals as goal
 use Rattle.tree.proofs.write.+writing.Goals.{write_around-After-get-members, write_node-After-pair_length}
 
@@ -27,23 +27,21 @@ child_of t c =
     record { more = c.loop-i-test.true; target = put.0; put = put.1; same = c.put_entry-target.auto.buf; set = c.get-members.ensures }
 
 -- the member whose length is in hand
-next_of : (t : ℕ) (c : write_node-After-pair_length t) → Next c.loop-left.invariant c.lowest-t.result c.pair_length.result
-next_of t c = record { low = c.lowest-t.ensures.1; size = c.pair_length.ensures }
+next_of : (t : ℕ) (c : write_node-After-pair_length t) → Next c.loop-t.invariant c.in-Some.t c.pair_length.result
+next_of t c = record { low = c.in-Some.ensures.steps.lowest; size = c.pair_length.ensures }
 
 pub write_around-begin_transition-j-requires : goal.write_around-begin_transition-j-requires
 write_around-begin_transition-j-requires t c = begin_given c.requires.0
 
 pub write_around-targets-n-requires : goal.write_around-targets-n-requires
-write_around-targets-n-requires t c =
-    let p = c.requires in
-    (p.0.given.ranked.loaded.first, number-known p.0 c.begin_transition-j.ensures.choice)
+write_around-targets-n-requires t c = number-known c.requires.0 c.begin_transition-j.ensures.choice
 
 pub write_around-loop-i-init : goal.write_around-loop-i-init
 write_around-loop-i-init t c =
     let p = c.requires in
-    around_begins p.0 p.1 c.begin_transition-j.ensures _ (ap length c.targets-n.ensures ∙ targets-length (first_step c.args.tables.now c.begin_transition-j.result))
+    around_begins p.0 p.1 c.begin_transition-j.ensures _ (ap length c.targets-n.ensures ∙ targets-length (first_step c.args.src.now.tables.now c.begin_transition-j.result))
     (record { same-amounts = c.begin_transition-j.auto.amounts; same_stack = c.begin_transition-j.auto.stack; same_buf = c.begin_transition-j.auto.buf })
-    (omega arith) c.nothing-rest.ensures
+    (omega arith)
 
 pub write_around-slice_bounds-put_entry-end : goal.write_around-slice_bounds-put_entry-end
 write_around-slice_bounds-put_entry-end t c = (entry_slot c.loop-i.invariant c.loop-i-test.true).room
@@ -71,9 +69,9 @@ write_around-slice_bounds-deeper-count t c = stack_room c.loop-i.invariant
 pub write_around-slice_bounds-deeper-start : goal.write_around-slice_bounds-deeper-start
 write_around-slice_bounds-deeper-start t c = stack_room c.loop-i.invariant
 
-pub write_around-slice_bounds-out-end : goal.write_around-slice_bounds-out-end
-write_around-slice_bounds-out-end t c =
-    (child_slot _ (child_of t (goal.at.write_around-slice_bounds-out-end t c).After-get-members) c.node_length.ensures).room
+pub write_around-slice_bounds-write_node-end : goal.write_around-slice_bounds-write_node-end
+write_around-slice_bounds-write_node-end t c =
+    (child_slot _ (child_of t (goal.at.write_around-slice_bounds-write_node-end t c).After-get-members) c.node_length.ensures).room
 
 pub write_around-write_node-hole-requires : goal.write_around-write_node-hole-requires
 write_around-write_node-hole-requires t c = (
@@ -81,14 +79,14 @@ write_around-write_node-hole-requires t c = (
   child-given _ (child_of t (goal.at.write_around-write_node-hole-requires t c).After-get-members) c.node_length.ensures,
 )
 
-pub write_around-join-rest-requires : goal.write_around-join-rest-requires
-write_around-join-rest-requires t c =
-    join-fits _ (child_of t (goal.at.write_around-join-rest-requires t c).After-get-members) c.node_length.ensures c.write_node-hole.ensures
+pub write_around-offset-requires : goal.write_around-offset-requires
+write_around-offset-requires t c =
+    child_offset _ (child_of t (goal.at.write_around-offset-requires t c).After-get-members) c.node_length.ensures c.write_node-hole.ensures
 
 pub write_around-loop-i-preserved : goal.write_around-loop-i-preserved
 write_around-loop-i-preserved t c =
     around_next _ (child_of t (goal.at.write_around-loop-i-preserved t c).After-get-members) c.node_length.ensures c.write_node-hole.ensures
-    c.write_node-hole.auto.buf c.join-rest.ensures c.write_node-hole.new.stack c.write_node-hole.auto.amounts
+    c.write_node-hole.auto.buf c.offset.ensures c.or-rest.ensures c.write_node-hole.new.stack c.write_node-hole.auto.amounts
     (lent_kept _ c.loop-i.stack c.write_node-hole.new.stack (stack_room c.loop-i.invariant) c.write_node-hole.auto.stack)
 
 pub write_around-returns : goal.write_around-returns
@@ -100,52 +98,63 @@ write_node-overflow_cast-buf t c = record { fits = count-byte _ c.count.ensures 
 pub write_node-bounds-buf-0 : goal.write_node-bounds-buf-0
 write_node-bounds-buf-0 t c = node_room c.requires
 
-pub write_node-loop-w-init : goal.write_node-loop-w-init
-write_node-loop-w-init t c =
-    (omega arith, node_same (node_begins c.requires _ c.count.ensures (omega arith) c.nothing-rest.ensures) _ (sym (after-all _)) kept-all)
-
-pub write_node-loop-left-init : goal.write_node-loop-left-init
-write_node-loop-left-init t c = node_same c.loop-w.invariant.1 _ (after-rest _ c.loop-w.w) kept-all
+pub write_node-loop-t-init : goal.write_node-loop-t-init
+write_node-loop-t-init t c =
+    let a = c.args in
+    begun (NodeLoop a.src.now a.node a.amounts.now a.stack.now _ None 1) c.into_iter-t-iterator.ensures.into_iter_gives
+    (node_begins c.requires _ c.count.ensures (omega arith))
 
 pub write_node-pair_length-requires : goal.write_node-pair_length-requires
-write_node-pair_length-requires t c = node_asked c.loop-left.invariant _ c.lowest-t.ensures.1
+write_node-pair_length-requires t c = node_asked c.loop-t.invariant _ c.in-Some.ensures.steps.lowest
 
 pub write_node-overflow_add-end : goal.write_node-overflow_add-end
 write_node-overflow_add-end t c =
-    let l = c.loop-left.invariant in
+    let l = c.loop-t.invariant in
     record { fits = omega (arith, (turn_slot l (next_of t (goal.at.write_node-overflow_add-end t c).After-pair_length)).room, l.small) }
 
-pub write_node-slice_bounds-out-end : goal.write_node-slice_bounds-out-end
-write_node-slice_bounds-out-end t c = (turn_slot _ (next_of t (goal.at.write_node-slice_bounds-out-end t c).After-pair_length)).room
+pub write_node-slice_bounds-write_transition-end : goal.write_node-slice_bounds-write_transition-end
+write_node-slice_bounds-write_transition-end t c = (turn_slot _ (next_of t (goal.at.write_node-slice_bounds-write_transition-end t c).After-pair_length)).room
 
 pub write_node-write_transition-hole-requires : goal.write_node-write_transition-hole-requires
 write_node-write_transition-hole-requires t c =
     (omega (arith, c.decreases), node_step _ (next_of t (goal.at.write_node-write_transition-hole-requires t c).After-pair_length))
 
-pub write_node-join-rest-requires : goal.write_node-join-rest-requires
-write_node-join-rest-requires t c =
-    node_joins _ (next_of t (goal.at.write_node-join-rest-requires t c).After-pair_length) c.write_transition-hole.ensures
+pub write_node-offset-requires : goal.write_node-offset-requires
+write_node-offset-requires t c =
+    node_offset _ (next_of t (goal.at.write_node-offset-requires t c).After-pair_length) c.write_transition-hole.ensures
 
-pub write_node-loop-left-preserved : goal.write_node-loop-left-preserved
-write_node-loop-left-preserved t c =
-    let next = next_of t (goal.at.write_node-loop-left-preserved t c).After-pair_length in
-    node_next _ next c.write_transition-hole.ensures c.write_transition-hole.auto.buf c.join-rest.ensures _ (c.without_lowest-left.ensures.0 _ next.low)
-    c.write_transition-hole.auto.amounts c.write_transition-hole.auto.stack
-
-pub write_node-loop-w-preserved : goal.write_node-loop-w-preserved
-write_node-loop-w-preserved t c =
-    let l = c.loop-left.invariant in (
-      (word_next _ c.loop-w-test.true).2,
-      node_same l _ (word_done _ c.loop-w.w _ c.loop-left-test.false) (kept_then c.loop-w.invariant.1.kept l.kept),
-    )
+pub write_node-loop-t-preserved : goal.write_node-loop-t-preserved
+write_node-loop-t-preserved t c =
+    node_next _ (next_of t (goal.at.write_node-loop-t-preserved t c).After-pair_length) c.write_transition-hole.ensures c.write_transition-hole.auto.buf
+    c.offset.ensures c.or-rest.ensures _ c.in-Some.ensures.steps.left c.write_transition-hole.auto.amounts c.write_transition-hole.auto.stack
 
 pub write_node-returns : goal.write_node-returns
-write_node-returns t c = node_ends c.loop-w.invariant.1 (walk_done _ c.loop-w.w (omega arith))
+write_node-returns t c = node_ends c.loop-t.invariant c.in-None.ensures.steps.0
+
+pub write_transition-loop-rest-init : goal.write_transition-loop-rest-init
+write_transition-loop-rest-init t c = hole_begins c.requires c.if-step-len.false (omega arith)
+
+pub write_transition-overflow_add-end : goal.write_transition-overflow_add-end
+write_transition-overflow_add-end t c = let l = c.loop-rest.invariant in record { fits = omega (arith, hole_room l c.in-Some.is, l.loop.small) }
+
+pub write_transition-slice_bounds-write_around-end : goal.write_transition-slice_bounds-write_around-end
+write_transition-slice_bounds-write_around-end t c = hole_room c.loop-rest.invariant c.in-Some.is
+
+pub write_transition-write_around-hole-requires : goal.write_transition-write_around-hole-requires
+write_transition-write_around-hole-requires t c =
+    let l = c.loop-rest.invariant in
+    (omega (arith, c.decreases), (hole_step l c.in-Some.is, hole_short l c.in-Some.is))
+
+pub write_transition-offset-rest-requires : goal.write_transition-offset-rest-requires
+write_transition-offset-rest-requires t c = hole_offset c.loop-rest.invariant c.in-Some.is c.write_around-hole.ensures
+
+pub write_transition-loop-rest-smaller : goal.write_transition-loop-rest-smaller
+write_transition-loop-rest-smaller t c = hole_less c.loop-rest.invariant c.in-Some.is c.write_around-hole.ensures c.offset-rest.ensures
 
 pub write_transition-loop-rest-preserved : goal.write_transition-loop-rest-preserved
 write_transition-loop-rest-preserved t c =
-    hole_next c.loop-rest.invariant c.loop-rest-test.true c.write_around-hole.ensures c.offset-rest.ensures c.write_around-hole.auto.buf c.write_around-hole.auto.amounts c.write_around-hole.auto.stack
+    hole_next c.loop-rest.invariant c.in-Some.is c.write_around-hole.ensures c.offset-rest.ensures c.write_around-hole.auto.buf c.write_around-hole.auto.amounts c.write_around-hole.auto.stack
 
 pub write_transition-returns : goal.write_transition-returns
 write_transition-returns t c =
-    record { short = λ _. (c.loop-rest-test.false, hole_ends c.loop-rest.invariant c.loop-rest-test.false); long = λ h. absurd (omega (arith, c.if-step-rest.false)) }
+    record { short = λ _. (refl, hole_ends c.loop-rest.invariant c.in_default.is); long = λ h. absurd (omega (arith, c.if-step-len.false)) }

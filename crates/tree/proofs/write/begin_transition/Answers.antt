@@ -1,4 +1,5 @@
 -- `write::begin_transition` meets its contract. Assumes nothing.
+use Rattle.form.specs.declared.tables.Tables.{Tables}
 use mathlib.Core.Path.{◌≡◌, sym, ap, ◌∙◌, subst}
 use mathlib.Core.List.{List}
 use Prim.Native.Nat.{ℕ}
@@ -13,7 +14,7 @@ use Rattle.tree.specs.Begin.{head_bytes}
 use Rattle.tree.proofs.write.begin_transition.Goals as goal
 
 -- the choice noted at the pair's number
-chosen_at : {tables : List ℕ} {s t p q : ℕ} (choices : List ℕ) → p ≡ q → Choice tables s t (get_or choices q 0) → Choice tables s t (get_or choices p 0)
+chosen_at : {tables : Tables} {s t p q : ℕ} (choices : List ℕ) → p ≡ q → Choice tables s t (get_or choices q 0) → Choice tables s t (get_or choices p 0)
 chosen_at {tables} {s} {t} choices e w = subst (λ (j : ℕ). Choice tables s t j) (sym (ap (λ (n : ℕ). get_or choices n 0) e)) w
 
 pub number-p-requires : goal.number-p-requires
@@ -29,10 +30,10 @@ find_sets-requires c =
     let p = c.requires in
     let a = c.args in
     let e = c.number-p.ensures.0 in
-    let w = chosen_at a.choices.now e p.choice in (
+    let w = chosen_at a.src.now.choices.now e p.choice in (
       p.ranked,
       p.lost,
-      ap (λ (n : ℕ). get_or a.ranks.now n 0) e ∙ p.ranked.ranked a.s a.t p.lost.left p.lost.right,
+      ap (λ (n : ℕ). get_or a.src.now.ranks.now n 0) e ∙ p.ranked.ranked a.s a.t p.lost.left p.lost.right,
       w.low,
       w.high,
       p.words,
@@ -42,12 +43,12 @@ find_sets-requires c =
 pub put_head-requires : goal.put_head-requires
 put_head-requires c =
     let p = c.requires in
-    let w = chosen_at c.args.choices.now c.number-p.ensures.0 p.choice in
-    (p.ranked.loaded, choice-number c.args.tables.now p.ranked.loaded.first c.args.s c.args.t _ p.lost.left w, p.room)
+    let w = chosen_at c.args.src.now.choices.now c.number-p.ensures.0 p.choice in
+    (p.ranked.loaded, choice-number c.args.src.now.tables.now p.ranked.loaded.first c.args.s c.args.t _ p.lost.left w, p.room)
 
 pub returns : goal.returns
 returns c =
-    let w = chosen_at c.args.choices.now c.number-p.ensures.0 c.requires.choice in
+    let w = chosen_at c.args.src.now.choices.now c.number-p.ensures.0 c.requires.choice in
     record {
       choice = w;
       sets = c.find_sets.ensures.found w;

@@ -11,8 +11,8 @@ pair_length-end-requires c = root_asked c.requires
 pub overflow_add-end : goal.overflow_add-end
 overflow_add-end c = record { fits = omega (arith, root-short c.requires _ c.pair_length-end.ensures) }
 
-pub slice_bounds-out-end : goal.slice_bounds-out-end
-slice_bounds-out-end c = set_room c.requires _ c.pair_length-end.ensures _
+pub slice_bounds-write_transition-end-2 : goal.slice_bounds-write_transition-end-2
+slice_bounds-write_transition-end-2 c = set_room c.requires _ c.pair_length-end.ensures _
 
 pub write_transition-requires : goal.write_transition-requires
 write_transition-requires c =

@@ -1,16 +1,11 @@
 -- `items::cursor::Cursor::part` meets its contract.
 -- Assumes nothing.
 use native.Mathlib.Omega.{arith}
-use borrow.Author.Tests.{leb-true}
-use mathlib.Core.Path.{refl, sym, ◌∙◌}
-use Rattle.items.proofs.ReadLaws.{read_value, read_end}
+use Rattle.layout.proofs.Laws.{leb_refused, leb_passes}
 use Rattle.items.proofs.cursor.Cursor.part.Goals as goal
 
-pub overflow_add-result : goal.overflow_add-result
-overflow_add-result c = let h = sym c.present.ensures ∙ c.if-present.true in omega (arith, leb-true)
+pub returns-then-s-at : goal.returns-then-s-at
+returns-then-s-at c = grind (arith, leb_refused)
 
-pub returns-then-present : goal.returns-then-present
-returns-then-present c = read_value _ c.present.ensures c.if-present.true refl
-
-pub returns-else-present : goal.returns-else-present
-returns-else-present c = read_end _ _ c.present.ensures c.if-present.false
+pub returns : goal.returns
+returns c = grind (arith, leb_passes)

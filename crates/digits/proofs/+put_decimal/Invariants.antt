@@ -1,5 +1,0 @@
--- The measure of `digits::put_decimal` is the number. Assumes nothing.
-use Rattle.digits.proofs.+put_decimal.Given as goal
-
-abbrev pub decreases-put_decimal : goal.decreases-put_decimal
-decreases-put_decimal l = l.n

@@ -1,0 +1,15 @@
+-- `form::Form::targets` meets its contract. Assumes nothing.
+use mathlib.Core.Path.{sym, ◌∙◌}
+use native.Mathlib.Omega.{arith}
+use Rattle.form.specs.Form.{targets_from}
+use Rattle.form.proofs.FormLaws.{span, targets-column}
+use Rattle.form.proofs.Known.{loaded}
+use Rattle.form.proofs.form.Form.targets.Goals as goal
+
+pub column-requires : goal.column-requires
+column-requires c =
+    let f = c.args.self.now in
+    span f.numbers.now (loaded f) c.args.j c.requires targets_from (omega (arith, (loaded f).room))
+
+pub returns : goal.returns
+returns c = c.column.ensures ∙ sym (targets-column c.args.self.now.numbers.now c.args.j)

@@ -1,3 +1,0 @@
--- Laws of a read.
--- Assumes nothing.
-pub mod ReadLaws

@@ -1,0 +1,3 @@
+-- Laws of reading.
+-- Assumes nothing.
+pub mod Reading

@@ -1,8 +1,0 @@
--- `set::bit` meets its contract. Assumes nothing.
-use mathlib.Core.Path.{◌∙◌, ap}
-use Rattle.simulation.specs.Sum.{when}
-use Rattle.set.proofs.Sets.{mask-bit}
-use Rattle.set.proofs.bit.Goals as goal
-
-pub returns : goal.returns
-returns c = c.bit.ensures ∙ ap (λ b. when b 1) (mask-bit c.args.set c.args.t c.requires)
