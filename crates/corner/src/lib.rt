@@ -7,6 +7,7 @@ ghost use Rattle.std.specs.Prelude.{◌≡◌, true};
 ghost use Rattle.simulation.specs.Fit.{fits?};
 ghost use Rattle.relation.specs.Rows.{HasRows};
 ghost use Rattle.matrix.specs.Problem.{joins};
+ghost use Rattle.form.specs.Valid.{AreStates};
 
 use form::Distribution;
 use greedy::total_weight;
@@ -16,7 +17,7 @@ use word::Word;
 // Whether the rule meets related pairs alone: then m fits n. The shares of the first i targets of m end at a, of the first j of n at b.
 // Pairs that aren't related are no reason to stop: nothing branches on whether a pair is related.
 pub fn corner(m: Distribution, n: Distribution, rows: &[Word]) -> bool
-    requires { HasRows rows.now m.targets.now }
+    requires { HasRows rows.now m.targets.now × AreStates n.targets.now }
     ensures { result ≡ true → fits? (joins rows.now m.entry.targets.now n.entry.targets.now) m.entry.weights.now n.entry.weights.now ≡ true }
 {
     let t = total_weight(m.weights);

@@ -21,14 +21,18 @@ use Rattle.word.specs.Mask.{member}
 use Rattle.relation.specs.Rows.{height, HasRows}
 use Rattle.relation.specs.Related.{holds}
 use Rattle.matrix.specs.Problem.{joins}
+use Rattle.form.specs.Valid.{AreStates}
 use Rattle.form.specs.Form.{Loaded, transitions_of, transition_at}
 use Rattle.form.specs.Tables.{first_form, second_form, first_table, contract_table, first_step, second_step}
 use Rattle.form.proofs.FormLaws.{limits, limited_at, distribution-at, positive-at, weights-length, targets-length}
 use Rattle.form.proofs.Contract.{contract-states}
 use Rattle.transport.specs.Answer.{MaximumFlow}
-use Rattle.gather.specs.Places.{Places, Gathered}
+use Rattle.gather.specs.Places.{Places, Ascending, Gathered}
 use Rattle.decision.specs.Fitting.{relation_of, fitting, Asked, SharedOut}
 use Rattle.bounds.specs.Quick.{SetOf, RowMissing, Settles, Bounding}
+
+pub targets_ascend : (f : List ℕ) (loaded : Loaded f) (j : ℕ) → j < transitions_of f → Ascending (targets (transition_at f j))
+targets_ascend f loaded j b i h = (distribution-at f loaded j b).ascending i (omega (arith, targets-length (transition_at f j)))
 
 -- the targets of a transition of a form
 pub places_of : (n : ℕ) (f : List ℕ) (loaded : Loaded f) (j : ℕ) → j < transitions_of f → most_states ≤ n → Places n (targets (transition_at f j))
@@ -72,8 +76,14 @@ module _ {tables : Tables} {rows amounts : List ℕ} {j l : ℕ} (asked : Asked 
   pub first_places : Places (height rows) (targets m)
   first_places = places_of (height rows) (first_form tables) first j asked.from_first asked.rows_room
 
+  pub second_places : Places most_states (targets n)
+  second_places = places_of most_states (second_form tables) second l asked.from_second (omega arith)
+
   pub first_rows : {ms : List ℕ} → ms ≡ targets m → HasRows rows ms
   first_rows e = subst (HasRows rows) (sym e) first_places.below
+
+  pub second_states : {ns : List ℕ} → ns ≡ targets n → AreStates ns
+  second_states e = subst AreStates (sym e) second_places.below
 
   first-paired : length (targets m) ≡ length (weights m)
   first-paired = (limited_at (first_form tables) first j asked.from_first).paired

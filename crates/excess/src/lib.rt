@@ -10,6 +10,7 @@ ghost use Rattle.word.specs.Mask.{member, part, word_bits};
 ghost use Rattle.relation.specs.Rows.{HasRows};
 ghost use Rattle.relation.specs.Related.{holds};
 ghost use Rattle.matrix.specs.Problem.{joins};
+ghost use Rattle.form.specs.Valid.{AreStates};
 ghost use Rattle.excess.specs.Excess.{few, set_count, joined, Joined, Summed, parts, AtMost, Carries, NoSums, BySets};
 
 use form::Distribution;
@@ -22,7 +23,7 @@ use word::Word;
 pub const FEW: usize = 4;
 
 // How many sets they have.
-const SETS: usize = 1 << FEW;
+pub const SETS: usize = 1 << FEW;
 
 // The places of the targets of m that are related to t.
 fn column(from: &[u16], rows: &[Word], t: usize) -> Word
@@ -140,7 +141,7 @@ fn by_sets<F: Fn(usize) -> Word>(one: Distribution, other: Distribution, related
 
 // Whether m, which has few targets, fits n.
 pub fn by_rows(m: Distribution, n: Distribution, rows: &[Word]) -> bool
-    requires { HasRows rows.now m.targets.now × (length m.weights.now ≤ few) }
+    requires { HasRows rows.now m.targets.now × AreStates n.targets.now × (length m.weights.now ≤ few) }
     ensures { result ≡ fits? (joins rows.now m.entry.targets.now n.entry.targets.now) m.entry.weights.now n.entry.weights.now }
 {
     by_sets(m, n, |j| column(m.targets, rows, n.targets[j] as usize))
@@ -148,7 +149,7 @@ pub fn by_rows(m: Distribution, n: Distribution, rows: &[Word]) -> bool
 
 // Whether m fits n, which has few targets.
 pub fn by_columns(m: Distribution, n: Distribution, rows: &[Word]) -> bool
-    requires { HasRows rows.now m.targets.now × (length n.weights.now ≤ few) }
+    requires { HasRows rows.now m.targets.now × AreStates n.targets.now × (length n.weights.now ≤ few) }
     ensures { result ≡ fits? (joins rows.now m.entry.targets.now n.entry.targets.now) m.entry.weights.now n.entry.weights.now }
 {
     by_sets(n, m, |i| row_word(rows, m.targets[i] as usize, n.targets))

@@ -17,6 +17,10 @@ pub record Codes (w : ℕ) (codes : List ℕ) : Type 0 where
 abbrev pub Listed : List ℕ → ℕ → Type 0
 Listed codes c = (i : ℕ) × (i < length codes) × (get_or codes i 0 ≡ c)
 
+-- targets that are states of some table
+abbrev pub AreStates : List ℕ → Type 0
+AreStates ts = (j : ℕ) → j < length ts → get_or ts j 0 < most_states
+
 -- a transition into n states: some entries, targets below n that ascend strictly, a total that is not 0 and within the limit
 pub record Distribution (n : ℕ) (m : Transition) : Type 0 where
   pub some : 0 < length m.entries

@@ -3,8 +3,7 @@ use mathlib.Core.Path.{ap, sym, ◌∙◌}
 use native.Mathlib.Omega.{arith}
 use lib.ListN.{length}
 use Rattle.simulation.specs.Fit.{total}
-use Rattle.form.specs.Form.{transition_at}
-use Rattle.form.proofs.FormLaws.{limits, limited_at, distribution-at, positive-at, targets-length}
+use Rattle.form.proofs.FormLaws.{limited_at, positive-at}
 use Rattle.form.proofs.Known.{loaded}
 use Rattle.form.proofs.form.Form.distribution.Goals as goal
 
@@ -13,17 +12,13 @@ invariant_of-result c =
     let f = c.args.self.now.numbers.now in
     let l = loaded c.args.self.now in
     let j = c.args.j in
-    let m = transition_at f j in
     let limited = limited_at f l j c.requires in
-    let d = distribution-at f l j c.requires in
     let t = c.targets.ensures in
     let w = c.weights.ensures in
     record {
       paired = ap length t ∙ limited.paired ∙ sym (ap length w);
       some = omega (arith, ap length w, limited.some);
       few = omega (arith, ap length w, limited.few);
-      states = rw t (λ i lt. omega (arith, d.in_range i (omega (arith, targets-length m)), (limits f l).states-few));
-      ascending = rw t (λ i lt. d.ascending i (omega (arith, targets-length m)));
       positive = rw w (positive-at f l j c.requires);
       light = omega (arith, ap total w, limited.total-small);
     }
