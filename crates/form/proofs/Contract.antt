@@ -1,7 +1,7 @@
 -- The listed codes of a form, and the contract: the second table completed for the codes of the first.
 -- Assumes nothing.
-use mathlib.Core.Path.{◌≡◌, sym}
-use mathlib.Core.Bool.{Bool, not, ◌&&◌}
+use mathlib.Core.Path.{◌≡◌, sym, ◌∙◌}
+use mathlib.Core.Bool.{Bool, true, false, not, ◌&&◌}
 use mathlib.Core.List.{List}
 use Prim.Native.Nat.{ℕ, ◌+◌, ◌-◌, ◌≤◌, ◌<◌}
 use Rattle.std.specs.Prelude.{Result, Ok, Err, MatchResult, is_ok}
@@ -17,14 +17,15 @@ use Rattle.simulation.specs.Tree.{apart}
 use Rattle.simulation.specs.Demands.{Sound}
 use Rattle.simulation.specs.Complete.{lists, self_loop, all_related}
 use Rattle.simulation.proofs.Finite.Tests.{is_true, is_false}
-use Rattle.simulation.proofs.Finite.Lists.{below_length}
+use Rattle.simulation.proofs.Finite.Lists.{below_at, below_length}
 use Rattle.simulation.proofs.Complete.Codes.{lists_at, lists_by, lists-same}
-use Rattle.simulation.proofs.Complete.Tables.{OwnCodes, AddedStep, complete-states, complete_sound, added-step, search_added, search_listed}
-use Rattle.simulation.proofs.Complete.Loops.{matched-listed, matched-added, apart-listed, apart-added}
+use Rattle.simulation.proofs.Complete.Tables.{OwnCodes, AddedStep, complete_sound, added-step, search_added}
+use Rattle.simulation.proofs.Complete.Loops.{matched-added, apart-added}
 use Rattle.form.specs.Form.{at, actions_from, listed_from, transitions_of, transition_at, table_of, Loaded}
 use Rattle.form.specs.declared.tables.Tables.{Tables}
 use Rattle.form.specs.Tables.{first_form, second_form, first_table, second_table, contract_table, first_step, BothLoaded}
 use Rattle.form.proofs.FormLists.{ascends}
+use Rattle.form.proofs.Completed as completed
 use Rattle.form.proofs.Sound.{shaped_codes}
 use Rattle.form.proofs.FormLaws.{by_state, sound, positive-at, limits, pairs-bound}
 
@@ -43,14 +44,35 @@ module _ (f : List ℕ) where
   unfolding table_of
   codes-count = below_length (λ i. at f (listed_from + i)) 0 (at f actions_from)
 
+  pub code_at : (i : ℕ) → i < at f actions_from → get_or (table_of f).codes i 0 ≡ at f (listed_from + i)
+  unfolding table_of
+  code_at i b = below_at 0 (λ i. at f (listed_from + i)) (at f actions_from) i b
+
+  -- a code that is found, and one that is at no place
+  pub lists-found : {i c : ℕ} → i < at f actions_from → at f (listed_from + i) ≡ c → lists (table_of f).codes c ≡ true
+  lists-found {i} {c} b e =
+      is_true (lists (table_of f).codes c) (lists-same (table_of f).codes (sym (code_at i b ∙ e)) (lists_by (table_of f).codes i (omega (arith, codes-count))))
+
+  pub lists-missing : {c : ℕ} → ((i : ℕ) → i < at f actions_from → at f (listed_from + i) ≡ c → ⊥) → lists (table_of f).codes c ≡ false
+  lists-missing {c} none =
+      is_false (lists (table_of f).codes c)
+      (λ t.
+      let r = lists_at (table_of f).codes c t in
+      let b : r.0 < at f actions_from = omega (arith, codes-count, r.1) in
+      none r.0 b (sym (code_at r.0 b) ∙ sym r.2))
+
   module _ (l : Loaded f) where
     pub codes-few : at f actions_from ≤ most_codes
     codes-few = omega (arith, l.valid.codes.few, codes-count)
 
-    pub codes_ascend : (i j : ℕ) → i ≤ j → j < length (table_of f).codes → get_or (table_of f).codes i 0 ≤ get_or (table_of f).codes j 0
-    codes_ascend i j a b =
+    pub listed_ascend : (i j : ℕ) → i ≤ j → j < length (table_of f).codes → get_or (table_of f).codes i 0 ≤ get_or (table_of f).codes j 0
+    listed_ascend i j a b =
         let codes = (table_of f).codes in
         ascends (λ i. get_or codes i 0) (length codes - 1) (λ i c. omega (arith, l.valid.codes.ascending i (omega arith))) i j a (omega arith)
+
+    -- the same by their places in the form
+    pub codes_ascend : (i j : ℕ) → i ≤ j → j < at f actions_from → at f (listed_from + i) ≤ at f (listed_from + j)
+    codes_ascend i j a b = omega (arith, listed_ascend i j a (omega (arith, codes-count)), code_at i (omega arith), code_at j b)
 
     pub own-codes : OwnCodes (table_of f)
     own-codes = shaped_codes (table_of f) l.valid.shape
@@ -61,7 +83,7 @@ module _ (f : List ℕ) where
 
 module _ (tables : Tables) where
   pub contract-states : states_of (contract_table tables) ≡ states_of (second_table tables)
-  contract-states = complete-states (first_table tables).codes (second_table tables)
+  contract-states = completed.contract-states (first_table tables) (second_table tables)
 
   module _ (loaded : BothLoaded tables) where
     pub contract_sound : Sound (contract_table tables)
@@ -103,10 +125,10 @@ module _ (tables : Tables) where
   module _ (m : Transition) (t : ℕ) (listed : T (lists (second_table tables).codes m.code)) where
     pub asked_listed : (p : Transition → Bool) → ((n : Transition) → T (p n) → n.code ≡ m.code)
         → any_of p (steps (contract_table tables) t) ≡ any_of p (steps (second_table tables) t)
-    asked_listed p like = search_listed (first_table tables).codes (second_table tables) t m.code p like listed
+    asked_listed = completed.asked_listed (first_table tables) (second_table tables) m t listed
 
     pub answered-listed : (R : Relation) → any_of (fits_step R m) (steps (contract_table tables) t) ≡ any_of (fits_step R m) (steps (second_table tables) t)
-    answered-listed R = matched-listed R m (first_table tables).codes (second_table tables) t listed
+    answered-listed = completed.answered-listed (first_table tables) (second_table tables) m t listed
 
     pub apart_by-listed : (R : Relation) (i u : ℕ) → apart R m (steps (contract_table tables) t) i u ≡ apart R m (steps (second_table tables) t) i u
-    apart_by-listed R i u = apart-listed R m (first_table tables).codes (second_table tables) t listed i u
+    apart_by-listed = completed.apart_by-listed (first_table tables) (second_table tables) m t listed

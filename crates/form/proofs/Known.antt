@@ -1,14 +1,13 @@
 -- What a form and two tables hold by their types: forms that were loaded. A code is listed at one place, which a type does not keep;
 -- a search through the codes finds it.
 -- Assumes nothing.
-use mathlib.Core.Path.{◌≡◌, sym, subst}
+use mathlib.Core.Path.{sym, subst}
 use mathlib.Core.Logic.{∥∥₁_elim}
 use mathlib.Core.List.{List}
-use Prim.Native.Nat.{ℕ, ◌<◌}
+use Prim.Native.Nat.{ℕ}
 use lib.Dec.{T}
-use lib.ListN.{length, get_or}
 use Rattle.std.proofs.Props.{props}
-use Rattle.simulation.specs.Table.{Transition, states_of, steps, transition}
+use Rattle.simulation.specs.Table.{transition}
 use Rattle.simulation.specs.Complete.{lists}
 use Rattle.simulation.proofs.Complete.Codes.{lists_at, lists_by}
 use Rattle.form.specs.declared.form.Form.{Form}

@@ -7,4 +7,5 @@ pub mod FormLists
 pub mod FormLaws
 pub mod Support
 pub mod Known
+pub mod Completed
 pub mod Contract

@@ -1,10 +1,20 @@
 // Both tables: the first is checked against the second.
 ghost use Rattle.std.specs.Prelude.{◌≡◌};
-ghost use Rattle.simulation.specs.Table.{states_of};
-ghost use Rattle.form.specs.Form.{Loaded};
+ghost use Rattle.simulation.specs.Table.{Table, states_of};
+ghost use Rattle.simulation.specs.Complete.{contract_for};
+ghost use Rattle.form.specs.Form.{table_of, Loaded};
 ghost use Rattle.form.specs.Tables.{first_form, second_form, contract_table};
 
 use crate::Form;
+
+impl Form<'_> {
+    // How many states the contract has that this table is completed to, whatever table is checked against it: as many as the table itself.
+    pub fn width(&self) -> usize
+        ensures { (M : Table) → result ≡ states_of (contract_for M (table_of self.now.numbers.now)) }
+    {
+        self.states()
+    }
+}
 
 #[derive(Clone, Copy)]
 pub struct Tables<'a> {
@@ -28,6 +38,6 @@ impl<'a> Tables<'a> {
     pub fn width(&self) -> usize
         ensures { result ≡ states_of (contract_table self.now) }
     {
-        self.second.states()
+        self.second.width()
     }
 }

@@ -4,7 +4,7 @@ use mathlib.Core.List.{List}
 use Prim.Native.Nat.{ℕ}
 use Rattle.std.proofs.lemmas.List.Sorted.{searched}
 use Rattle.simulation.specs.Complete.{lists}
-use Rattle.form.proofs.Contract.{codes_ascend, lists-searched}
+use Rattle.form.proofs.Contract.{listed_ascend, lists-searched}
 use Rattle.form.proofs.Known.{loaded}
 use Rattle.form.proofs.form.Form.lists.Goals as goal
 
@@ -15,5 +15,5 @@ returns c =
     let codes = c.codes.result.now in
     let r = c.binary_search.result in
     c.is_ok.ensures.value
-    ∙ lists-searched codes a.code r (searched codes a.code r c.binary_search.ensures.position (rw c.codes.ensures (codes_ascend f.numbers.now (loaded f))))
+    ∙ lists-searched codes a.code r (searched codes a.code r c.binary_search.ensures.position (rw c.codes.ensures (listed_ascend f.numbers.now (loaded f))))
     ∙ ap (λ (l : List ℕ). lists l a.code) c.codes.ensures
