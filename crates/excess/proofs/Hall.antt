@@ -1,6 +1,6 @@
 -- Whether one distribution fits another, by all sets of places of the first.
 -- Assumes nothing.
-use mathlib.Core.Path.{◌≡◌, sym, ap, ap₂, ◌∙◌}
+use mathlib.Core.Path.{◌≡◌, sym, ap, ap₂, ◌∙◌, subst}
 use mathlib.Core.Bool.{Bool, true, false, not}
 use mathlib.Core.List.{List}
 use Prim.Native.Nat.{ℕ, ◌+◌, ◌*◌, ◌≤◌, ◌<◌}
@@ -56,6 +56,17 @@ module _ (R : ℕ → ℕ → Bool) (ws vs sums : List ℕ) (small : length ws �
   verdict {r} c =
       same_test r (fits? R ws vs) (λ t. gain-fits R ws vs (gains_least (c.yes (is_true r t))))
       (λ t. by_contradiction r (λ n. let w = c.no (is_false r n) in omega (arith, w.2, gain-outside w.0, fits-gain R ws vs t (outside w.0))))
+
+-- the same by the lengths and totals that the code has: one fits the other exactly if no set of places gets more than it can carry from what goes to it alone
+pub decides : (R : ℕ → ℕ → Bool) (ws vs : List ℕ) {sums : List ℕ} {p q t u : ℕ} {r : Bool}
+    → p ≡ length ws → q ≡ length vs → t ≡ total ws → u ≡ total vs → p ≤ few
+    → BySets q (related_to p R) (λ j. weight vs j * t) sums → Carries sums ws u r → r ≡ fits? R ws vs
+decides R ws vs {sums} {q = q} {t = t} {r = r} rows columns total-rows total-columns small s c =
+    verdict R ws vs sums (omega arith)
+    (subst (λ (k : ℕ). BySets (length vs) (related_to (length ws) R) (λ j. weight vs j * k) sums) total-rows
+    (subst (λ (k : ℕ). BySets k (related_to (length ws) R) (λ j. weight vs j * t) sums) columns
+    (subst (λ (k : ℕ). BySets q (related_to k R) (λ j. weight vs j * t) sums) rows s)))
+    (subst (λ (k : ℕ). Carries sums ws k r) total-columns c)
 
 -- what the one sends the other takes, and the other way round
 turned : (R : ℕ → ℕ → Type 0) (ws vs : List ℕ) → Fits R ws vs → Fits (λ j i. R i j) vs ws
