@@ -58,8 +58,15 @@ impl Flow<'_> {
         rows::get(self.senders, j)
     }
 
+    // The senders of all columns.
+    pub fn senders(&self) -> &[Word]
+        ensures { result.now ≡ self.now.senders.now }
+    {
+        self.senders
+    }
+
     // The amount v at row i, column j.
-    fn put(&mut self, i: usize, j: usize, v: u32)
+    pub fn put(&mut self, i: usize, j: usize, v: u32)
         requires { (i < most_states) × (j < most_states) }
         ensures put { Put self.old.amounts.now self.new.amounts.now i j v
             × Noted self.new.amounts.now self.old.senders.now self.new.senders.now i j }

@@ -24,7 +24,7 @@ pub fn marked(set: Set, k: usize, v: u32) -> Set
 }
 
 // The places where the number isn't 0.
-fn positive(numbers: &[u32]) -> Set
+pub fn positive(numbers: &[u32]) -> Set
     requires { length numbers.now ≤ most_states }
     ensures { MaskOf (length numbers.now) (λ i. get_or numbers.now i 0) (mask result) }
 {
