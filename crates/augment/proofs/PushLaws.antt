@@ -25,6 +25,7 @@ use Rattle.augment.proofs.PathLaws.{ReachedTree, PathWalk, PathCarries, carries_
 -- a search has room in a flow
 pub room_of : {p q : ℕ} {rel x a b senders : List ℕ} {short : ℕ} → Flow p q rel x a b senders → MaskOf p (λ i. get_or a i 0) short → SearchRoom rel senders short
 room_of f h = let z = f.sized in record {
+  columns = z.columns;
   starts = λ i m. omega (arith, h.below i m, z.masks);
   rows = λ i j m. omega (arith, sender-row f.used i j m, z.masks);
 }

@@ -1,10 +1,9 @@
 -- The loops of carry and shift: what holds where k steps of a path are left, from row i.
 -- Assumes nothing.
-use mathlib.Core.Path.{◌≡◌, refl, ◌∙◌, subst}
+use mathlib.Core.Path.{◌≡◌, refl, subst}
 use mathlib.Core.List.{List}
 use Prim.Native.Nat.{ℕ, zero, suc, ◌+◌, ◌-◌, ◌^◌, ◌≤◌, ◌<◌, min}
 use native.Mathlib.Omega.{arith}
-use lib.ListN.{length}
 use Rattle.simulation.specs.Limits.{most_states}
 use Rattle.matrix.specs.Matrix.{cell, Adds}
 use Rattle.matrix.specs.Masks.{Noted}

@@ -23,7 +23,7 @@ use Rattle.search.specs.declared.Link.{Link}
 use Rattle.search.specs.declared.Links.{Links}
 use Rattle.search.specs.Links.{link_at, from, via}
 use Rattle.std.specs.Prelude.{None}
-use Rattle.search.specs.Search.{SearchRoom, RowsLinked, Grows, ColumnsFollowed, Closed, Levelled, Hit, HitOf, Forest, RowWalk, Found, Stuck}
+use Rattle.search.specs.Search.{SearchRoom, RowsLinked, Grows, ColumnsFollowed, Closed, Levelled, Hit, HitOf, Forest, RowWalk, Reaches, Stuck}
 use Rattle.matrix.proofs.MaskedLaws.{true_or_false, neither, both_at, both_out, except-at, except-out, either-at, either_left, either-right, drop_at, drop-out, no_members}
 
 -- the rows of `new` but those left are linked
@@ -328,11 +328,8 @@ frontier_shortest {depth = depth} s k i w h =
     ⊎_elim (λ l. absurd (neither h.is_free (s.shut i h.column (s.near k i w (omega arith)) (s.nearer k i w l) h.related))) (λ l. l) (below_or_not k depth)
 
 pub frontier_found : {rel senders : List ℕ} {short free : ℕ} {from via : ℕ → ℕ} {S F seen depth r : ℕ} → Frontier rel senders short free from via S F seen depth
-    → (member F r ≡ true) × Hit rel free r → Found rel senders short free from via (record { row = r; depth = depth })
-frontier_found s h = record {
-  reached = _;
-  reaches = record { rank = s.rank; forest = s.forest; inside = s.inside _ h.0; deep = s.deep _ h.0; hit = h.1; shortest = frontier_shortest s };
-}
+    → (member F r ≡ true) × Hit rel free r → Reaches rel senders short free from via (member S) r depth
+frontier_found s h = record { rank = s.rank; forest = s.forest; inside = s.inside _ h.0; deep = s.deep _ h.0; hit = h.1; shortest = frontier_shortest s }
 
 pub frontier_end : {rel senders : List ℕ} {short free : ℕ} {from via : ℕ → ℕ} {S F seen depth : ℕ} → F ≡ 0 → Frontier rel senders short free from via S F seen depth
     → Stuck rel senders short free from via (member S)

@@ -2,6 +2,7 @@
 -- A row goes to the columns that it is related to, and a column to its senders. from and via give the row and the column by which a row was reached.
 -- Assumes nothing.
 use Rattle.std.specs.Prelude.{◌≡◌, true, false, List, Option, MatchOption, Result, MatchResult, ℕ, zero, suc, ◌≤◌, ◌<◌, get_or}
+use Rattle.simulation.specs.Limits.{most_states}
 use Rattle.word.specs.Mask.{Test, member}
 use Rattle.relation.specs.Rows.{height}
 use Rattle.relation.specs.Related.{holds}
@@ -10,8 +11,9 @@ use Rattle.set.specs.Words.{mask}
 use Rattle.set.specs.declared.Set.{Set}
 use Rattle.search.specs.declared.Path.{Path}
 
--- the rows that can be reached have masks
+-- the list of senders is long enough, and the rows that can be reached have masks
 pub record SearchRoom (rel senders : List ℕ) (short : ℕ) : Type 0 where
+  pub columns : most_states ≤ height senders
   pub starts : (i : ℕ) → member short i ≡ true → i < height rel
   pub rows : (i j : ℕ) → holds senders j i ≡ true → i < height rel
 
@@ -87,15 +89,16 @@ pub record Stuck (rel senders : List ℕ) (short free : ℕ) (from via : ℕ →
   pub shut : (i j : ℕ) → S i ≡ true → holds rel i j ≡ true → member free j ≡ false
   pub closed : (i i' j : ℕ) → S i ≡ true → holds rel i j ≡ true → holds senders j i' ≡ true → S i' ≡ true
 
--- a path that a search found, whatever rows it reached
+-- a path, whatever rows a search reached
 pub record Found (rel senders : List ℕ) (short free : ℕ) (from via : ℕ → ℕ) (path : Path) : Type 0 where
   pub reached : Test
   pub reaches : Reaches rel senders short free from via reached path.row path.depth
 
--- the search's answer: a path, or the rows reached where there is none
+-- the search's answer: a path with the rows reached, or these alone where there is none
 abbrev pub SearchOf : (rel senders : List ℕ) (short free : ℕ) (from via : ℕ → ℕ) → Result Path Set → Type 0
 SearchOf rel senders short free from via answer =
-    MatchResult answer (λ path. Found rel senders short free from via path) (λ reached. Stuck rel senders short free from via (member (mask reached)))
+    MatchResult answer (λ path. Reaches rel senders short free from via (member (mask path.reached)) path.row path.depth)
+    (λ reached. Stuck rel senders short free from via (member (mask reached)))
 
 -- no path is left in a flow: short rows, free columns and links of the last search
 pub record Ended (p q : ℕ) (rel supply demand senders : List ℕ) (S : Test) : Type 0 where

@@ -9,7 +9,6 @@ ghost use Rattle.relation.specs.Rows.{height};
 ghost use Rattle.search.specs.Links.{from, via};
 ghost use Rattle.search.specs.Search.{SearchRoom, RowsLinked, ColumnsFollowed, Closed, Levelled, HitOf, SearchOf};
 
-use matrix::Flow;
 use relation::rows;
 use set::Set;
 use simulation::Table;
@@ -47,9 +46,10 @@ struct Visited {
     seen: Set,
 }
 
-// A row with a free column, and how many steps it is from a short row.
+// The rows reached, and one of them with a free column: how many steps it is from a short row.
 #[derive(Clone, Copy)]
 pub struct Path {
+    pub reached: Set,
     pub row: usize,
     pub depth: usize,
 }
@@ -82,14 +82,14 @@ fn link_rows(links: &mut Links, rows: Set, r: usize, j: usize)
 }
 
 // Row r goes by its columns to their senders. Returns the rows reached then.
-fn follow(flow: &Flow, links: &mut Links, columns: Set, r: usize, reached: Set) -> Set
-    requires { r < most_states }
-    ensures { ColumnsFollowed flow.now.senders.now (member (mask columns)) r (member (mask reached)) (member (mask result))
+fn follow(senders: &[Word], links: &mut Links, columns: Set, r: usize, reached: Set) -> Set
+    requires { (most_states ≤ height senders.now) × (r < most_states) }
+    ensures { ColumnsFollowed senders.now (member (mask columns)) r (member (mask reached)) (member (mask result))
         (from links.old) (via links.old) (from links.new) (via links.new) }
 {
     let mut all = reached;
     for j in columns {
-        let new = flow.column(j).difference(all);
+        let new = rows::get(senders, j).difference(all);
         link_rows(links, new, r, j);
         all = all.union(new);
     }
@@ -97,10 +97,10 @@ fn follow(flow: &Flow, links: &mut Links, columns: Set, r: usize, reached: Set) 
 }
 
 // The rows of a level go by all their columns that were not gone to.
-fn level(rel: &[Word], flow: &Flow, links: &mut Links, rows: Set, covered: Visited) -> Visited
-    requires { ((i : ℕ) → member (mask rows) i ≡ true → i < height rel.now)
-        × Closed flow.now.senders.now (member (mask covered.seen)) (member (mask covered.reached)) }
-    ensures { Levelled rel.now flow.now.senders.now (member (mask rows))
+fn level(rel: &[Word], senders: &[Word], links: &mut Links, rows: Set, covered: Visited) -> Visited
+    requires { (most_states ≤ height senders.now) × ((i : ℕ) → member (mask rows) i ≡ true → i < height rel.now)
+        × Closed senders.now (member (mask covered.seen)) (member (mask covered.reached)) }
+    ensures { Levelled rel.now senders.now (member (mask rows))
         (member (mask covered.seen)) (member (mask result.seen)) (member (mask covered.reached)) (member (mask result.reached))
         (from links.old) (via links.old) (from links.new) (via links.new) }
 {
@@ -108,7 +108,7 @@ fn level(rel: &[Word], flow: &Flow, links: &mut Links, rows: Set, covered: Visit
     let mut gone = covered.seen;
     for r in rows {
         let columns = rows::get(rel, r).difference(gone);
-        all = follow(flow, links, columns, r, all);
+        all = follow(senders, links, columns, r, all);
         gone = gone.union(columns);
     }
     Visited {
@@ -118,9 +118,9 @@ fn level(rel: &[Word], flow: &Flow, links: &mut Links, rows: Set, covered: Visit
 }
 
 // Levels from the short rows on, up to the first with a free column. Where none has one, the rows reached.
-pub fn search(rel: &[Word], flow: &Flow, links: &mut Links, ends: Ends) -> Result<Path, Set>
-    requires { SearchRoom rel.now flow.now.senders.now (mask ends.short) }
-    ensures { SearchOf rel.now flow.now.senders.now (mask ends.short) (mask ends.free)
+pub fn search(rel: &[Word], senders: &[Word], links: &mut Links, ends: Ends) -> Result<Path, Set>
+    requires { SearchRoom rel.now senders.now (mask ends.short) }
+    ensures { SearchOf rel.now senders.now (mask ends.short) (mask ends.free)
         (from links.new) (via links.new) result }
 {
     let mut covered = Visited {
@@ -131,9 +131,13 @@ pub fn search(rel: &[Word], flow: &Flow, links: &mut Links, ends: Ends) -> Resul
     let mut depth = 0;
     while !rows.is_empty() {
         if let Some(row) = hit(rel, ends.free, rows) {
-            return Ok(Path { row, depth });
+            return Ok(Path {
+                reached: covered.reached,
+                row,
+                depth,
+            });
         }
-        let next = level(rel, flow, links, rows, covered);
+        let next = level(rel, senders, links, rows, covered);
         rows = next.reached.difference(covered.reached);
         covered = next;
         depth += 1;

@@ -41,7 +41,7 @@ fn improve(flow: &mut Flow, rel: &[Word], links: &mut Links, free: Set) -> Outco
     let mut ends = Ends { short, free };
     let mut paths = 0u32;
     loop {
-        match search(rel, flow, links, ends) {
+        match search(rel, flow.senders(), links, ends) {
             Ok(path) => {
                 ends = push(flow, rel, links, ends, path);
                 paths += 1;

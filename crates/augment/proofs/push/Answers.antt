@@ -6,7 +6,6 @@ use Rattle.std.specs.Borrow.{MutBor}
 use native.Mathlib.Omega.{arith}
 use borrow.Author.Rules.{rules}
 use lib.ListN.{length}
-use Rattle.word.specs.Mask.{member}
 use Rattle.set.specs.Words.{mask}
 use Rattle.matrix.specs.Held.{held}
 use Rattle.search.specs.Links.{from, via}

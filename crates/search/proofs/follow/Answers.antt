@@ -11,14 +11,14 @@ pub loop-j-init : goal.loop-j-init
 loop-j-init c =
     let a = c.args in
     let l = a.links.now in
-    begun (λ n. Following a.flow.now.senders.now (mask a.columns) n a.r (mask a.reached) (mask a.reached) (from l) (via l) (from l) (via l))
+    begun (λ n. Following a.senders.now (mask a.columns) n a.r (mask a.reached) (mask a.reached) (from l) (via l) (from l) (via l))
     c.into_iter-j-iterator.ensures.into_iter_gives following_none
 
 pub loop-j-preserved : goal.loop-j-preserved
 loop-j-preserved c =
     let w = c.in-Some.ensures.steps in
     following_next (mask c.difference-new.result) c.loop-j.invariant w.lowest w.left
-    (except_of c.column.ensures (member (mask c.loop-j.all)) c.difference-new.ensures) c.link_rows.ensures c.union-all.ensures
+    (except_of c.get.ensures (member (mask c.loop-j.all)) c.difference-new.ensures) c.link_rows.ensures c.union-all.ensures
 
 pub returns : goal.returns
 returns c = following_end c.in-None.ensures.steps.0 c.loop-j.invariant

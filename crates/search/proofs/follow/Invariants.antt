@@ -6,4 +6,4 @@ use Rattle.search.proofs.follow.Given as goal
 
 abbrev pub invariant-loop-j : goal.invariant-loop-j
 invariant-loop-j l =
-    Following l.flow.senders.now (mask l.fn.columns) (mask l.j-iterator.left) l.r (mask l.initial.all) (mask l.all) (from l.initial.links) (via l.initial.links) (from l.links) (via l.links)
+    Following l.senders (mask l.fn.columns) (mask l.j-iterator.left) l.r (mask l.initial.all) (mask l.all) (from l.initial.links) (via l.initial.links) (from l.links) (via l.links)

@@ -12,11 +12,11 @@ loop-r-init c =
     let a = c.args in
     let b = a.covered in
     let l = a.links.now in
-    begun (λ n. Levelling a.rel.now a.flow.now.senders.now (mask a.rows) n (mask b.seen) (mask b.seen) (mask b.reached) (mask b.reached) (from l) (via l) (from l) (via l))
-    c.into_iter-r-iterator.ensures.into_iter_gives (levelling_none c.requires.1)
+    begun (λ n. Levelling a.rel.now a.senders.now (mask a.rows) n (mask b.seen) (mask b.seen) (mask b.reached) (mask b.reached) (from l) (via l) (from l) (via l))
+    c.into_iter-r-iterator.ensures.into_iter_gives (levelling_none c.requires.2)
 
 pub get-requires : goal.get-requires
-get-requires c = c.requires.0 _ (c.loop-r.invariant.part _ c.in-Some.ensures.steps.lowest.here)
+get-requires c = c.requires.1 _ (c.loop-r.invariant.part _ c.in-Some.ensures.steps.lowest.here)
 
 pub loop-r-preserved : goal.loop-r-preserved
 loop-r-preserved c =

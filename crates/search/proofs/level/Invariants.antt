@@ -6,5 +6,5 @@ use Rattle.search.proofs.level.Given as goal
 
 abbrev pub invariant-loop-r : goal.invariant-loop-r
 invariant-loop-r l =
-    Levelling l.rel l.flow.senders.now (mask l.fn.rows) (mask l.r-iterator.left) (mask l.initial.gone) (mask l.gone) (mask l.initial.all) (mask l.all)
+    Levelling l.rel l.senders (mask l.fn.rows) (mask l.r-iterator.left) (mask l.initial.gone) (mask l.gone) (mask l.initial.all) (mask l.all)
     (from l.initial.links) (via l.initial.links) (from l.links) (via l.links)

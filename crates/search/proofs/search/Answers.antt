@@ -5,7 +5,7 @@ use native.Mathlib.Omega.{arith}
 use Rattle.set.specs.Words.{mask}
 use Rattle.set.proofs.Sets.{mask_lt, is_none, is_some}
 use Rattle.search.specs.Links.{from, via}
-use Rattle.search.proofs.SearchLaws.{Frontier, frontier_none, frontier_next, frontier_found, frontier_end, frontier_rows, unreached_most, unreached_falls}
+use Rattle.search.proofs.SearchLaws.{Frontier, frontier_none, frontier_next, frontier_end, frontier_rows, unreached_most, unreached_falls}
 use Rattle.search.proofs.search.Goals as goal
 
 pub loop-ends-init : goal.loop-ends-init
@@ -13,7 +13,7 @@ loop-ends-init c =
     let a = c.args in
     let s = mask a.ends.short in
     let l = a.links.now in
-    (subst (λ (n : ℕ). Frontier a.rel.now a.flow.now.senders.now s (mask a.ends.free) (from l) (via l) s s n 0) (sym c.empty.ensures) frontier_none, omega (arith, unreached_most s))
+    (subst (λ (n : ℕ). Frontier a.rel.now a.senders.now s (mask a.ends.free) (from l) (via l) s s n 0) (sym c.empty.ensures) frontier_none, omega (arith, unreached_most s))
 
 pub hit-requires : goal.hit-requires
 hit-requires c = frontier_rows c.requires c.loop-ends.invariant.0
@@ -22,7 +22,7 @@ pub level-next-requires : goal.level-next-requires
 level-next-requires c =
     let h = c.requires in
     let f = c.loop-ends.invariant.0 in
-    (frontier_rows h f, f.closed)
+    (h.columns, frontier_rows h f, f.closed)
 
 pub overflow_add-depth : goal.overflow_add-depth
 overflow_add-depth c = omega (arith, c.loop-ends.invariant.1)

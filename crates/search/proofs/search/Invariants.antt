@@ -8,7 +8,7 @@ use Rattle.search.proofs.search.Given as goal
 
 abbrev pub invariant-loop-ends : goal.invariant-loop-ends
 invariant-loop-ends l =
-    Frontier l.rel l.flow.senders.now (mask l.ends.short) (mask l.ends.free) (from l.links) (via l.links) (mask l.covered.reached) (mask l.rows) (mask l.covered.seen) l.depth
+    Frontier l.rel l.senders (mask l.ends.short) (mask l.ends.free) (from l.links) (via l.links) (mask l.covered.reached) (mask l.rows) (mask l.covered.seen) l.depth
     × (l.depth + (unreached (mask l.covered.reached) + min 1 (mask l.rows)) ≤ most_states + 1)
 
 abbrev pub decreases-loop-ends : goal.decreases-loop-ends

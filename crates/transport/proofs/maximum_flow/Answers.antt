@@ -1,18 +1,15 @@
 -- `transport::maximum_flow` meets its contract. Assumes nothing.
-use mathlib.Core.Path.{◌≡◌, sym, ap, ◌∙◌, subst}
+use mathlib.Core.Path.{◌≡◌, sym, ◌∙◌, subst}
 use mathlib.Core.List.{List}
 use Prim.Native.Nat.{ℕ, ◌≤◌}
 use native.Mathlib.Omega.{arith}
 use borrow.Author.Rules.{rules}
-use lib.ListN.{length}
 use lib.Seq.{length-take-le}
 use Rattle.std.specs.Borrow.{MutBor}
 use Rattle.relation.specs.Rows.{row_of, height}
 use Rattle.relation.proofs.Relations.{row-none}
-use Rattle.set.specs.Words.{mask}
 use Rattle.set.proofs.Sets.{mask_lt}
 use Rattle.simulation.specs.Limits.{most_states}
-use Rattle.greedy.specs.Start.{Begun}
 use Rattle.matrix.specs.Held.{held}
 use Rattle.transport.proofs.Lending.{StartOf, fill_ready, improve_ready, answers}
 use Rattle.transport.proofs.maximum_flow.Goals as goal
