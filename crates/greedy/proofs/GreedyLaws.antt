@@ -1,28 +1,28 @@
 -- The greedy start's loops: the columns of a row, and the rows.
 -- Assumes nothing.
-use mathlib.Core.Path.{◌≡◌, refl, sym, ap, ap₂, ◌∙◌, subst, subst⁻¹, fun_ext}
+use mathlib.Core.Path.{◌≡◌, refl, sym, ap, ap₂, ◌∙◌, subst, fun_ext}
 use mathlib.Core.Bool.{Bool, true, false, not, ◌&&◌}
 use mathlib.Core.List.{List}
 use mathlib.Core.Logic.{◌≢◌, ⊎_elim}
-use Prim.Native.Nat.{ℕ, zero, suc, ◌+◌, ◌-◌, ◌^◌, ◌≤◌, ◌<◌, min}
+use Prim.Native.Nat.{ℕ, zero, suc, ◌+◌, ◌-◌, ◌≤◌, ◌<◌, min}
 use native.Mathlib.Decide.{ℕ_discrete}
 use native.Mathlib.Omega.{arith}
 use lib.Dec.{eqb}
 use lib.ListN.{length, get_or}
 use borrow.Author.Tests.{eq-eqb, ne_eqb}
-use Rattle.simulation.specs.Limits.{most_pairs, most_states}
+use Rattle.simulation.specs.Limits.{most_states}
 use Rattle.simulation.specs.Sum.{sum, when}
 use Rattle.word.specs.Mask.{Test, member, without_member, both, Lowest}
-use Rattle.relation.specs.Rows.{row_of, height}
+use Rattle.relation.specs.Rows.{row_of}
 use Rattle.word.proofs.Mask.{member-none, below_or_not}
 use Rattle.relation.specs.Related.{holds}
-use Rattle.matrix.specs.Matrix.{cell, delta, row_sum, column_sum, AddsAt, Adds}
-use Rattle.matrix.specs.Masks.{with_nonzero, MaskOf, Noted}
+use Rattle.matrix.specs.Matrix.{cell, delta, row_sum, column_sum, Adds}
+use Rattle.matrix.specs.Masks.{with_nonzero, MaskOf}
 use Rattle.matrix.specs.Flow.{Partial, FlowIn, ImprovedIn, Preserves}
 use Rattle.greedy.specs.Greedy.{Greedy, CellFilled, RowFilled}
 use Rattle.matrix.proofs.MatrixLaws.{delta-same, sum-next, row_same, column-same, row_sum-none, column-none, row_adds, adds_row, adds_column, adds_at-other}
 use Rattle.matrix.proofs.MaskedLaws.{neither, both_at, both_out, drop_at, drop-out, no_members, mask_put, used_adds}
-use Rattle.matrix.proofs.FlowLaws.{improves_refl, flow_now, improves-on, improved, cell_extends, cell-fits}
+use Rattle.matrix.proofs.FlowLaws.{improves_refl, flow_now, improves-on, improved, cell_extends}
 
 when-none : (c : Bool) (n : ℕ) → (c ≡ true → n ≡ 0) → when c n ≡ 0
 when-none true n h = h refl
@@ -183,7 +183,7 @@ module _ {i : ℕ} {rel : List ℕ} {F₀ F : Partial} {still left : ℕ} (s : U
 
     module _ {G : Partial} (lx : length G.amounts ≡ length F.amounts) (la : length G.supply ≡ length F.supply) (lb : length G.demand ≡ length F.demand)
         (lu : length G.senders ≡ length F.senders) (f : CellFilled i j F G) where
-      cell-on : ImprovedIn rel F₀ G
+      pub cell-on : ImprovedIn rel F₀ G
       cell-on = let k = s.improves in
           improves-on k (cell-improves (flow_now k) (omega (arith, k.same_a)) (omega (arith, column, k.same_b)) (s.filling.part j l.here).1 lx la lb lu f)
 

@@ -4,20 +4,19 @@ use mathlib.Core.Path.{◌≡◌, refl, sym, ap, ◌∙◌, subst}
 use mathlib.Core.List.{List, [], ◌∷◌}
 use Prim.Native.Nat.{ℕ, ◌+◌, ◌*◌, ◌≤◌, ◌<◌, ◌^◌}
 use native.Mathlib.Nat.{mul_comm, mul-le-mul_right, mul-le-mul_left}
-use native.Mathlib.Decide.{ℕ_discrete}
 use native.Mathlib.Omega.{arith}
-use lib.ListN.{length, get_or, set, replicate}
+use lib.ListN.{length, get_or}
 use Rattle.std.proofs.lemmas.List.Sums.{sum_by-cons}
 use Rattle.std.specs.Prelude.{sum as list_sum}
 use Rattle.simulation.specs.Limits.{most_states, most_total}
 use Rattle.simulation.specs.Fit.{weight, total}
 use Rattle.simulation.proofs.Finite.Sums.{sum_first, sum_mono, sum_mul, sum_term}
 use Rattle.relation.specs.Rows.{row_of, height}
-use Rattle.matrix.specs.Matrix.{cell, row_sum, column_sum}
+use Rattle.matrix.specs.Matrix.{row_sum, column_sum}
 use Rattle.matrix.specs.Problem.{Given}
 use Rattle.matrix.specs.Flow.{missing, Flow, Preserves}
-use Rattle.greedy.specs.Start.{Supplies, Cleared, Begun, Balanced}
-use Rattle.matrix.proofs.MatrixLaws.{row_sum-none, column-none, outside_refl}
+use Rattle.greedy.specs.Start.{Supplies, Begun, Balanced}
+use Rattle.matrix.proofs.MatrixLaws.{row_sum-none, column-none}
 use Rattle.matrix.proofs.MaskedLaws.{mask-zero}
 
 total_more : (w : ℕ) (ws : List ℕ) → total (w ∷ ws) ≡ w + total ws

@@ -1,7 +1,6 @@
 -- What the kernel starts from: supplies and demands, and zeros where the amounts go.
 -- Assumes nothing.
-use Rattle.std.specs.Prelude.{◌≡◌, List, ℕ, ◌+◌, ◌*◌, ◌≤◌, ◌<◌, length, get_or}
-use Rattle.simulation.specs.Limits.{most_states}
+use Rattle.std.specs.Prelude.{◌≡◌, List, ℕ, ◌+◌, ◌*◌, ◌<◌, length, get_or}
 use Rattle.simulation.specs.Fit.{weight, total}
 use Rattle.matrix.specs.Matrix.{cell, Outside, row_sum, column_sum}
 

@@ -27,7 +27,7 @@ pub growing_none : {rel : List ℕ} {F : Partial} {short free : ℕ} → FlowIn 
 growing_none f e = record { improves = improves_refl f; ends = e; chain = Augmented.none; bound = omega arith }
 
 module _ {rel : List ℕ} {F G : Partial} {n short free : ℕ} (g : Growing rel F G n short free) where
-  ends_now : EndsOf G (length G.supply) (length G.demand) short free
+  pub ends_now : EndsOf G (length G.supply) (length G.demand) short free
   ends_now = subst₂ (λ (p q : ℕ). EndsOf G p q short free) (sym g.improves.same_a) (sym g.improves.same_b) g.ends
 
   -- what a search asks, and then push

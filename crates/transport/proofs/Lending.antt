@@ -48,10 +48,10 @@ module _ {ws vs rel x₀ : List ℕ} {F : Partial} (s : StartOf ws vs rel x₀ F
   -- the greedy flow G
   module _ {G : Partial} {free : ℕ} (k : ImprovedIn rel F G × MaskOf (length F.demand) (λ j. get_or G.demand j 0) free
       × Greedy (length F.supply) (length F.demand) rel (λ i. get_or F.supply i 0) (λ j. get_or F.demand j 0) G.amounts) where
-    rows_left : length G.supply ≡ length ws
+    pub rows_left : length G.supply ≡ length ws
     rows_left = k.0.same_a ∙ s.rows
 
-    columns-left : length G.demand ≡ length vs
+    pub columns-left : length G.demand ≡ length vs
     columns-left = k.0.same_b ∙ s.columns
 
     filled : Better rel (length ws) (length vs) F G
