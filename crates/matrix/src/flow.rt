@@ -73,7 +73,8 @@ impl Flow<'_> {
         ensures same_lists { SameList self.old.amounts self.new.amounts × SameList self.old.senders self.new.senders }
         ensures same_left { (self.new.supply ≡ self.old.supply) × (self.new.demand ≡ self.old.demand) }
     {
-        self.amounts[i * Table::STATES + j] = v;
+        let at = i * Table::STATES + j;
+        self.amounts[at] = v;
         let column = self.column(j);
         rows::put(self.senders, j, marked(column, i, v));
     }
