@@ -2,6 +2,7 @@
 -- Assumes nothing.
 use Rattle.form.specs.declared.tables.Tables.{Tables}
 use Rattle.std.specs.Prelude.{◌≡◌, true, false, List, ℕ, ◌+◌, ◌≤◌, ◌<◌, T, length, get_or}
+use Rattle.std.specs.Borrow.{MutBor}
 use Rattle.simulation.specs.Limits.{most_states}
 use Rattle.simulation.specs.Complete.{lists}
 use Rattle.relation.specs.Rows.{height}
@@ -11,8 +12,8 @@ use Rattle.relation.specs.Related.{holds}
 use Rattle.simulation.specs.Table.{targets, states_of}
 use Rattle.form.specs.Tables.{first_form, second_form, second_table, first_step}
 use Rattle.fit.specs.Known.{TargetSets}
-use Rattle.links.specs.declared.Sets.{Sets}
-use Rattle.links.specs.declared.Marks.{Marks}
+use Rattle.links.specs.declared.lists.Sets.{Sets}
+use Rattle.links.specs.declared.lists.Marks.{Marks}
 
 -- the rows have no pair
 abbrev pub Empty : List ℕ → Type 0
@@ -49,9 +50,24 @@ pub record ContractLinked (tables : Tables) (behind : List ℕ) : Type 0 where
 
 -- the sets that are known before the rounds
 pub record SetsKnown (tables : Tables) (sets : Sets) : Type 0 where
-  pub first : Linked (first_form tables) sets.before
-  pub second : ContractLinked tables sets.behind
-  pub targets : TargetSets (second_form tables) sets.targets
+  pub first : Linked (first_form tables) sets.before.now
+  pub second : ContractLinked tables sets.behind.now
+  pub targets : TargetSets (second_form tables) sets.targets.now
+
+-- a list that was lent is still that list, and as long
+pub record Same (l k : MutBor (List ℕ)) : Type 0 where
+  pub name : k.ghost_name ≡ l.ghost_name
+  pub size : length k.now ≡ length l.now
+
+-- the same lists are lent, whatever they hold
+pub record SameSets (sets sets' : Sets) : Type 0 where
+  pub before : Same sets.before sets'.before
+  pub behind : Same sets.behind sets'.behind
+  pub targets : Same sets.targets sets'.targets
+
+pub record SameMarks (marks marks' : Marks) : Type 0 where
+  pub doubt : Same marks.doubt marks'.doubt
+  pub lost : Same marks.lost marks'.lost
 
 -- no pair of the first rows is missing in the second
 pub record RowsGrown (rows rows' : List ℕ) : Type 0 where
@@ -75,7 +91,7 @@ pub record DoubtsAdded (rows more : ℕ) (doubt doubt' : List ℕ) : Type 0 wher
 
 -- a pair is in doubt, and its row doubtful, if a lost pair lies one transition behind it; a doubtful row is a state before some other; no pair is lost any more
 pub record Doubted (sets : Sets) (doubtful : ℕ) (marks marks' : Marks) : Type 0 where
-  pub raised : (a s u t : ℕ) → holds sets.before a s ≡ true → holds marks.lost a u ≡ true → holds sets.behind u t ≡ true
-      → (member doubtful s ≡ true) × (holds marks'.doubt s t ≡ true)
-  pub within : (n : ℕ) → RowsBelow n sets.before → (s : ℕ) → member doubtful s ≡ true → s < n
-  pub empty : Empty marks'.lost
+  pub raised : (a s u t : ℕ) → holds sets.before.now a s ≡ true → holds marks.lost.now a u ≡ true → holds sets.behind.now u t ≡ true
+      → (member doubtful s ≡ true) × (holds marks'.doubt.now s t ≡ true)
+  pub within : (n : ℕ) → RowsBelow n sets.before.now → (s : ℕ) → member doubtful s ≡ true → s < n
+  pub empty : Empty marks'.lost.now

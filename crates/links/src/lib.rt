@@ -1,6 +1,8 @@
 // Which states lead to which, and the doubts that lost pairs raise.
 #![tactic(auto)]
 
+mod lists;
+
 ghost use Rattle.std.specs.Prelude.{◌≡◌, true, false, ℕ, ◌<◌, ◌≤◌, T, length, get_or};
 ghost use Rattle.simulation.specs.Limits.{most_states};
 ghost use Rattle.simulation.specs.Table.{states_of};
@@ -12,33 +14,13 @@ ghost use Rattle.relation.specs.Related.{holds};
 ghost use Rattle.form.specs.Form.{transitions_of, table_of};
 ghost use Rattle.form.specs.Tables.{first_form, second_table, first_step, BothLoaded};
 ghost use Rattle.gather.specs.Places.{Places};
-ghost use Rattle.links.specs.Links.{Empty, Linked, ListedBefore, Looped, ContractLinked, SetsKnown, Covered, StateLinks, Joins, DoubtsAdded, Doubted};
+ghost use Rattle.links.specs.Links.{Empty, Linked, ListedBefore, Looped, ContractLinked, SetsKnown, SameSets, SameMarks, Covered, StateLinks, Joins, DoubtsAdded, Doubted};
 
 use form::{Form, Tables};
-use relation::{Relation, rows};
+pub use lists::{Marks, Sets};
+use relation::rows;
 use set::Set;
-use simulation::Table;
 use word::Word;
-
-// Sets that are known before the rounds: the states that lead to each state of the first table, and of the contract, and the targets of
-// each transition of the second.
-#[derive(Drop)]
-pub struct Sets {
-    pub before: [Word; Relation::WORDS],
-    pub behind: [Word; Relation::WORDS],
-    pub targets: [Word; Sets::TARGETS],
-}
-
-impl Sets {
-    pub const TARGETS: usize = Table::TRANSITIONS * Set::WORDS;
-}
-
-// Sets that a round changes beside the pairs that are left, a row to a state of the first table: the pairs in doubt, and those lost.
-#[derive(Drop)]
-pub struct Marks {
-    pub doubt: [Word; Relation::WORDS],
-    pub lost: [Word; Relation::WORDS],
-}
 
 // The state s comes before t.
 fn join(before: &mut [Word], t: usize, s: usize)
@@ -131,21 +113,21 @@ fn link_contract(tables: &Tables, behind: &mut [Word])
 
 // All sets that are known before the rounds. Those of states are empty at first.
 pub fn fill_sets(tables: &Tables, sets: &mut Sets)
-    requires { BothLoaded tables.now × Empty sets.old.before × Empty sets.old.behind }
-    ensures { SetsKnown tables.now sets.new }
+    requires { BothLoaded tables.now × Empty sets.old.before.now × Empty sets.old.behind.now }
+    ensures { SetsKnown tables.now sets.new × SameSets sets.old sets.new }
 {
-    link(&tables.first, &mut sets.before);
-    link_contract(tables, &mut sets.behind);
-    fit::target_sets(tables, &mut sets.targets);
+    link(&tables.first, sets.before);
+    link_contract(tables, sets.behind);
+    fit::target_sets(tables, sets.targets);
 }
 
 // The states behind a member of the set, in the contract.
 fn behind_all(set: Set, sets: &Sets) -> Set
-    ensures { (u t : ℕ) → member (mask set) u ≡ true → holds sets.now.behind u t ≡ true → member (mask result) t ≡ true }
+    ensures { (u t : ℕ) → member (mask set) u ≡ true → holds sets.now.behind.now u t ≡ true → member (mask result) t ≡ true }
 {
     let mut r = Set::empty();
     for u in set {
-        r = r.union(rows::get(&sets.behind, u));
+        r = r.union(rows::get(sets.behind, u));
     }
     r
 }
@@ -163,15 +145,16 @@ fn add_doubts(set: Set, more: Set, doubt: &mut [Word])
 // The pairs that may fall next: those with a lost pair one transition behind them. The lost pairs are forgotten.
 // Returns the rows that have such a pair.
 pub fn doubts(marks: &mut Marks, fell: Set, sets: &Sets) -> Set
-    requires { Covered (mask fell) marks.old.lost }
-    ensures { Doubted sets.now (mask result) marks.old marks.new }
+    requires { Covered (mask fell) marks.old.lost.now }
+    ensures { Doubted sets.now (mask result) marks.old marks.new × SameMarks marks.old marks.new }
 {
     let mut doubtful = Set::empty();
     for u in fell {
-        let sources = rows::get(&sets.before, u);
-        let lost = rows::get(&marks.lost, u);
-        add_doubts(sources, behind_all(lost, sets), &mut marks.doubt);
-        rows::put(&mut marks.lost, u, Set::empty());
+        let sources = rows::get(sets.before, u);
+        let lost = &mut *marks.lost;
+        let pairs = rows::get(lost, u);
+        add_doubts(sources, behind_all(pairs, sets), marks.doubt);
+        rows::put(lost, u, Set::empty());
         doubtful = doubtful.union(sources);
     }
     doubtful

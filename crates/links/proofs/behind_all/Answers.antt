@@ -11,11 +11,11 @@ use Rattle.links.proofs.behind_all.Goals as goal
 
 pub loop-u-init : goal.loop-u-init
 loop-u-init c =
-    passed_none c.args.set (Taken c.args.sets.now.behind (mask c.empty-r.result)) _ c.into_iter-u-iterator.ensures.into_iter_gives
+    passed_none c.args.set (Taken c.args.sets.now.behind.now (mask c.empty-r.result)) _ c.into_iter-u-iterator.ensures.into_iter_gives
 
 pub loop-u-preserved : goal.loop-u-preserved
 loop-u-preserved c =
-    let behind = c.args.sets.now.behind in
+    let behind = c.args.sets.now.behind.now in
     let i = c.loop-u in
     let s = c.in-Some.ensures.steps in
     let u = c.in-Some.u in
@@ -29,4 +29,4 @@ pub returns : goal.returns
 returns c =
     let a = c.args in
     let o = c.loop-u in
-    λ u t x y. passed-all a.set (Taken a.sets.now.behind (mask o.r)) _ c.in-None.ensures.steps.0 o.invariant u x t y
+    λ u t x y. passed-all a.set (Taken a.sets.now.behind.now (mask o.r)) _ c.in-None.ensures.steps.0 o.invariant u x t y

@@ -14,4 +14,4 @@ abbrev pub Taken : (rows : List ℕ) (r u : ℕ) → Type 0
 Taken rows r u = (t : ℕ) → holds rows u t ≡ true → member r t ≡ true
 
 abbrev pub invariant-loop-u : goal.invariant-loop-u
-invariant-loop-u l = EachPassed l.fn.set (mask l.u-iterator.left) (Taken l.sets.behind (mask l.r))
+invariant-loop-u l = EachPassed l.fn.set (mask l.u-iterator.left) (Taken l.sets.behind.now (mask l.r))
