@@ -28,7 +28,7 @@ use Rattle.decision.specs.Fitting.{held, relation_of}
 use Rattle.fit.specs.Held.{matched}
 use Rattle.dropping.specs.Falling.{falls, Doubtless, Judged, Fallen, StatesOnly, Falling, DoubtsKnown}
 use Rattle.dropping.specs.Dropping.{Dropping}
-use Rattle.links.specs.declared.Marks.{Marks}
+use Rattle.links.specs.declared.lists.Marks.{Marks}
 use Rattle.links.specs.Links.{Empty}
 use Rattle.links.proofs.Walks.{left_self, left_other, left-member}
 
@@ -186,19 +186,19 @@ finding_end {M} {N} {R} {waits} {fell} {lost} e h =
 -- the rows of `left` wait, with what is in doubt of each
 pub record Waiting (tables : Tables) (rows : List ℕ) (left : ℕ) (marks : Marks) (fell : ℕ) : Type 0 where
   pub waits : (s : ℕ) → member left s ≡ true
-      → (s < states_of (first_table tables)) × Doubtless (first_table tables) (contract_table tables) (relation_of tables rows) s (holds marks.doubt s)
-  pub found : Finding (first_table tables) (contract_table tables) (relation_of tables rows) (member left) marks.lost fell
+      → (s < states_of (first_table tables)) × Doubtless (first_table tables) (contract_table tables) (relation_of tables rows) s (holds marks.doubt.now s)
+  pub found : Finding (first_table tables) (contract_table tables) (relation_of tables rows) (member left) marks.lost.now fell
 
 -- at first the rows with a pair in doubt wait, and in no other a pair falls
 pub waiting_start : {tables : Tables} {sets rows : List ℕ} {marks : Marks} {doubtful fell : ℕ} → fell ≡ 0 → Dropping tables sets rows marks doubtful → Waiting tables rows doubtful marks fell
 unfolding survives
 waiting_start {tables} {sets} {rows} {marks} {doubtful} none d =
     record {
-      waits = λ s m. (ready.states s m, λ t o h. ready.sure s (ready.states s m) t (ap (λ (b : Bool). b && holds marks.doubt s t) m ∙ o) h);
+      waits = λ s m. (ready.states s m, λ t o h. ready.sure s (ready.states s m) t (ap (λ (b : Bool). b && holds marks.doubt.now s t) m ∙ o) h);
       found = finding_start none d.none_lost kept;
     }
   where
-    ready : DoubtsKnown (first_table tables) (contract_table tables) rows doubtful marks.doubt
+    ready : DoubtsKnown (first_table tables) (contract_table tables) rows doubtful marks.doubt.now
     ready = d.ready
 
     kept : (s t : ℕ) → s < states_of (first_table tables) → member doubtful s ≡ false → T (falls (first_table tables) (contract_table tables) (relation_of tables rows) s t) → ⊥
@@ -207,11 +207,11 @@ waiting_start {tables} {sets} {rows} {marks} {doubtful} none d =
         let lives = survives (first_table tables) (contract_table tables) R s t in
         let x : T (related R s t) = and_left (related R s t) (not lives) h in
         T_not lives (and_right (related R s t) (not lives) h)
-        (and_both (related R s t) (matched (first_table tables) (contract_table tables) R s t) x (ready.sure s a t (ap (λ (b : Bool). b && holds marks.doubt s t) m) x))
+        (and_both (related R s t) (matched (first_table tables) (contract_table tables) R s t) x (ready.sure s a t (ap (λ (b : Bool). b && holds marks.doubt.now s t) m) x))
 
 -- one row more is judged: its doubts are settled, and the pairs that fall are lost
-pub waiting_next : {tables : Tables} {rows : List ℕ} {marks marks' : Marks} {left rest s fell : ℕ} (z row fell' : Set) → s < height marks.lost
-    → marks'.doubt ≡ put_row marks.doubt s z → marks'.lost ≡ put_row marks.lost s row
+pub waiting_next : {tables : Tables} {rows : List ℕ} {marks marks' : Marks} {left rest s fell : ℕ} (z row fell' : Set) → s < height marks.lost.now
+    → marks'.doubt.now ≡ put_row marks.doubt.now s z → marks'.lost.now ≡ put_row marks.lost.now s row
     → member left s ≡ true → member rest ≡ without_member s (member left) → member (mask row) ≡ falls (first_table tables) (contract_table tables) (relation_of tables rows) s
     → Judged (eqb (mask row) 0) s fell (mask fell') → Waiting tables rows left marks fell → Waiting tables rows rest marks' (mask fell')
 waiting_next {tables} {rows} {marks} {marks'} {left} {rest} {s} {fell} z row fell' room p q has e d judged h =
@@ -223,13 +223,13 @@ waiting_next {tables} {rows} {marks} {marks'} {left} {rest} {s} {fell} z row fel
     }
   where
     wait : (u : ℕ) → member rest u ≡ true → Dec (u ≡ s)
-        → (u < states_of (first_table tables)) × Doubtless (first_table tables) (contract_table tables) (relation_of tables rows) u (holds marks'.doubt u)
+        → (u < states_of (first_table tables)) × Doubtless (first_table tables) (contract_table tables) (relation_of tables rows) u (holds marks'.doubt.now u)
     wait u m (yes c) = absurd (true≢false (sym m ∙ ap (member rest) c ∙ left_self left rest s e))
     wait u m (no c) =
         subst (λ (x : ℕ). (u < states_of (first_table tables)) × Doubtless (first_table tables) (contract_table tables) (relation_of tables rows) u (member x))
-        (sym (ap (λ l. row_of l u) p ∙ row_put_other marks.doubt s u z c)) (h.waits u (sym (left_other left rest s e u c) ∙ m))
+        (sym (ap (λ l. row_of l u) p ∙ row_put_other marks.doubt.now s u z c)) (h.waits u (sym (left_other left rest s e u c) ∙ m))
 
 -- no row waits
 pub waiting_end : {tables : Tables} {rows : List ℕ} {marks : Marks} {left fell : ℕ} → left ≡ 0 → Waiting tables rows left marks fell
-    → Fallen (first_table tables) (contract_table tables) (relation_of tables rows) marks.lost fell
+    → Fallen (first_table tables) (contract_table tables) (relation_of tables rows) marks.lost.now fell
 waiting_end e h = finding_end (λ s _. ap (λ (n : ℕ). member n s) e ∙ member-none s) h.found

@@ -13,7 +13,7 @@ ghost use Rattle.form.specs.Tables.{first_form, first_table, contract_table, Bot
 ghost use Rattle.decision.specs.Fitting.{relation_of};
 ghost use Rattle.fit.specs.Held.{fits_listed, answered};
 ghost use Rattle.fit.specs.Known.{Lent, Tried};
-ghost use Rattle.links.specs.Links.{Empty};
+ghost use Rattle.links.specs.Links.{Empty, SameMarks};
 ghost use Rattle.dropping.specs.Falling.{falls, Doubtless, Judged, StatesOnly, Fallen};
 ghost use Rattle.dropping.specs.Dropping.{Dropping, Dropped};
 
@@ -126,15 +126,16 @@ pub fn drop_rows(
 ) -> Set
     requires { BothLoaded tables.now × Dropping tables.now sets.now rows.now marks.old (mask doubtful)
         × Tried tables.now rows.now tried.old × (most_pairs ≤ length amounts.old) }
-    ensures { Dropped tables.now rows.now marks.new tried.new (mask result) }
+    ensures { Dropped tables.now rows.now marks.new tried.new (mask result) × SameMarks marks.old marks.new }
 {
     let pairs = Pairs { tables, sets, rows };
     let mut fell = Set::empty();
     for s in doubtful {
-        let doubt = rows::get(&marks.doubt, s);
+        let doubts = &mut *marks.doubt;
+        let doubt = rows::get(doubts, s);
         let row = pairs.drop_row(s, doubt, tried, amounts);
-        rows::put(&mut marks.doubt, s, Set::empty());
-        rows::put(&mut marks.lost, s, row);
+        rows::put(doubts, s, Set::empty());
+        rows::put(marks.lost, s, row);
         fell = with_row(fell, s, row);
     }
     fell
@@ -142,15 +143,16 @@ pub fn drop_rows(
 
 // The first round: all pairs are related, so that transitions with the same code fit. Returns the rows that lose a pair.
 pub fn first_round(tables: &Tables, marks: &mut Marks) -> Set
-    requires { BothLoaded tables.now × Empty marks.old.lost }
+    requires { BothLoaded tables.now × Empty marks.old.lost.now }
     ensures { Fallen (first_table tables.now) (contract_table tables.now)
-        (round (first_table tables.now) (contract_table tables.now) 0) marks.new.lost (mask result) }
+        (round (first_table tables.now) (contract_table tables.now) 0) marks.new.lost.now (mask result)
+        × SameMarks marks.old marks.new }
 {
     let p = tables.first.states();
     let mut fell = Set::empty();
     for s in 0..p {
         let row = lacking::lacking_one(tables, s);
-        rows::put(&mut marks.lost, s, row);
+        rows::put(marks.lost, s, row);
         fell = with_row(fell, s, row);
     }
     fell

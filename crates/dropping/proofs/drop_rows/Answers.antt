@@ -1,5 +1,5 @@
 -- `dropping::drop_rows` meets its contract: the rows that are not left are judged. Assumes nothing.
-use mathlib.Core.Path.{sym, subst}
+use mathlib.Core.Path.{refl, sym, subst}
 use Prim.Native.Nat.{ℕ}
 use native.Mathlib.Omega.{arith}
 use Rattle.word.specs.Mask.{member}
@@ -8,6 +8,7 @@ use Rattle.set.proofs.Walks.{begun}
 use Rattle.form.specs.Tables.{first_table, contract_table}
 use Rattle.decision.specs.Fitting.{relation_of}
 use Rattle.dropping.specs.Falling.{Doubtless}
+use Rattle.links.proofs.Doubting.{same_marks_refl, same_marks_more}
 use Rattle.dropping.proofs.Dropping.{Waiting, waiting_start, waiting_next, waiting_end}
 use Rattle.dropping.proofs.drop_rows.Goals as goal
 use Rattle.dropping.proofs.drop_rows.Goals.{In-Some}
@@ -18,6 +19,7 @@ loop-s-init c =
       begun (λ n. Waiting a.tables.now a.rows.now n a.marks.now (mask c.empty-fell.result)) c.into_iter-s-iterator.ensures.into_iter_gives
           (waiting_start c.empty-fell.ensures c.requires.1),
       c.requires.2,
+      same_marks_refl,
     )
 
 pub drop_row-row-requires : goal.drop_row-row-requires
@@ -48,7 +50,11 @@ loop-s-preserved c =
       waiting_next c.empty.result c.drop_row-row.result c.with_row-fell.result (omega (arith, s.state)) c.put.ensures c.put-in-loop-s.ensures
           s.lowest.here s.left c.drop_row-row.ensures.0 c.with_row-fell.ensures c.loop-s.invariant.0,
       c.drop_row-row.ensures.1,
+      same_marks_more c.loop-s.invariant.2
+          (record { doubt = record { name = refl; size = omega arith }; lost = record { name = refl; size = omega arith } }),
     )
 
 pub returns : goal.returns
-returns c = record { fallen = waiting_end c.in-None.ensures.steps.0 c.loop-s.invariant.0; known = c.loop-s.invariant.1 }
+returns c =
+    let i = c.loop-s.invariant in
+    (record { fallen = waiting_end c.in-None.ensures.steps.0 i.0; known = i.1 }, i.2)
