@@ -29,7 +29,7 @@ use Rattle.relation.specs.Related.{holds}
 use Rattle.decision.specs.Fitting.{held}
 use Rattle.fit.specs.Held.{matched}
 use Rattle.relation.specs.Rows.{row_of}
-use Rattle.links.specs.declared.Marks.{Marks}
+use Rattle.links.specs.declared.lists.Marks.{Marks}
 use Rattle.links.specs.Links.{Linked, ContractLinked, Doubted}
 use Rattle.dropping.specs.Falling.{StatesOnly, DoubtsKnown, Fallen}
 use Rattle.rounds.specs.Rounds.{Placed, After, Settled}
@@ -116,7 +116,7 @@ pub ended : {W W' : Work} {k fell : ℕ} (old : List ℕ) → Kept W W' → Turn
     → Refined (first_table W.tables.now) (contract_table W.tables.now) old W'.ranks.now W'.rows.now k
 ended {W} {W'} {k} {fell} old kept turning none beyond =
     refined
-    (subst (λ (t : Bor Tables). Standing (first_table t.now) (contract_table t.now) k W'.rows.now W'.ranks.now W'.marks.now.lost fell) kept.tables turning.standing)
+    (subst (λ (t : Bor Tables). Standing (first_table t.now) (contract_table t.now) k W'.rows.now W'.ranks.now W'.marks.now.lost.now fell) kept.tables turning.standing)
     old none beyond
 
 -- the state s comes before each target of its transitions, by places
@@ -161,7 +161,7 @@ module _ (tables : Tables) (behind : List ℕ) (loaded : BothLoaded tables) (lin
 -- a pair that is not in doubt has lost no pair behind it, so it stays matched
 pub sure : {W : Work} {k fell doubtful : ℕ} {rows' ranks' : List ℕ} {marks' : Marks} → Turning W k fell
     → After (first_table W.tables.now) (contract_table W.tables.now) (k + 1) rows' ranks' → Doubted W.sets.now doubtful W.marks.now marks'
-    → DoubtsKnown (first_table W.tables.now) (contract_table W.tables.now) rows' doubtful marks'.doubt
+    → DoubtsKnown (first_table W.tables.now) (contract_table W.tables.now) rows' doubtful marks'.doubt.now
 sure {W} {k} {fell} {doubtful} {rows'} {ranks'} {marks'} h later doubted =
     record {
       columns = round-columns later;
@@ -188,7 +188,7 @@ sure {W} {k} {fell} {doubtful} {rows'} {ranks'} {marks'} h later doubted =
     next : After (first_table tables) (contract_table tables) (suc k) rows' ranks'
     next = subst (λ (n : ℕ). After (first_table tables) (contract_table tables) n rows' ranks') (add-one k) later
 
-    alike : (s t : ℕ) → s < states_of (first_table tables) → (member doubtful s && holds marks'.doubt s t) ≡ false → (c d : ℕ) → c < length (steps (first_table tables) s)
+    alike : (s t : ℕ) → s < states_of (first_table tables) → (member doubtful s && holds marks'.doubt.now s t) ≡ false → (c d : ℕ) → c < length (steps (first_table tables) s)
         → d < length (steps (contract_table tables) t) → (transition (first_table tables) s c).code ≡ (transition (contract_table tables) t d).code
         → Alike before now (transition (first_table tables) s c) (transition (contract_table tables) t d)
     alike s t a out c d u v e i j w z =
@@ -197,9 +197,9 @@ sure {W} {k} {fell} {doubtful} {rows'} {ranks'} {marks'} h later doubted =
         let x = target_at (transition (table_of f) s c) i in
         let y = target_at (transition K t d) j in
         same_test (related before x y) (related now x y)
-        (λ q. kept_unless (table_of f) K k W.rows.now W.ranks.now h.standing.after W.marks.now.lost h.standing.next.exact x y q
+        (λ q. kept_unless (table_of f) K k W.rows.now W.ranks.now h.standing.after W.marks.now.lost.now h.standing.next.exact x y q
         (λ m.
-        let r = doubted.raised x s y t (link_at f W.sets.now.before p.loaded.first p.sets_known.first s c i a u w) (is_true (holds W.marks.now.lost x y) m)
-        (behind_at tables W.sets.now.behind p.loaded p.sets_known.second s c u t d j v e z) in
+        let r = doubted.raised x s y t (link_at f W.sets.now.before.now p.loaded.first p.sets_known.first s c i a u w) (is_true (holds W.marks.now.lost.now x y) m)
+        (behind_at tables W.sets.now.behind.now p.loaded p.sets_known.second s c u t d j v e z) in
         true≢false (sym (ap₂ ◌&&◌ r.0 r.1) ∙ out)))
         (round-falls (table_of f) K k x y)

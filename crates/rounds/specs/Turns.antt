@@ -32,12 +32,12 @@ pub record Prepared (W : Work) : Type 0 where
 pub record Starting (W : Work) : Type 0 where
   pub prepared : Prepared W
   pub after : After (first_table W.tables.now) (contract_table W.tables.now) 0 W.rows.now W.ranks.now
-  pub none_lost : Empty W.marks.now.lost
+  pub none_lost : Empty W.marks.now.lost.now
 
 -- between round k and the next, with all that they need
 pub record Turning (W : Work) (k fell : ℕ) : Type 0 where
   pub prepared : Prepared W
-  pub standing : Standing (first_table W.tables.now) (contract_table W.tables.now) k W.rows.now W.ranks.now W.marks.now.lost fell
+  pub standing : Standing (first_table W.tables.now) (contract_table W.tables.now) k W.rows.now W.ranks.now W.marks.now.lost.now fell
 
 -- the same tables, sets, ranks and rows are at work, though other ranks and pairs may stand in them
 pub record Kept (W W' : Work) : Type 0 where

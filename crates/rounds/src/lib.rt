@@ -29,13 +29,13 @@ fn mark_row(ranks: &mut [u16], set: Set, base: usize, k: u16)
 }
 
 // The lost pairs, in the rows of a set, leave the rows, and k is their rank, with q ranks to a row.
-fn settle(ranks: &mut [u16], rows: &mut [Word], lost: &[Word], fell: Set, q: usize, k: u16)
-    requires { (most_states ≤ height rows.old) × (most_states ≤ height lost.now) × (q ≤ most_states) × Covered (mask fell) lost.now
-        × Placed q (length ranks.old) lost.now }
-    ensures { Settled q k (holds lost.now) rows.old rows.new ranks.old ranks.new }
+fn settle(ranks: &mut [u16], rows: &mut [Word], marks: &Marks, fell: Set, q: usize, k: u16)
+    requires { (most_states ≤ height rows.old) × (q ≤ most_states) × Covered (mask fell) marks.now.lost.now
+        × Placed q (length ranks.old) marks.now.lost.now }
+    ensures { Settled q k (holds marks.now.lost.now) rows.old rows.new ranks.old ranks.new }
 {
     for s in fell {
-        let row = rows::get(lost, s);
+        let row = rows::get(marks.lost, s);
         mark_row(ranks, row, s * q, k);
         rows::put(rows, s, rows::get(rows, s).difference(row));
     }
@@ -51,17 +51,17 @@ pub struct Round {
 // What the rounds work with: two tables, a rank for each pair, the sets that are known, the pairs that are left, those in doubt and lost,
 // what was tried, and room for a flow.
 #[derive(Drop)]
-pub struct Work<'a> {
+pub struct Work<'a, 'b> {
     pub tables: &'a Tables<'a>,
     pub ranks: &'a mut [u16],
-    pub sets: &'a Sets,
+    pub sets: &'a Sets<'a>,
     pub rows: &'a mut [Word],
-    pub marks: &'a mut Marks,
+    pub marks: &'a mut Marks<'b>,
     pub tried: &'a mut [u8],
     pub amounts: &'a mut [u32],
 }
 
-impl Work<'_> {
+impl Work<'_, '_> {
     // One round: the lost pairs get its number as their rank, and the next are found.
     fn turn(&mut self, last: Round) -> Round
         requires { Turning self.old last.count (mask last.fell) × (mask last.fell ≢ 0) }
@@ -70,12 +70,13 @@ impl Work<'_> {
         let count = last.count + 1;
         let fell = last.fell;
         let rows = &mut *self.rows;
+        let sets = self.sets;
         let q = self.tables.width();
-        settle(self.ranks, rows, &self.marks.lost, fell, q, count);
-        let doubtful = links::doubts(self.marks, fell, self.sets);
+        settle(self.ranks, rows, self.marks, fell, q, count);
+        let doubtful = links::doubts(self.marks, fell, sets);
         let next = dropping::drop_rows(
             self.tables,
-            &self.sets.targets,
+            sets.targets,
             rows,
             self.marks,
             doubtful,

@@ -19,18 +19,18 @@ use Rattle.rounds.proofs.settle.Goals.{In-Some}
 pub loop-s-init : goal.loop-s-init
 loop-s-init c =
     let a = c.args in
-    let lost = a.lost.now in
+    let lost = a.marks.now.lost.now in
     begun (λ n. Settled a.q a.k (passed lost n) a.rows.now a.rows.now a.ranks.now a.ranks.now) c.into_iter-s-iterator.ensures.into_iter_gives
-    (settled_none lost (mask a.fell) c.requires.3)
+    (settled_none lost (mask a.fell) c.requires.2)
 
 pub overflow_mul-s : goal.overflow_mul-s
 overflow_mul-s c =
     let m : c.in-Some.s * c.args.q ≤ most_states * c.args.q = mul-le-mul_right c.args.q (omega (arith, c.in-Some.ensures.steps.state)) in
-    omega (arith, m, c.requires.2)
+    omega (arith, m, c.requires.1)
 
 pub mark_row-requires : goal.mark_row-requires
 mark_row-requires c =
-    λ t m. omega (arith, (c.requires.4 c.in-Some.s t (ap (λ (n : ℕ). member n t) (sym c.get-row.ensures) ∙ m)).1)
+    λ t m. omega (arith, (c.requires.3 c.in-Some.s t (ap (λ (n : ℕ). member n t) (sym c.get-row.ensures) ∙ m)).1)
 
 -- the row of the lowest member
 row_room : (c : In-Some) → c.in-Some.s < height c.loop-s.rows
@@ -49,14 +49,14 @@ loop-s-preserved c =
     let i = c.loop-s in
     let s = c.in-Some.s in
     let step = c.in-Some.ensures.steps in
-    let lost = a.lost.now in
+    let lost = a.marks.now.lost.now in
     let ranks = c.mark_row.new.ranks in
     let row = c.get-row.ensures in
     let e = except_of c.get.ensures (member (mask c.get-row.result)) x.ensures ∙ ap (λ (n : ℕ). except (member (row_of i.rows s)) (member n)) row in
     let n = subst (λ (n : ℕ). (i' : ℕ) → get_or ranks i' 0 ≡ marked (member n) (s * a.q) a.k i.ranks i') row c.mark_row.ensures in
     subst (λ (l : List ℕ). Settled a.q a.k (passed lost (mask c.next.new.self.left)) a.rows.now l a.ranks.now ranks) (sym c.put.ensures)
     (settled_next lost (mask i.s-iterator.left) _ ranks x.result (row_room (goal.at.loop-s-preserved c).In-Some) step.lowest.here
-    step.left (λ t y. (c.requires.4 s t y).0) n e i.invariant)
+    step.left (λ t y. (c.requires.3 s t y).0) n e i.invariant)
 
 pub returns : goal.returns
-returns c = settled_all c.args.lost.now _ c.in-None.ensures.steps.0 c.loop-s.invariant
+returns c = settled_all c.args.marks.now.lost.now _ c.in-None.ensures.steps.0 c.loop-s.invariant

@@ -22,7 +22,7 @@ loop-self-init c =
           amounts_room = p.amounts_room;
           known = p.known;
         };
-        standing = stands_first c.requires.after c.first_round-fell.ensures;
+        standing = stands_first c.requires.after c.first_round-fell.ensures.0;
       },
       λ i a. refl,
     )

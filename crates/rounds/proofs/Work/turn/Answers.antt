@@ -19,7 +19,6 @@ settle-requires c =
     let t = c.requires.0 in
     let e = c.width-q.ensures in (
       t.prepared.rows_room,
-      omega arith,
       omega (arith, e, contract-few c.args.self.now.tables.now t.prepared.loaded),
       (λ s u m. (t.standing.next.within s u m).1),
       lost_places t.standing e t.prepared.ranks_room,
@@ -35,7 +34,7 @@ drop_rows-next-requires c =
     let t = c.requires.0 in
     let p = t.prepared in
     let tables = c.args.self.now.tables.now in
-    let w = c.doubts-doubtful.ensures in (
+    let w = c.doubts-doubtful.ensures.0 in (
       p.loaded,
       record {
         target_sets = p.sets_known.targets;
@@ -62,9 +61,9 @@ returns c =
             sets_known = p.sets_known;
             rows_room = omega (arith, p.rows_room);
             amounts_room = omega (arith, p.amounts_room);
-            known = c.drop_rows-next.ensures.known;
+            known = c.drop_rows-next.ensures.0.known;
           };
-          standing = record { after = moved t.standing c.requires.1 e c.settle.ensures; next = c.drop_rows-next.ensures.fallen };
+          standing = record { after = moved t.standing c.requires.1 e c.settle.ensures; next = c.drop_rows-next.ensures.0.fallen };
         };
         beyond = past t.standing e c.settle.ensures;
       },
