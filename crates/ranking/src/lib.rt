@@ -61,13 +61,13 @@ fn fill_ranks(
         ranks.old ranks.new rows.new result }
 {
     let mut sets = Sets {
-        before: [0; Relation::WORDS],
-        behind: [0; Relation::WORDS],
-        targets: [0; Sets::TARGETS],
+        before: &mut [0; Relation::WORDS],
+        behind: &mut [0; Relation::WORDS],
+        targets: &mut [0; Sets::TARGETS],
     };
     let mut marks = Marks {
-        doubt: [0; Relation::WORDS],
-        lost: [0; Relation::WORDS],
+        doubt: &mut [0; Relation::WORDS],
+        lost: &mut [0; Relation::WORDS],
     };
     let p = tables.first.states();
     let q = tables.width();
