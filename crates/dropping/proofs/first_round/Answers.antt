@@ -42,13 +42,14 @@ loop-s-preserved c =
     let tables = c.args.tables.now in
     let r = c.lacking_one-row in
     let s = c.loop-s.s in
-    let a : s < states_of (first_table tables) = omega (arith, c.states-p.ensures) in
-    (subst (λ l. Finding (first_table tables) (contract_table tables) (round (first_table tables) (contract_table tables) 0) (leb (s + 1)) l (mask c.with_row-fell.result))
-    (sym c.put.ensures)
-    (finding_next r.result c.with_row-fell.result a (omega (arith, few (goal.at.loop-s-preserved c).In-loop-s)) (from_next s)
-    (r.ensures ∙ first-falls (first_table tables) (contract_table tables) (sound (first_form tables) c.requires.0.first) (contract_sound tables c.requires.0) s a)
-    c.with_row-fell.ensures c.loop-s.invariant.0),
-    same_marks_more c.loop-s.invariant.1 (record { doubt = same_refl; lost = record { name = refl; size = omega arith } }))
+    let a : s < states_of (first_table tables) = omega (arith, c.states-p.ensures) in (
+      subst (λ l. Finding (first_table tables) (contract_table tables) (round (first_table tables) (contract_table tables) 0) (leb (s + 1)) l (mask c.with_row-fell.result))
+          (sym c.put.ensures)
+          (finding_next r.result c.with_row-fell.result a (omega (arith, few (goal.at.loop-s-preserved c).In-loop-s)) (from_next s)
+          (r.ensures ∙ first-falls (first_table tables) (contract_table tables) (sound (first_form tables) c.requires.0.first) (contract_sound tables c.requires.0) s a)
+          c.with_row-fell.ensures c.loop-s.invariant.0),
+      same_marks_more c.loop-s.invariant.1 (record { doubt = same_refl; lost = record { name = refl; size = omega arith } }),
+    )
 
 pub returns : goal.returns
 returns c = (finding_end (λ s a. lt-leb c.loop-s.s s (omega (arith, c.states-p.ensures))) c.loop-s.invariant.0, c.loop-s.invariant.1)
