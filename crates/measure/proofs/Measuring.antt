@@ -13,7 +13,7 @@ use native.Mathlib.Decide.{ℕ_discrete}
 use lib.Dec.{T, eqb, eqb→eq, ltb, ltb→lt, lt→ltb}
 use lib.ListN.{length, get_or, set, take, length-set, length-append}
 use lib.Seq.{get_or-set_same, get_or-set_other, get_or-take, length-take-le, get_or-append_seam, take-append_seam, take-length, take-take}
-use Rattle.simulation.specs.Limits.{most_states}
+use Rattle.simulation.specs.Limits.{most_states, most_pairs}
 use Rattle.simulation.specs.Sum.{sum, any, when}
 use Rattle.simulation.specs.Table.{Table, targets, target_at, states_of}
 use Rattle.simulation.specs.Round.{pairs}
@@ -24,7 +24,7 @@ use Rattle.simulation.proofs.Finite.Tests.{and_left, and_right, and_both, same_e
 use Rattle.simulation.proofs.Trees.Length.{pair_length-step}
 use Rattle.form.specs.Tables.{first_form, first_table, contract_table, first_step, BothLoaded}
 use Rattle.form.proofs.FormLaws.{sound}
-use Rattle.form.proofs.Contract.{contract-few}
+use Rattle.form.proofs.Contract.{contract-few, contract-pairs}
 use Rattle.word.specs.Mask.{Test, member}
 use Rattle.relation.specs.Rows.{row_of}
 use Rattle.relate.specs.Ranked.{RanksRight}
@@ -238,8 +238,8 @@ module _ {tables : Tables} {ranks order : List ℕ} {n : ℕ} {lengths₀ sets�
     pub pair_noted : (choices : List ℕ) → pairs (first_table tables) (contract_table tables) ≤ length choices → p < length choices
     pair_noted choices room = omega (arith, low)
 
-    pub pair_in : p < length lengths
-    pair_in = omega (arith, low, l.given.room)
+    pub pair_in : (p < length lengths) × (p < most_pairs)
+    pair_in = (omega (arith, low, l.given.room), omega (arith, low, contract-pairs tables l.given.ranked.loaded))
 
     here-given : PairGiven tables ranks lengths sets amounts (row tables p) (column tables p)
     here-given =
@@ -277,7 +277,7 @@ module _ {tables : Tables} {ranks order : List ℕ} {n : ℕ} {lengths₀ sets�
         measured-here : Holds tables (set lengths p r) (row tables p) (column tables p)
         measured-here =
             ap (λ (k : ℕ). get_or (set lengths p r) k 0) is_number
-            ∙ get_or-set_same lengths p r 0 pair_in
+            ∙ get_or-set_same lengths p r 0 pair_in.0
             ∙ er
             ∙ ap (λ (w : ℕ). min most (pair_length (first_table tables) (contract_table tables) (p / w) (p % w))) e
 

@@ -24,7 +24,7 @@ use Rattle.choice.specs.Choice.{Lost}
 use Rattle.counting.specs.Count.{longest, Tally, Tallied}
 use Rattle.counting.proofs.Counting.{tallied-start, tallied-next}
 use Rattle.counting.proofs.Pairs.{without_other}
-use Rattle.passing.specs.declared.Walk.{Walk}
+use Rattle.passing.specs.declared.Trail.{Trail}
 use Rattle.passing.specs.Passing.{Kept, ToDo, OrderGiven, Seen, Walking, RowPassed}
 use Rattle.order.specs.Order.{RankPassed, RanksPassed}
 use Rattle.passing.proofs.Walks.{kept_all, kept_next, still-given, none_in, Onward, onward_start, onward_walking, onward_next}
@@ -32,21 +32,21 @@ use Rattle.passing.proofs.Walks.{kept_all, kept_next, still-given, none_in, Onwa
 -- ---- the rows of rank r
 
 -- those with a pair of the rank that is to be passed are left
-pub record RankAt (tables : Tables) (ranks : List ℕ) (r : ℕ) (W₀ W : Walk) (left : ℕ) : Type 0 where
+pub record RankAt (tables : Tables) (ranks : List ℕ) (r : ℕ) (W₀ W : Trail) (left : ℕ) : Type 0 where
   pub onward : Onward tables ranks r W₀ W
   pub ahead : (s t : ℕ) → ToDo W s t → rank (first_table tables) (contract_table tables) s t ≡ r → T (member left s)
 
 module _ {tables : Tables} {ranks : List ℕ} {r : ℕ} where
   -- at first all open rows are left
-  pub rank-start : {W : Walk} → Walking tables ranks r W → RankAt tables ranks r W W (mask W.rows)
+  pub rank-start : {W : Trail} → Walking tables ranks r W → RankAt tables ranks r W W (mask W.walk.rows)
   rank-start g = record { onward = onward_start g; ahead = λ s t h _. g.passing.open_row s t h }
 
-  module _ {W₀ W : Walk} {left : ℕ} (o : RankAt tables ranks r W₀ W left) where
+  module _ {W₀ W : Trail} {left : ℕ} (o : RankAt tables ranks r W₀ W left) where
     pub rank_walking : Walking tables ranks r W
     rank_walking = onward_walking o.onward
 
     -- a row is passed and is no longer left
-    pub rank-next : (s left' : ℕ) → member left' ≡ without_member s (member left) → {V : Walk} → RowPassed tables r s W V → RankAt tables ranks r W₀ V left'
+    pub rank-next : (s left' : ℕ) → member left' ≡ without_member s (member left) → {V : Trail} → RowPassed tables r s W V → RankAt tables ranks r W₀ V left'
     rank-next s left' e {V} p =
         record {
           onward = onward_next o.onward p.passed;
@@ -63,19 +63,19 @@ module _ {tables : Tables} {ranks : List ℕ} {r : ℕ} where
 -- ---- the ranks
 
 -- the walk went on from W₀ to W, down to rank r, and can go on from there
-pub record RanksAt (tables : Tables) (ranks : List ℕ) (r : ℕ) (W₀ W : Walk) : Type 0 where
+pub record RanksAt (tables : Tables) (ranks : List ℕ) (r : ℕ) (W₀ W : Trail) : Type 0 where
   pub walking : Walking tables ranks r W
-  pub tallied : Tallied tables W₀.counts.now W₀.bytes W.counts.now W.bytes
+  pub tallied : Tallied tables W₀.counts.now W₀.walk.bytes W.counts.now W.walk.bytes
   pub stays : (s t : ℕ) → Seen tables W₀ s t → Seen tables W s t
   pub kept : Kept W₀ W
 
 -- at first it is where it began
-pub ranks-start : {tables : Tables} {ranks : List ℕ} {r : ℕ} {W : Walk} → Walking tables ranks r W → RanksAt tables ranks r W W
+pub ranks-start : {tables : Tables} {ranks : List ℕ} {r : ℕ} {W : Trail} → Walking tables ranks r W → RanksAt tables ranks r W W
 ranks-start g = record { walking = g; tallied = tallied-start g.tally; stays = λ s t h. h; kept = kept_all }
 
-module _ {tables : Tables} {ranks : List ℕ} {r : ℕ} {W₀ W : Walk} (o : RanksAt tables ranks r W₀ W) where
+module _ {tables : Tables} {ranks : List ℕ} {r : ℕ} {W₀ W : Trail} (o : RanksAt tables ranks r W₀ W) where
   -- a rank is passed
-  module _ {V : Walk} (p : RankPassed tables r W V) where
+  module _ {V : Trail} (p : RankPassed tables r W V) where
     -- and the next one is below it
     pub ranks-next : RanksAt tables ranks (r - 1) W₀ V
     ranks-next =
@@ -103,7 +103,7 @@ module _ {tables : Tables} {ranks : List ℕ} {r : ℕ} {W₀ W : Walk} (o : Ran
         }
 
     -- or the bytes are too many
-    pub ranks_stop : longest < V.bytes → RanksPassed tables W₀ V
+    pub ranks_stop : longest < V.walk.bytes → RanksPassed tables W₀ V
     ranks_stop long =
         record {
           tallied = tallied-next o.tallied p.passed.tallied;
@@ -164,8 +164,8 @@ module _ (rows : List ℕ) (size : length rows ≡ most_states * words) (empty :
       at u v (no d) h = absurd (none_in (row_of todo u) v (others u d (dec_lt u most_states)) h)
 
 -- so a walk can begin at the root's rank, with nothing listed
-pub root-walking : {tables : Tables} {ranks : List ℕ} {r s t : ℕ} {W : Walk} → OrderGiven tables ranks W.order.now W.choices.now W.amounts.now → Lost tables s t → RootAlone s t W.todo.now
-    → 2 * most_states ≤ height W.sets.now → Tally tables W.counts.now W.bytes → W.count ≡ 0 → member (mask W.rows) ≡ only s → r ≡ rank (first_table tables) (contract_table tables) s t
+pub root-walking : {tables : Tables} {ranks : List ℕ} {r s t : ℕ} {W : Trail} → OrderGiven tables ranks W.order.now W.choices.now W.amounts.now → Lost tables s t → RootAlone s t W.todo.now
+    → 2 * most_states ≤ height W.sets.now → Tally tables W.counts.now W.walk.bytes → W.walk.count ≡ 0 → member (mask W.walk.rows) ≡ only s → r ≡ rank (first_table tables) (contract_table tables) s t
     → Walking tables ranks r W
 root-walking {tables = tables} {s = s} g lost o sets tally none es e =
     record {

@@ -8,7 +8,7 @@ use Rattle.simulation.specs.Length.{tree_length}
 use Rattle.form.specs.Tables.{first_table, contract_table}
 use Rattle.counting.specs.Pair.{number}
 use Rattle.counting.specs.Count.{longest, Tallied}
-use Rattle.passing.specs.declared.Walk.{Walk}
+use Rattle.passing.specs.declared.Trail.{Trail}
 use Rattle.passing.specs.Passing.{Kept, ToDo, Later, Found, Above, Seen, PairNoted, Passed}
 
 module _ (tables : Tables) where
@@ -29,14 +29,14 @@ module _ (tables : Tables) where
   PairsListed s t order choices n = MatchOption n (longest < tree_length (first_table tables) (contract_table tables) s t) (λ n. Listed s t order choices n)
 
   -- all pairs of rank r are passed
-  pub record RankPassed (r : ℕ) (W V : Walk) : Type 0 where
+  pub record RankPassed (r : ℕ) (W V : Trail) : Type 0 where
     pub passed : Passed tables r W V
     pub gone : (s t : ℕ) → ToDo V s t → rank (first_table tables) (contract_table tables) s t ≡ r → ⊥
 
   -- all pairs that were seen are passed and their transitions noted, unless the bytes counted are too many
-  pub record RanksPassed (W V : Walk) : Type 0 where
-    pub tallied : Tallied tables W.counts.now W.bytes V.counts.now V.bytes
-    pub ordered : V.bytes ≤ longest → Ordered V.order.now V.count
-    pub found : V.bytes ≤ longest → (s t : ℕ) → Seen tables W s t → Found V.order.now V.count (number tables s t)
-    pub noted : V.bytes ≤ longest → PairNoted tables V.order.now V.count V.choices.now
+  pub record RanksPassed (W V : Trail) : Type 0 where
+    pub tallied : Tallied tables W.counts.now W.walk.bytes V.counts.now V.walk.bytes
+    pub ordered : V.walk.bytes ≤ longest → Ordered V.order.now V.walk.count
+    pub found : V.walk.bytes ≤ longest → (s t : ℕ) → Seen tables W s t → Found V.order.now V.walk.count (number tables s t)
+    pub noted : V.walk.bytes ≤ longest → PairNoted tables V.order.now V.walk.count V.choices.now
     pub kept : Kept W V

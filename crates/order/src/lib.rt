@@ -14,30 +14,30 @@ use choice::rank_at;
 use counting::count::LONGEST;
 use counting::pair::number;
 use form::Tables;
-use passing::Walk;
+use passing::{Trail, Walk};
 use relation::{Relation, rows};
 use set::Set;
 use simulation::Table;
 use word::Word;
 
 // The pairs of a rank, where none of a higher rank is left.
-fn pass_rank(walk: &mut Walk, tables: &Tables, ranks: &[u16], rank: u16)
-    requires { Walking tables.now ranks.now rank walk.old }
-    ensures { RankPassed tables.now rank walk.old walk.new }
+fn pass_rank(trail: &mut Trail, tables: &Tables, ranks: &[u16], rank: u16)
+    requires { Walking tables.now ranks.now rank trail.old }
+    ensures { RankPassed tables.now rank trail.old trail.new }
 {
-    for s in walk.rows {
-        walk.pass_row(tables, ranks, rank, s);
+    for s in trail.walk.rows {
+        trail.pass_row(tables, ranks, rank, s);
     }
 }
 
 // All pairs, from a rank down, unless the bytes counted become too many.
-fn pass_ranks(walk: &mut Walk, tables: &Tables, ranks: &[u16], from: u16)
-    requires { Walking tables.now ranks.now from walk.old }
-    ensures { RanksPassed tables.now walk.old walk.new }
+fn pass_ranks(trail: &mut Trail, tables: &Tables, ranks: &[u16], from: u16)
+    requires { Walking tables.now ranks.now from trail.old }
+    ensures { RanksPassed tables.now trail.old trail.new }
 {
     for rank in (1..=from).rev() {
-        pass_rank(walk, tables, ranks, rank);
-        if LONGEST < walk.bytes {
+        pass_rank(trail, tables, ranks, rank);
+        if LONGEST < trail.walk.bytes {
             return;
         }
     }
@@ -75,20 +75,23 @@ pub fn list(
     rows::put(&mut todo, s, Set::single(t));
     let mut sets: [Word; 2 * Relation::WORDS] = [1; 2 * Relation::WORDS];
     count_one(tables, s, t, counts);
-    let mut walk = Walk {
+    let mut trail = Trail {
         order,
         choices,
         counts,
         todo: &mut todo,
         sets: &mut sets,
         amounts,
-        count: 0,
-        bytes: 1,
-        rows: Set::single(s),
+        walk: Walk {
+            bytes: 1,
+            count: 0,
+            rows: Set::single(s),
+        },
     };
-    pass_ranks(&mut walk, tables, ranks, rank_at(tables, ranks, s, t));
-    if LONGEST < walk.bytes {
+    pass_ranks(&mut trail, tables, ranks, rank_at(tables, ranks, s, t));
+    let all = trail.walk;
+    if LONGEST < all.bytes {
         return None;
     }
-    Some(walk.count)
+    Some(all.count)
 }

@@ -31,7 +31,7 @@ use Rattle.counting.proofs.Pairs.{at-number, lost-place, lost-low, number-place}
 use Rattle.counting.proofs.Targets.{ChoiceGiven, targets-are, count-is, few-targets, state-low, set_at, child-lost}
 use Rattle.counting.specs.Count.{child, Tallied, HandGiven}
 use Rattle.counting.specs.Pair.{number, row, column}
-use Rattle.passing.specs.declared.Walk.{Walk}
+use Rattle.passing.specs.declared.Trail.{Trail}
 use Rattle.passing.specs.Passing.{ToDo, ChildrenLent, ChildrenAdded, OrderGiven, Later, Found, Seen, PairNoted, Above, Kept, Passing, AtPair, PairPassed}
 use Rattle.passing.proofs.Listing.{fewer}
 
@@ -62,7 +62,7 @@ pub record PairChosen (tables : Tables) (todo₀ : List ℕ) (s t j : ℕ) (sets
   pub words_room : most_states ≤ height sets
   pub removed : PairRemoved todo₀ s t todo
 
-module _ {tables : Tables} {ranks : List ℕ} {r s t : ℕ} {W : Walk} (p : AtPair tables ranks r s t W) where
+module _ {tables : Tables} {ranks : List ℕ} {r s t : ℕ} {W : Trail} (p : AtPair tables ranks r s t W) where
   abbrev M : Table
   M = first_table tables
 
@@ -70,7 +70,7 @@ module _ {tables : Tables} {ranks : List ℕ} {r s t : ℕ} {W : Walk} (p : AtPa
   N = contract_table tables
 
   abbrev n : ℕ
-  n = W.count
+  n = W.walk.count
 
   abbrev order : List ℕ
   order = W.order.now
@@ -155,7 +155,7 @@ module _ {tables : Tables} {ranks : List ℕ} {r s t : ℕ} {W : Walk} (p : AtPa
     enough = omega (arith, p.walking.given.rows, ap (λ (n : ℕ). n / words) f.removed.same-todo)
 
     -- what handing on its count rests on
-    pub step_count : HandGiven tables s t j sets W.counts.now W.bytes
+    pub step_count : HandGiven tables s t j sets W.counts.now W.walk.bytes
     step_count =
         record {
           loaded = given.ranked.loaded;
@@ -191,8 +191,8 @@ module _ {tables : Tables} {ranks : List ℕ} {r s t : ℕ} {W : Walk} (p : AtPa
           subst T (sym (f.removed.is u v))
           (and_both (member (row_of W.todo.now u) v) _ h (not_T (eqb u s && eqb v t) (λ q. d (eqb→eq u s (and_left (eqb u s) (eqb v t) q), eqb→eq v t (and_right (eqb u s) (eqb v t) q)))))
 
-      module _ (V : Walk) (eo : V.order.now ≡ set order n (number tables s t)) (ec : V.choices.now ≡ set W.choices.now (number tables s t) j) (en : V.count ≡ n + 1)
-          (a : ChildrenAdded ts sets (length ts) todo₁ (mask W.rows) V.todo.now (mask V.rows)) where
+      module _ (V : Trail) (eo : V.order.now ≡ set order n (number tables s t)) (ec : V.choices.now ≡ set W.choices.now (number tables s t) j) (en : V.walk.count ≡ n + 1)
+          (a : ChildrenAdded ts sets (length ts) todo₁ (mask W.walk.rows) V.todo.now (mask V.walk.rows)) where
         -- a pair to be passed was so before, or is below this one
         cases : (u v : ℕ) → ToDo V u v → T (any (length ts) (child ts sets u v)) ⊎ (ToDo W u v × ((u ≡ s) × (v ≡ t) → ⊥))
         cases u v h = ⊎_elim inl (λ q. inr (rest_in u v q)) (or_cases (any (length ts) (child ts sets u v)) _ (subst T (a.listed u v) h))
@@ -212,18 +212,18 @@ module _ {tables : Tables} {ranks : List ℕ} {r s t : ℕ} {W : Walk} (p : AtPa
         same_number u v e = order_new eo en ∙ ap₂ (number tables) (sym e.0) (sym e.1)
 
         -- this pair is below a pair that is listed, or another is
-        after : (k : ℕ) → k < n → (u v : ℕ) → ToDo W u v ⊎ Later order n k (number tables u v) → ToDo V u v ⊎ Later V.order.now V.count k (number tables u v)
+        after : (k : ℕ) → k < n → (u v : ℕ) → ToDo W u v ⊎ Later order n k (number tables u v) → ToDo V u v ⊎ Later V.order.now V.walk.count k (number tables u v)
         after k b u v (inr l) = inr (l.0, l.1, omega (arith, l.2, en), order-old eo en l.0 l.2 ∙ l.3)
         after k b u v (inl h) = at (here_or_not u v)
           where
-            at : Dec ((u ≡ s) × (v ≡ t)) → ToDo V u v ⊎ Later V.order.now V.count k (number tables u v)
+            at : Dec ((u ≡ s) × (v ≡ t)) → ToDo V u v ⊎ Later V.order.now V.walk.count k (number tables u v)
             at (yes e) = inr (n, b, omega (arith, en), same_number u v e)
             at (no d) = inl (others u v h d)
 
-        new_at : Above tables (λ u v. ToDo V u v ⊎ Later V.order.now V.count n (number tables u v)) (number tables s t)
+        new_at : Above tables (λ u v. ToDo V u v ⊎ Later V.order.now V.walk.count n (number tables u v)) (number tables s t)
         new_at =
             let P : ℕ → ℕ → Type 0 = λ s t. (i v : ℕ) → i < length (chosen M N s t).entries → T (set_of M N s t i v)
-            → ToDo V (target_at (chosen M N s t) i) v ⊎ Later V.order.now V.count n (number tables (target_at (chosen M N s t) i) v) in
+            → ToDo V (target_at (chosen M N s t) i) v ⊎ Later V.order.now V.walk.count n (number tables (target_at (chosen M N s t) i) v) in
             record {
               lost = at-number tables (Lost tables) s t here-lost.right here-lost;
               below = at-number tables P s t here-lost.right (λ i v b h.
@@ -235,7 +235,7 @@ module _ {tables : Tables} {ranks : List ℕ} {r s t : ℕ} {W : Walk} (p : AtPa
             }
 
         -- the pair is passed: it is listed, and the pairs below it are to be passed
-        pub taken : Tallied tables W.counts.now W.bytes V.counts.now V.bytes → Kept W V → PairPassed tables r s t W V
+        pub taken : Tallied tables W.counts.now W.walk.bytes V.counts.now V.walk.bytes → Kept W V → PairPassed tables r s t W V
         taken tallied kept =
             record {
               passed = record {
@@ -251,7 +251,7 @@ module _ {tables : Tables} {ranks : List ℕ} {r s t : ℕ} {W : Walk} (p : AtPa
                       (cases u v q));
                   lost = λ u v q. ⊎_elim (λ k. (below u v k).0) (λ k. passing.lost u v k.0) (cases u v q);
                   most = λ u v q. ⊎_elim (λ k. omega (arith, (below u v k).1, p.this_rank)) (λ k. passing.most u v k.0) (cases u v q);
-                  at = by_place eo en (λ k p. Above tables (λ u v. ToDo V u v ⊎ Later V.order.now V.count k (number tables u v)) p)
+                  at = by_place eo en (λ k p. Above tables (λ u v. ToDo V u v ⊎ Later V.order.now V.walk.count k (number tables u v)) p)
                       (λ k b. let l = passing.at k b in record { lost = l.lost; below = λ i v c h. after k b _ v (l.below i v c h) }) new_at;
                   high = by_place eo en (λ k p. r ≤ rank M N (row tables p) (column tables p)) passing.high
                       (at-number tables (λ u v. r ≤ rank M N u v) s t here-lost.right (omega (arith, p.this_rank)));
@@ -273,7 +273,7 @@ module _ {tables : Tables} {ranks : List ℕ} {r s t : ℕ} {W : Walk} (p : AtPa
             here-gone : ToDo V s t → ⊥
             here-gone q = ⊎_elim (λ k. absurd (omega (arith, (below s t k).1))) (λ k. k.1 (refl, refl)) (cases s t q)
 
-            different : (k l : ℕ) → k < l → l < V.count → get_or V.order.now k 0 ≡ get_or V.order.now l 0 → Dec (l ≡ n) → ⊥
+            different : (k l : ℕ) → k < l → l < V.walk.count → get_or V.order.now k 0 ≡ get_or V.order.now l 0 → Dec (l ≡ n) → ⊥
             different k l b c e (yes q) =
                 let kn : k < n = omega (arith, q) in
                 not_listed k kn (sym (order-old eo en k kn) ∙ e ∙ ap (λ (i : ℕ). get_or V.order.now i 0) q ∙ order_new eo en)
@@ -281,7 +281,7 @@ module _ {tables : Tables} {ranks : List ℕ} {r s t : ℕ} {W : Walk} (p : AtPa
                 let ln : l < n = omega (arith, d, en) in
                 passing.once k l b ln (sym (order-old eo en k (omega arith)) ∙ e ∙ order-old eo en l ln)
 
-            stays : (u v : ℕ) → Seen tables W u v → Dec ((u ≡ s) × (v ≡ t)) → ToDo V u v ⊎ Found V.order.now V.count (number tables u v)
+            stays : (u v : ℕ) → Seen tables W u v → Dec ((u ≡ s) × (v ≡ t)) → ToDo V u v ⊎ Found V.order.now V.walk.count (number tables u v)
             stays u v (inr f) _ = inr (f.0, omega (arith, f.1, en), order-old eo en f.0 f.1 ∙ f.2)
             stays u v (inl h) (yes e) = inr (n, omega (arith, en), same_number u v e)
             stays u v (inl h) (no d) = inl (others u v h d)

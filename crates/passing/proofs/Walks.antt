@@ -20,7 +20,7 @@ use Rattle.choice.specs.Choice.{Lost}
 use Rattle.counting.specs.Pair.{number}
 use Rattle.counting.proofs.Pairs.{member-holds, without_in, without_other}
 use Rattle.counting.proofs.Counting.{tallied-start, tallied-next}
-use Rattle.passing.specs.declared.Walk.{Walk}
+use Rattle.passing.specs.declared.Trail.{Trail}
 use Rattle.passing.specs.Passing.{Same, Kept, ToDo, PassGiven, Walking, AtPair, Passed, PairPassed, RowPassed}
 
 -- ---- the lists that a walk was lent
@@ -31,12 +31,12 @@ same_list = record { name = refl; size = refl }
 same_still : {l k m : MutBor (List ℕ)} → Same l k → Same k m → Same l m
 same_still a b = record { name = b.name ∙ a.name; size = b.size ∙ a.size }
 
-pub kept_all : {W : Walk} → Kept W W
+pub kept_all : {W : Trail} → Kept W W
 kept_all = record { same_order = same_list; same_choices = same_list; same_counts = same_list; same_todo = same_list; same_sets = same_list; same_amounts = same_list }
 
-module _ {W V : Walk} (h : Kept W V) where
+module _ {W V : Trail} (h : Kept W V) where
   -- one step more
-  pub kept_next : {U : Walk} → Kept V U → Kept W U
+  pub kept_next : {U : Trail} → Kept V U → Kept W U
   kept_next k =
       record {
         same_order = same_still h.same_order k.same_order;
@@ -67,26 +67,26 @@ none_in left k z h = subst T (ap (λ (n : ℕ). member n k) z ∙ member-none k)
 -- ---- a walk at rank r
 
 -- it went on from W₀ to W and can go on from there
-pub record Onward (tables : Tables) (ranks : List ℕ) (r : ℕ) (W₀ W : Walk) : Type 0 where
+pub record Onward (tables : Tables) (ranks : List ℕ) (r : ℕ) (W₀ W : Trail) : Type 0 where
   pub given : PassGiven tables ranks W
   pub passed : Passed tables r W₀ W
 
 module _ {tables : Tables} {ranks : List ℕ} {r : ℕ} where
   -- at first no pair is passed
-  pub onward_start : {W : Walk} → Walking tables ranks r W → Onward tables ranks r W W
+  pub onward_start : {W : Trail} → Walking tables ranks r W → Onward tables ranks r W W
   onward_start g =
       record {
         given = g.given;
         passed = record { passing = g.passing; tallied = tallied-start g.tally; old = λ s t h _. h; stays = λ s t h. h; kept = kept_all };
       }
 
-  module _ {W₀ W : Walk} (o : Onward tables ranks r W₀ W) where
+  module _ {W₀ W : Trail} (o : Onward tables ranks r W₀ W) where
     -- it can go on
     pub onward_walking : Walking tables ranks r W
     onward_walking = record { given = o.given; passing = o.passed.passing; tally = o.passed.tallied.tally }
 
     -- and what it does from there it did from the start
-    pub onward_next : {V : Walk} → Passed tables r W V → Onward tables ranks r W₀ V
+    pub onward_next : {V : Trail} → Passed tables r W V → Onward tables ranks r W₀ V
     onward_next p =
         record {
           given = still-given p.kept o.given;
@@ -102,14 +102,14 @@ module _ {tables : Tables} {ranks : List ℕ} {r : ℕ} where
 -- ---- the pairs of row s and rank r
 
 -- those that are to be passed are left
-pub record RowAt (tables : Tables) (ranks : List ℕ) (r s : ℕ) (W₀ W : Walk) (left : ℕ) : Type 0 where
+pub record RowAt (tables : Tables) (ranks : List ℕ) (r s : ℕ) (W₀ W : Trail) (left : ℕ) : Type 0 where
   pub onward : Onward tables ranks r W₀ W
   pub still : (t : ℕ) → T (member left t) → ToDo W s t
   pub ahead : (t : ℕ) → ToDo W s t → rank (first_table tables) (contract_table tables) s t ≡ r → T (member left t)
 
 module _ {tables : Tables} {ranks : List ℕ} {r s : ℕ} where
   -- at first all are left
-  pub row-start : {W : Walk} {pairs : ℕ} → Walking tables ranks r W → pairs ≡ row_of W.todo.now s → RowAt tables ranks r s W W pairs
+  pub row-start : {W : Trail} {pairs : ℕ} → Walking tables ranks r W → pairs ≡ row_of W.todo.now s → RowAt tables ranks r s W W pairs
   row-start g e =
       record {
         onward = onward_start g;
@@ -117,7 +117,7 @@ module _ {tables : Tables} {ranks : List ℕ} {r s : ℕ} where
         ahead = λ t h _. subst (λ (k : ℕ). T (member k t)) (sym e) h;
       }
 
-  module _ {W₀ W : Walk} {left : ℕ} (o : RowAt tables ranks r s W₀ W left) where
+  module _ {W₀ W : Trail} {left : ℕ} (o : RowAt tables ranks r s W₀ W left) where
     -- the lowest pair left is to be passed
     module _ {t : ℕ} (low : Lowest (member left) t) where
       here : ToDo W s t
@@ -144,7 +144,7 @@ module _ {tables : Tables} {ranks : List ℕ} {r s : ℕ} where
             ahead = λ u h q. without_other left u e (λ k. d (ap (rank (first_table tables) (contract_table tables) s) (sym k) ∙ q)) (o.ahead u h q);
           }
 
-      pub row_next : {V : Walk} → PairPassed tables r s t W V → RowAt tables ranks r s W₀ V left'
+      pub row_next : {V : Trail} → PairPassed tables r s t W V → RowAt tables ranks r s W₀ V left'
       row_next {V} p =
           record {
             onward = onward_next o.onward p.passed;
@@ -159,8 +159,8 @@ module _ {tables : Tables} {ranks : List ℕ} {r s : ℕ} where
 
     -- when none is left, all are passed; a row that has no pair at all any more is closed
     pub row-end : left ≡ 0 → {rows' : Set} {pairs : ℕ} → pairs ≡ row_of W.todo.now s
-        → ((u : ℕ) → (u ≡ s → pairs ≡ 0 → ⊥) → T (member (mask W.rows) u) → T (member (mask rows') u))
-        → RowPassed tables r s W₀ (record { order = W.order; choices = W.choices; counts = W.counts; todo = W.todo; sets = W.sets; amounts = W.amounts; count = W.count; bytes = W.bytes; rows = rows' })
+        → ((u : ℕ) → (u ≡ s → pairs ≡ 0 → ⊥) → T (member (mask W.walk.rows) u) → T (member (mask rows') u))
+        → RowPassed tables r s W₀ (record { order = W.order; choices = W.choices; counts = W.counts; todo = W.todo; sets = W.sets; amounts = W.amounts; walk = record { bytes = W.walk.bytes; count = W.walk.count; rows = rows' } })
     row-end z is closed =
         let p = o.onward.passed.passing in
         record {

@@ -17,11 +17,22 @@ use relation::rows;
 use set::Set;
 use word::Word;
 
-// Where a walk over the pairs is, and the lists that it is lent. Listed are the pairs that are passed, with the transition noted for each, by
-// its number; still to be passed are the pairs of `todo`, a row to a state. It works in `sets`, the sets of a transition's targets with room for
-// as many rows of a relation, and in `amounts`.
+// How far a walk over the pairs has come.
+#[derive(Clone, Copy)]
+pub struct Walk {
+    // The bytes counted.
+    pub bytes: u32,
+    // How many pairs are passed.
+    pub count: usize,
+    // The rows with a pair that is still to be passed.
+    pub rows: Set,
+}
+
+// The lists that a walk is lent, and how far it has come. Listed are the pairs that are passed, with the transition noted for each, by its
+// number; still to be passed are the pairs of `todo`, a row to a state. It works in `sets`, the sets of a transition's targets with room for as
+// many rows of a relation, and in `amounts`.
 #[derive(Drop)]
-pub struct Walk<'a> {
+pub struct Trail<'a> {
     pub order: &'a mut [u16],
     pub choices: &'a mut [u8],
     // How often each pair's transition is still to be counted.
@@ -29,12 +40,7 @@ pub struct Walk<'a> {
     pub todo: &'a mut [Word],
     pub sets: &'a mut [Word],
     pub amounts: &'a mut [u32],
-    // How many pairs are passed.
-    pub count: usize,
-    // The bytes counted.
-    pub bytes: u32,
-    // The rows with a pair that is still to be passed.
-    pub rows: Set,
+    pub walk: Walk,
 }
 
 // The pairs of each target and the members of its set are to be passed.
@@ -63,7 +69,7 @@ fn close_row(rows: Set, s: usize, pairs: Set) -> Set
     rows
 }
 
-impl Walk<'_> {
+impl Trail<'_> {
     // The pairs of s that are still to be passed.
     fn pairs(&self, s: usize) -> Set
         requires { s < height self.now.todo.now }
@@ -81,15 +87,15 @@ impl Walk<'_> {
         let rest = self.pairs(s).remove(t);
         rows::put(self.todo, s, rest);
         let p = number(tables, s, t);
-        self.order[self.count] = p as u16;
+        self.order[self.walk.count] = p as u16;
         self.choices[p] = j as u8;
-        self.count += 1;
-        let bytes = self.bytes;
-        let rows = self.rows;
+        self.walk.count += 1;
+        let bytes = self.walk.bytes;
+        let rows = self.walk.rows;
         let sets = &mut *self.sets;
-        self.bytes = count::hand_on(tables, s, t, j, sets, self.counts, bytes);
+        self.walk.bytes = count::hand_on(tables, s, t, j, sets, self.counts, bytes);
         let targets = tables.first.targets(j);
-        self.rows = add_children(targets, sets, self.todo, rows);
+        self.walk.rows = add_children(targets, sets, self.todo, rows);
     }
 
     // Passes the pairs of row s that have the rank.
@@ -102,6 +108,6 @@ impl Walk<'_> {
                 self.pass_pair(tables, ranks, rank, s, t);
             }
         }
-        self.rows = close_row(self.rows, s, self.pairs(s));
+        self.walk.rows = close_row(self.walk.rows, s, self.pairs(s));
     }
 }

@@ -31,7 +31,7 @@ pub measure_pair-len-requires : goal.measure_pair-len-requires
 measure_pair-len-requires c = measure_pair c.requires.1 c.loop-p.invariant _ _ c.in-Some.ensures.steps c.requires.2 _ c.width-width.ensures
 
 pub bounds-lengths-p : goal.bounds-lengths-p
-bounds-lengths-p c = pair_in c.requires.1 c.loop-p.invariant _ _ c.in-Some.ensures.steps
+bounds-lengths-p c = (pair_in c.requires.1 c.loop-p.invariant _ _ c.in-Some.ensures.steps).0
 
 pub loop-p-preserved : goal.loop-p-preserved
 loop-p-preserved c =

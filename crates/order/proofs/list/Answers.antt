@@ -40,15 +40,15 @@ pass_ranks-requires c =
     root-walking p.0 p.1 (root (goal.at.pass_ranks-requires c).After-put) (lit≤ tt) c.count_one.ensures.tally refl c.single-2.ensures
     (c.rank_at.ensures ∙ p.0.ranked.ranked c.args.s c.args.t p.1.left p.1.right)
 
-pub returns-then-walk-gt-LONGEST : goal.returns-then-walk-gt-LONGEST
-returns-then-walk-gt-LONGEST c = omega (arith, c.pass_ranks.ensures.tallied.total, c.count_one.ensures.total, c.if-walk-gt-LONGEST.true)
+pub returns-then-all-gt-LONGEST : goal.returns-then-all-gt-LONGEST
+returns-then-all-gt-LONGEST c = omega (arith, c.pass_ranks.ensures.tallied.total, c.count_one.ensures.total, c.if-all-gt-LONGEST.true)
 
 pub returns : goal.returns
 returns c =
     let a = c.args in
     let q = c.pass_ranks.ensures in
-    let W = c.pass_ranks.new.walk in
-    let short : W.bytes ≤ longest = omega (arith, c.if-walk-gt-LONGEST.false) in
-    let listed : Listed a.tables.now a.s a.t W.order.now W.choices.now W.count =
+    let W = c.pass_ranks.new.trail in
+    let short : W.walk.bytes ≤ longest = omega (arith, c.if-all-gt-LONGEST.false) in
+    let listed : Listed a.tables.now a.s a.t W.order.now W.choices.now W.walk.count =
     record { ordered = q.ordered short; found = q.found short a.s a.t (inl (root (goal.at.returns c).After-put).here); noted = q.noted short } in
     listed-as listed (search rules) (search rules)

@@ -6,7 +6,7 @@ use Rattle.order.proofs.pass_rank.Goals as goal
 pub loop-s-init : goal.loop-s-init
 loop-s-init c =
     let a = c.args in
-    begun (RankAt a.tables.now a.ranks.now a.rank a.walk.now a.walk.now) c.into_iter-s-iterator.ensures.into_iter_gives (rank-start c.requires)
+    begun (RankAt a.tables.now a.ranks.now a.rank a.trail.now a.trail.now) c.into_iter-s-iterator.ensures.into_iter_gives (rank-start c.requires)
 
 pub pass_row-requires : goal.pass_row-requires
 pass_row-requires c = (rank_walking c.loop-s.invariant, c.in-Some.ensures.steps.state)

@@ -4,4 +4,4 @@ use Rattle.order.proofs.Walks.{RankAt}
 use Rattle.order.proofs.pass_rank.Given as goal
 
 abbrev pub invariant-loop-s : goal.invariant-loop-s
-invariant-loop-s l = RankAt l.tables l.ranks l.rank l.initial.walk l.walk (mask l.s-iterator.left)
+invariant-loop-s l = RankAt l.tables l.ranks l.rank l.initial.trail l.trail (mask l.s-iterator.left)

@@ -9,8 +9,8 @@ loop-rank-init c = ranks-start c.requires
 pub pass_rank-requires : goal.pass_rank-requires
 pass_rank-requires c = c.loop-rank.invariant.walking
 
-pub returns-then-walk-gt-LONGEST : goal.returns-then-walk-gt-LONGEST
-returns-then-walk-gt-LONGEST c = ranks_stop c.loop-rank.invariant c.pass_rank.ensures c.if-walk-gt-LONGEST.true
+pub returns-then-trail-gt-LONGEST : goal.returns-then-trail-gt-LONGEST
+returns-then-trail-gt-LONGEST c = ranks_stop c.loop-rank.invariant c.pass_rank.ensures c.if-trail-gt-LONGEST.true
 
 pub loop-rank-preserved : goal.loop-rank-preserved
 loop-rank-preserved c = ranks-next c.loop-rank.invariant c.pass_rank.ensures

@@ -3,4 +3,4 @@ use Rattle.order.proofs.Walks.{RanksAt}
 use Rattle.order.proofs.pass_ranks.Given as goal
 
 abbrev pub invariant-loop-rank : goal.invariant-loop-rank
-invariant-loop-rank l = RanksAt l.tables l.ranks l.rank l.initial.walk l.walk
+invariant-loop-rank l = RanksAt l.tables l.ranks l.rank l.initial.trail l.trail

@@ -1,4 +1,4 @@
--- `Walk::pass_pair` meets its contract. Assumes nothing.
+-- `Trail::pass_pair` meets its contract. Assumes nothing.
 use mathlib.Core.Path.{refl, ap, ◌∙◌}
 use Prim.Native.Nat.{ℕ, ◌/◌}
 use native.Mathlib.Omega.{arith}
@@ -9,8 +9,8 @@ use Rattle.form.proofs.FormLaws.{limits}
 use Rattle.counting.proofs.Pairs.{number_asked}
 use Rattle.counting.proofs.Targets.{step-number}
 use Rattle.passing.proofs.Passing.{PairChosen, pair_removed, here-lost, here-low, here-row, here-room, here-noted, step-choice, step_count, step_children, taken}
-use Rattle.passing.proofs.Walk.pass_pair.Goals as goal
-use Rattle.passing.proofs.Walk.pass_pair.Goals.{After-put}
+use Rattle.passing.proofs.Trail.pass_pair.Goals as goal
+use Rattle.passing.proofs.Trail.pass_pair.Goals.{After-put}
 
 -- the pair is no longer among those to be passed, beside the sets of its transition
 chosen : (d : After-put) → let a = d.args in PairChosen a.tables.now a.self.now.todo.now a.s a.t d.choose-j.result d.choose-j.new.sets d.put.new.rows
@@ -70,9 +70,9 @@ returns c =
     let W = c.args.self.now in
     let e = c.number-p.ensures.0 in
     let d = chosen (goal.at.returns c).After-put in
-    taken c.requires d c.targets-targets.ensures _ (ap (set W.order.now W.count) e) (ap (λ (p : ℕ). set W.choices.now p c.choose-j.result) e) refl c.add_children-self.ensures c.hand_on-self.ensures
+    taken c.requires d c.targets-targets.ensures _ (ap (set W.order.now W.walk.count) e) (ap (λ (p : ℕ). set W.choices.now p c.choose-j.result) e) refl c.add_children-self.ensures c.hand_on-self.ensures
     (record {
-      same_order = record { name = refl; size = length-set W.order.now W.count _ };
+      same_order = record { name = refl; size = length-set W.order.now W.walk.count _ };
       same_choices = record { name = refl; size = length-set W.choices.now _ _ };
       same_counts = record { name = refl; size = c.hand_on-self.auto.counts };
       same_todo = record { name = refl; size = c.add_children-self.auto.todo ∙ d.removed.same-todo };

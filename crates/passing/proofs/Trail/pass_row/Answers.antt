@@ -1,9 +1,9 @@
--- `Walk::pass_row` meets its contract. Assumes nothing.
+-- `Trail::pass_row` meets its contract. Assumes nothing.
 use mathlib.Core.Path.{sym, ◌∙◌}
 use Rattle.set.proofs.Walks.{begun}
 use Rattle.counting.proofs.Pairs.{rank_asked}
 use Rattle.passing.proofs.Walks.{RowAt, row-start, low-lost, low-rank, low_pair, row-over, row_next, row-end}
-use Rattle.passing.proofs.Walk.pass_row.Goals as goal
+use Rattle.passing.proofs.Trail.pass_row.Goals as goal
 
 pub loop-t-init : goal.loop-t-init
 loop-t-init c =
