@@ -1,12 +1,13 @@
 -- How long the text can be.
 -- Assumes nothing.
-use Rattle.std.proofs.Common.{◌≡◌, Bool, true, false, cond, List, [], ◌∷◌, ℕ, zero, suc, ◌+◌, ◌*◌, ◌^◌, ◌≤◌, ◌<◌, max, length, length-append, get_or, arith}
+use Rattle.std.proofs.Common.{◌≡◌, Bool, true, false, cond, List, [], ◌∷◌, ℕ, zero, suc, ◌+◌, ◌*◌, ◌^◌, ◌≤◌, ◌<◌, max, length, length-append, get_or, take, arith}
 use native.Mathlib.Nat.{suc-mul, mul-le-mul_right}
+use lib.Dec.{eqb}
 use Prim.Native.Nat.{zero-le}
 use Rattle.std.specs.Prelude.{Option, Some, None}
 use Rattle.simulation.specs.Limits.{most_states}
 use Rattle.simulation.specs.Round.{maximum, zeros}
-use Rattle.report.specs.Text.{word_rounds, word_kept, word_yes, word_no, word_row, word_tables, word_refused, space, pieces, pair_line, ranks_text, row_line, rows_text, yes?, summary_line, bytes_text, tree_line, tree_or_refusal, tree_text, tree_size, refused_text, report_text, text_bound}
+use Rattle.report.specs.Text.{word_rounds, word_kept, word_yes, word_no, word_row, word_tables, word_refused, space, pieces, pair_line, ranks_text, row_line, rows_text, yes?, summary_line, bytes_text, tree_line, tree_or_refusal, tree_text, tree_size, refused_text, report_text, answer_text, text_bound}
 use Rattle.digits.specs.Digits.{labelled}
 use Rattle.report.proofs.Counting.{zeros-most}
 use Rattle.digits.proofs.Digits.{decimal-short}
@@ -79,3 +80,16 @@ report_short p q ranks tree lp lq e small =
       summary_short (maximum ranks) (zeros ranks) (yes? ranks) (omega (arith, maximum-short ranks (2 ^ 16) (omega arith) small)) kept,
       tree_short (yes? ranks) tree,
     )
+
+-- no text is empty: each begins with a word
+pair_some : (word : List ℕ) (a b : ℕ) → length word ≤ length (pair_line word a b)
+unfolding pair_line
+pair_some word a b = simp length-append (omega arith)
+
+pub some-text : (table number written p q : ℕ) (ranks tree : List ℕ) → 0 < length (answer_text table number written p q ranks tree)
+unfolding answer_text report_text
+some-text table number written p q ranks tree = go (eqb table 0)
+  where
+    go : (c : Bool) → 0 < length (cond c (report_text p q (take (p * q) ranks) (cond (eqb number 23) None (Some (take written tree)))) (refused_text table number))
+    go true = simp length-append (omega (arith, pair_some word_tables p q))
+    go false = omega (arith, pair_some word_refused table number)
