@@ -103,8 +103,10 @@ impl Trail<'_> {
         requires { Walking tables.now ranks.now rank self.old × (s < most_states) }
         ensures { RowPassed tables.now rank s self.old self.new }
     {
+        // Where the ranks of the row begin: to ask for each pair's place anew costs as much as the walk.
+        let base = s * tables.width();
         for t in self.pairs(s) {
-            if rank_at(tables, ranks, s, t) == rank {
+            if ranks[base + t] == rank {
                 self.pass_pair(tables, ranks, rank, s, t);
             }
         }

@@ -51,7 +51,7 @@ unfolding mask
 mask-none = number-none words (word_of (of_words (0 ∷ 0 ∷ []))) (two (λ i. get_or (0 ∷ 0 ∷ []) i 0 ≡ 0) refl refl)
 
 -- a set is empty where all its words are 0
-zero-words : (s : Set) → word_of s 0 ≡ 0 → word_of s 1 ≡ 0 → mask s ≡ 0
+pub zero-words : (s : Set) → word_of s 0 ≡ 0 → word_of s 1 ≡ 0 → mask s ≡ 0
 unfolding mask
 zero-words s a b = number-none words (word_of s) (two (λ i. word_of s i ≡ 0) a b)
 
@@ -59,6 +59,14 @@ word_zero : (s : Set) (i : ℕ) → i < words → word_of s i < 2 ^ word_bits �
 unfolding mask
 word_zero s i li h e =
     no_member word_bits (word_of s i) h (λ u lu. sym (bit_at words (word_of s) i u li lu) ∙ ap (λ (n : ℕ). member n (i * word_bits + u)) e ∙ member-none (i * word_bits + u))
+
+-- and has a member where one is not
+pub some_word : (s : Set) (i : ℕ) → i < words → word_of s i < 2 ^ word_bits → word_of s i ≢ 0 → 0 < mask s
+some_word s i li h q = at (ℕ_discrete (mask s) 0)
+  where
+    at : Dec (mask s ≡ 0) → 0 < mask s
+    at (yes e) = absurd (q (word_zero s i li h e))
+    at (no z) = omega (arith, z)
 
 or_zero : (a b : ℕ) → a < 2 ^ word_bits → b < 2 ^ word_bits → bit_or a b ≡ 0 → (a ≡ 0) × (b ≡ 0)
 or_zero a b ha hb e =

@@ -1,6 +1,6 @@
 -- Words of 64 bits as one number, for any number of words, and with it the sets of states.
 -- Assumes nothing.
-use Rattle.std.specs.Prelude.{ℕ, zero, suc, ◌+◌, ◌*◌, ◌/◌, ◌%◌, ◌^◌, get_or}
+use Rattle.std.specs.Prelude.{ℕ, zero, suc, ◌+◌, ◌*◌, ◌/◌, ◌%◌, ◌^◌, get_or, cond, eqb, ltb}
 use Rattle.simulation.specs.Limits.{most_states}
 use Rattle.word.specs.Mask.{word_bits}
 use Rattle.set.specs.declared.Set.{Set}
@@ -21,3 +21,13 @@ word_of s i = get_or s.words i 0
 unfoldable pub mask : Set → ℕ
 unfolding as_number
 mask s = as_number words (word_of s)
+
+-- what a walk word by word has left: `left` in word w, and the words after it
+unfoldable pub rest : ℕ → ℕ → Set → ℕ
+unfolding as_number
+rest w left s = as_number words (λ i. cond (ltb i w) 0 (cond (eqb i w) left (word_of s i)))
+
+-- what it has left before word w
+unfoldable pub after : ℕ → Set → ℕ
+unfolding as_number
+after w s = as_number words (λ i. cond (ltb i w) 0 (word_of s i))

@@ -1,8 +1,8 @@
 // The members of a set, lowest first.
-ghost use Rattle.std.specs.Prelude.{◌≡◌};
+ghost use Rattle.std.specs.Prelude.{◌≡◌, ◌<◌};
 ghost use Rattle.std.specs.Iterator.{at_most};
 ghost use Rattle.set.specs.Words.{mask};
-ghost use Rattle.set.specs.Members.{Step};
+ghost use Rattle.set.specs.Members.{Step, Taken};
 
 use crate::Set;
 
@@ -10,6 +10,19 @@ use crate::Set;
 #[derive(Drop)]
 pub struct Members {
     left: Set,
+}
+
+impl Members {
+    // Takes the lowest member that is left.
+    fn take(&mut self) -> usize
+        requires { 0 < mask self.old.left }
+        ensures taken { Taken (mask self.old.left) result (mask self.new.left) }
+        ensures fewer { mask self.new.left < mask self.old.left }
+    {
+        let left = self.left;
+        self.left = left.without_lowest();
+        left.lowest()
+    }
 }
 
 impl IntoIterator for Set {
@@ -31,12 +44,14 @@ impl Iterator for Members {
 
     ghost remaining = { λ m. at_most (mask m.left) };
 
+    // Word by word: a step in the first word looks at no other.
     fn next(&mut self) -> Option<usize> {
-        let left = self.left;
-        if left.is_empty() {
-            return None;
+        if self.left.words[0] != 0 {
+            return Some(self.take());
         }
-        self.left = left.without_lowest();
-        Some(left.lowest())
+        if self.left.words[1] != 0 {
+            return Some(self.take());
+        }
+        None
     }
 }
