@@ -46,7 +46,7 @@ struct Visited {
     seen: Set,
 }
 
-// The rows reached, and one of them with a free column: how many steps it is from a short row.
+// The rows reached, one of them with a free column, and how many steps that is from a short row.
 #[derive(Clone, Copy)]
 pub struct Path {
     pub reached: Set,
