@@ -9,7 +9,7 @@ ghost use Rattle.set.specs.Words.{mask};
 ghost use Rattle.relation.specs.Rows.{«row_of», height};
 ghost use Rattle.passing.specs.Passing.{ChildrenLent, ChildrenAdded, Walking, AtPair, PairPassed, RowPassed};
 
-use choice::{choose, rank_at};
+use choice::choose;
 use counting::count;
 use counting::pair::number;
 use form::Tables;
