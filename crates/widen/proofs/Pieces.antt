@@ -1,15 +1,16 @@
 -- A buffer that a loop writes piece after piece, each by its stores.
 -- Assumes nothing.
-use mathlib.Core.Path.{◌≡◌, refl, sym, ◌∙◌, ap, subst}
-use mathlib.Core.List.{List, [], ◌++◌}
+use mathlib.Core.Path.{◌≡◌, refl, sym, ◌∙◌, ap, ap₂, subst}
+use mathlib.Core.List.{List, [], ◌∷◌, ◌++◌}
 use Prim.Native.Nat.{ℕ, suc, ◌+◌, ◌*◌, ◌-◌, ◌≤◌, ◌<◌}
-use native.Mathlib.Nat.{zero-add}
+use native.Mathlib.Nat.{zero-add, add-zero, one-mul}
 use native.Mathlib.Omega.{arith}
 use lib.ListN.{length, take, drop}
 use Rattle.form.proofs.FormLists.{part-below}
 use Rattle.simulation.specs.Sum.{below, concat}
 use Rattle.simulation.proofs.Finite.Lists.{below_length}
-use Rattle.form.proofs.Lists.{map_below, length_records}
+use Rattle.form.proofs.Lists.{below_records, map_below, length_records}
+use Rattle.layout.specs.Bytes.{byte}
 use Rattle.buffer.specs.Buffer.{Filled}
 use Rattle.buffer.proofs.Buffer.{Written, start, finish}
 use Rattle.widen.specs.Parts.{run_of, wide_codes, wide_transitions}
@@ -61,6 +62,16 @@ pieces-length w f each n =
     ∙ ap (λ (k : ℕ). w * k) (below_length (λ (i : ℕ). i) 0 n)
 
 module _ (s : List ℕ) where
+  abbrev pub one : (from i : ℕ) → List ℕ
+  one from i = byte s (from + i) ∷ []
+
+  one_byte : (from i : ℕ) → one from i ≡ run_of s (from + 1 * i) 1
+  unfolding below
+  one_byte from i = let e : from + i ≡ from + 1 * i = omega arith in ap (λ (p : ℕ). byte s p ∷ []) e
+
+  pub run-pieces : (from n : ℕ) → pieces 0 n (one from) ≡ run_of s from n
+  run-pieces from n = below_records (byte s) 1 from 0 n (one from) (λ i _ _. one_byte from i) ∙ ap₂ (λ (a b : ℕ). run_of s a b) (add-zero from) (one-mul n)
+
   -- a slice of the bytes
   pub run-part : (from n : ℕ) → from + n ≤ length s → take (from + n - from) (drop from s) ≡ run_of s from n
   run-part from n h =
