@@ -14,7 +14,8 @@ ghost use Rattle.relation.specs.Related.{holds};
 ghost use Rattle.form.specs.Form.{transitions_of, table_of};
 ghost use Rattle.form.specs.Tables.{first_form, second_table, first_step, BothLoaded};
 ghost use Rattle.gather.specs.Places.{Places};
-ghost use Rattle.links.specs.Links.{Empty, Linked, ListedBefore, Looped, ContractLinked, SetsKnown, SameSets, SameMarks, Covered, StateLinks, Joins, DoubtsAdded, Doubted};
+ghost use Rattle.links.specs.Links.{Empty, Linked, ListedBefore, Looped, ContractLinked, SetsKnown, Covered, StateLinks, Joins, DoubtsAdded, Doubted};
+ghost use Rattle.links.specs.Links.{SameSets, SameMarks};
 
 use form::{Form, Tables};
 pub use lists::{Marks, Sets};

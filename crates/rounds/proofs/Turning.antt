@@ -199,7 +199,7 @@ sure {W} {k} {fell} {doubtful} {rows'} {ranks'} {marks'} h later doubted =
         same_test (related before x y) (related now x y)
         (λ q. kept_unless (table_of f) K k W.rows.now W.ranks.now h.standing.after W.marks.now.lost.now h.standing.next.exact x y q
         (λ m.
-        let r = doubted.raised x s y t (link_at f W.sets.now.before.now p.loaded.first p.sets_known.first s c i a u w) (is_true (holds W.marks.now.lost.now x y) m)
-        (behind_at tables W.sets.now.behind.now p.loaded p.sets_known.second s c u t d j v e z) in
+        let r = doubted.raised x s y t (link_at f W.sets.now.before.now p.loaded.first p.sets_known.first s c i a u w)
+        (is_true (holds W.marks.now.lost.now x y) m) (behind_at tables W.sets.now.behind.now p.loaded p.sets_known.second s c u t d j v e z) in
         true≢false (sym (ap₂ ◌&&◌ r.0 r.1) ∙ out)))
         (round-falls (table_of f) K k x y)
