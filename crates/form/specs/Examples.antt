@@ -1,4 +1,4 @@
--- Forms in one list, computed: one between other numbers, and the second of two; and the forms of two tables.
+-- Forms in one list, computed: one between other numbers, and the second of two. The forms of two tables.
 -- Assumes nothing.
 use Rattle.std.specs.Prelude.{◌≡◌, refl, List, [], ◌∷◌, ◌++◌, ℕ, replicate, take, drop}
 use Rattle.form.specs.declared.form.Form.{Form}
@@ -16,7 +16,7 @@ uniform v = replicate form_size v
 pub form_example : (form_at (7 ∷ uniform 1 ++ (7 ∷ [])) 1 ≡ uniform 1) × (form_at (uniform 1 ++ uniform 2) form_size ≡ uniform 2)
 form_example = (refl, refl)
 
--- of any two forms, which stand apart, the first table has the one and the second the other
+-- two tables made of any two forms: the numbers of the one are the first form, those of the other the second
 pub tables_example : (f g : Form)
     → (first_form (record { first = f; second = g }) ≡ f.numbers.now) × (second_form (record { first = f; second = g }) ≡ g.numbers.now)
 tables_example f g = (refl, refl)
