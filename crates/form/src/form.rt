@@ -1,8 +1,9 @@
 // A table in its decoded form, and where its parts begin.
-ghost use Rattle.std.specs.Prelude.{◌≡◌, true, pred, ◌+◌, ◌≤◌, ◌<◌, length};
+ghost use Rattle.std.specs.Prelude.{◌≡◌, true, pred, ℕ, ◌+◌, ◌≤◌, ◌<◌, length, get_or};
 ghost use Rattle.simulation.specs.Table.{weights, targets, states_of};
 ghost use Rattle.simulation.specs.Complete.{lists};
 ghost use Rattle.form.specs.Form.{form_size, at, start_of, transitions_of, entries_listed, column_of, transition_at, table_of, Loaded, Span};
+ghost use Rattle.form.specs.Valid.{AreStates};
 
 use crate::Distribution;
 use simulation::Table;
@@ -145,6 +146,8 @@ impl<'a> Form<'a> {
         requires { j < transitions_of self.now.numbers.now }
         ensures targets { result.targets.now ≡ targets (transition_at self.now.numbers.now j) }
         ensures weights { result.weights.now ≡ weights (transition_at self.now.numbers.now j) }
+        ensures states { AreStates result.targets.now }
+        ensures ascending { (i : ℕ) → i + 1 < length result.targets.now → get_or result.targets.now i 0 < get_or result.targets.now (i + 1) 0 }
     {
         Distribution {
             targets: self.targets(j),
