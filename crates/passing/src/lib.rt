@@ -78,7 +78,9 @@ impl Trail<'_> {
         rows::get(self.todo, s)
     }
 
-    // Passes the pair (s, t), which has the rank: it is listed with its transition, and the pairs below it are to be passed.
+    // Passes the pair (s, t), which has the rank: it is listed with its transition, and the pairs below it are to be passed. Few pairs of a row
+    // have the rank: inside the loop that looks for them this would take its registers.
+    #[inline(never)]
     fn pass_pair(&mut self, tables: &Tables, ranks: &[u16], rank: u16, s: usize, t: usize)
         requires { AtPair tables.now ranks.now rank s t self.old }
         ensures { PairPassed tables.now rank s t self.old self.new }

@@ -14,7 +14,7 @@ use lib.Seq.{get_or-take, get_or-drop}
 use Rattle.simulation.specs.Limits.{most_states}
 use Rattle.word.specs.Mask.{Test, member, without_member, part, Lowest, word_bits}
 use Rattle.word.proofs.Mask.{below_or_not, member-none}
-use Rattle.set.specs.Words.{words, word_of, as_number, mask, rest, after}
+use Rattle.set.specs.Words.{words, word_of, mask, rest, after}
 use Rattle.set.specs.declared.Set.{Set}
 use Rattle.set.proofs.Words.{number_ext, number-none, number_lowest, number-drop, number-less}
 use Rattle.set.specs.Members.{Taken}

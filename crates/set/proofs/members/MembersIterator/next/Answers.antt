@@ -7,6 +7,9 @@ use Rattle.set.specs.Words.{word_of}
 use Rattle.set.proofs.Sets.{some_word, zero-words}
 use Rattle.set.proofs.members.MembersIterator.next.Goals as goal
 
+pub returns-clause-steps : goal.returns-clause-steps
+returns-clause-steps c = let none = zero-words c.args.self.now.left c.if-self-ne0.false c.if-self-ne0-2.false in (none, none)
+
 pub take-requires : goal.take-requires
 take-requires c =
     let s = c.args.self.now.left in
@@ -18,6 +21,3 @@ take-requires-then-self-ne0-2 c =
     let s = c.args.self.now.left in
     let f : Fits w64 (word_of s 1) = search rules in
     some_word s 1 (omega arith) f.fits c.if-self-ne0-2.true
-
-pub returns-clause-steps : goal.returns-clause-steps
-returns-clause-steps c = let none = zero-words c.args.self.now.left c.if-self-ne0.false c.if-self-ne0-2.false in (none, none)
