@@ -49,10 +49,10 @@ pub record ContractLinked (tables : Tables) (behind : List ℕ) : Type 0 where
       → holds behind t t ≡ true
 
 -- the sets that are known before the rounds
-pub record SetsKnown (tables : Tables) (sets : Sets) : Type 0 where
-  pub first : Linked (first_form tables) sets.before.now
-  pub second : ContractLinked tables sets.behind.now
-  pub targets : TargetSets (second_form tables) sets.targets.now
+pub record SetsKnown (tables : Tables) (before behind target_sets : List ℕ) : Type 0 where
+  pub first : Linked (first_form tables) before
+  pub second : ContractLinked tables behind
+  pub targets : TargetSets (second_form tables) target_sets
 
 -- a list that was lent is still that list, and as long
 pub record Same (l k : MutBor (List ℕ)) : Type 0 where
@@ -60,11 +60,6 @@ pub record Same (l k : MutBor (List ℕ)) : Type 0 where
   pub size : length k.now ≡ length l.now
 
 -- the same lists are lent, whatever they hold
-pub record SameSets (sets sets' : Sets) : Type 0 where
-  pub before : Same sets.before sets'.before
-  pub behind : Same sets.behind sets'.behind
-  pub targets : Same sets.targets sets'.targets
-
 pub record SameMarks (marks marks' : Marks) : Type 0 where
   pub doubt : Same marks.doubt marks'.doubt
   pub lost : Same marks.lost marks'.lost

@@ -4,7 +4,7 @@
 mod lists;
 
 ghost use Rattle.std.specs.Prelude.{◌≡◌, true, false, ℕ, ◌<◌, ◌≤◌, T, length, get_or};
-ghost use Rattle.simulation.specs.Limits.{most_states};
+ghost use Rattle.simulation.specs.Limits.{most_states, most_transitions};
 ghost use Rattle.simulation.specs.Table.{states_of};
 ghost use Rattle.simulation.specs.Complete.{lists};
 ghost use Rattle.word.specs.Mask.{member};
@@ -15,7 +15,7 @@ ghost use Rattle.form.specs.Form.{transitions_of, table_of};
 ghost use Rattle.form.specs.Tables.{first_form, second_table, first_step, BothLoaded};
 ghost use Rattle.gather.specs.Places.{Places};
 ghost use Rattle.links.specs.Links.{Empty, Linked, ListedBefore, Looped, ContractLinked, SetsKnown, Covered, StateLinks, Joins, DoubtsAdded, Doubted};
-ghost use Rattle.links.specs.Links.{SameSets, SameMarks};
+ghost use Rattle.links.specs.Links.{SameMarks};
 
 use form::{Form, Tables};
 pub use lists::{Marks, Sets};
@@ -113,13 +113,14 @@ fn link_contract(tables: &Tables, behind: &mut [Word])
 }
 
 // All sets that are known before the rounds. Those of states are empty at first.
-pub fn fill_sets(tables: &Tables, sets: &mut Sets)
-    requires { BothLoaded tables.now × Empty sets.old.before.now × Empty sets.old.behind.now }
-    ensures { SetsKnown tables.now sets.new × SameSets sets.old sets.new }
+pub fn fill_sets(tables: &Tables, before: &mut [Word], behind: &mut [Word], targets: &mut [Word])
+    requires { BothLoaded tables.now × (most_states ≤ height before.old) × (most_states ≤ height behind.old)
+        × (most_transitions ≤ height targets.old) × Empty before.old × Empty behind.old }
+    ensures { SetsKnown tables.now before.new behind.new targets.new }
 {
-    link(&tables.first, sets.before);
-    link_contract(tables, sets.behind);
-    fit::target_sets(tables, sets.targets);
+    link(&tables.first, before);
+    link_contract(tables, behind);
+    fit::target_sets(tables, targets);
 }
 
 // The states behind a member of the set, in the contract.

@@ -60,11 +60,9 @@ fn fill_ranks(
     ensures { Refined (first_table tables.now) (contract_table tables.now)
         ranks.old ranks.new rows.new result }
 {
-    let mut sets = Sets {
-        before: &mut [0; Relation::WORDS],
-        behind: &mut [0; Relation::WORDS],
-        targets: &mut [0; Sets::TARGETS],
-    };
+    let mut before = [0; Relation::WORDS];
+    let mut behind = [0; Relation::WORDS];
+    let mut targets = [0; Sets::TARGETS];
     let mut marks = Marks {
         doubt: &mut [0; Relation::WORDS],
         lost: &mut [0; Relation::WORDS],
@@ -73,7 +71,8 @@ fn fill_ranks(
     let q = tables.width();
     clear_ranks(ranks, p * q);
     narrow(rows, p, q);
-    links::fill_sets(tables, &mut sets);
+    links::fill_sets(tables, &mut before, &mut behind, &mut targets);
+    let sets = Sets::new(&before, &behind, &targets);
     let mut work = Work {
         tables,
         ranks,

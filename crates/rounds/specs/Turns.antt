@@ -23,7 +23,7 @@ pub record Standing (M N : Table) (k : ℕ) (rows ranks lost : List ℕ) (fell :
 pub record Prepared (W : Work) : Type 0 where
   pub loaded : BothLoaded W.tables.now
   pub ranks_room : pairs (first_table W.tables.now) (contract_table W.tables.now) ≤ length W.ranks.now
-  pub sets_known : SetsKnown W.tables.now W.sets.now
+  pub sets_known : SetsKnown W.tables.now W.sets.now.before.now W.sets.now.behind.now W.sets.now.targets.now
   pub rows_room : most_states ≤ height W.rows.now
   pub amounts_room : most_pairs ≤ length W.amounts.now
   pub known : Tried W.tables.now W.rows.now W.tried.now

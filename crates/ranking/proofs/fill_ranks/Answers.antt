@@ -33,7 +33,7 @@ pub narrow-requires : goal.narrow-requires
 narrow-requires c = let n = few (goal.at.narrow-requires c).After-width-q in (omega (arith, n.0, c.requires.0.rows_open.room), n.1)
 
 pub fill_sets-requires : goal.fill_sets-requires
-fill_sets-requires c = let none = no_pairs (most_states * words) in (c.requires.0.loaded, none, none)
+fill_sets-requires c = let none = no_pairs (most_states * words) in (c.requires.0.loaded, omega arith, omega arith, omega arith, none, none)
 
 pub refine-requires : goal.refine-requires
 refine-requires c =
@@ -41,11 +41,17 @@ refine-requires c =
     let tables = a.tables.now in
     let q = c.requires.0 in
     let n = few (goal.at.refine-requires c).After-width-q in
+    let known = c.fill_sets.ensures in
+    let sets = c.new-sets.ensures in
     record {
       prepared = record {
         loaded = q.loaded;
         ranks_room = omega (arith, q.ranks_room);
-        sets_known = c.fill_sets.ensures.0;
+        sets_known = record {
+          first = rw sets.before known.first;
+          second = rw sets.behind known.second;
+          targets = rw sets.targets known.targets;
+        };
         rows_room = omega (arith, q.rows_open.room);
         amounts_room = q.amounts_room;
         known = none_tried c.requires.1 c.requires.2;
