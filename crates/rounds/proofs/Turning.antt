@@ -31,6 +31,7 @@ use Rattle.fit.specs.Held.{matched}
 use Rattle.relation.specs.Rows.{row_of}
 use Rattle.links.specs.declared.lists.Marks.{Marks}
 use Rattle.links.specs.Links.{Linked, ContractLinked, Doubted}
+use Rattle.links.proofs.Doubting.{same_marks_refl, same_marks_more}
 use Rattle.dropping.specs.Falling.{StatesOnly, DoubtsKnown, Fallen}
 use Rattle.rounds.specs.Rounds.{Placed, After, Settled}
 use Rattle.rounds.specs.Turns.{Standing, Prepared, Turning, Kept, Refined}
@@ -98,13 +99,20 @@ module _ {M N : Table} {k fell : ℕ} {rows ranks lost : List ℕ} (h : Standing
         columns = λ s t a b. is_false (holds rows s t) (λ m. let c : t < states_of N = round-columns h.after s a t m in omega arith);
       }
 
--- the same tables, sets, ranks and rows are at work
+-- the same tables, sets, ranks, rows and marks are at work
 pub kept_self : {W : Work} → Kept W W
-kept_self = record { tables = refl; sets = refl; ranks = refl; rows = refl }
+kept_self = record { tables = refl; sets = refl; ranks = refl; rows = refl; marks = refl; same_marks = same_marks_refl }
 
 pub kept_more : {U V W : Work} → Kept U V → Kept V W → Kept U W
 kept_more k l =
-    record { tables = l.tables ∙ k.tables; sets = l.sets ∙ k.sets; ranks = l.ranks ∙ k.ranks; rows = l.rows ∙ k.rows }
+    record {
+      tables = l.tables ∙ k.tables;
+      sets = l.sets ∙ k.sets;
+      ranks = l.ranks ∙ k.ranks;
+      rows = l.rows ∙ k.rows;
+      marks = l.marks ∙ k.marks;
+      same_marks = same_marks_more k.same_marks l.same_marks;
+    }
 
 pub same_pairs : {W W' : Work} → Kept W W'
     → pairs (first_table W'.tables.now) (contract_table W'.tables.now) ≡ pairs (first_table W.tables.now) (contract_table W.tables.now)

@@ -9,7 +9,7 @@ use Rattle.relation.specs.Related.{holds}
 use Rattle.form.specs.Tables.{first_table, contract_table, BothLoaded}
 use Rattle.decision.specs.Fitting.{held}
 use Rattle.fit.specs.Known.{Tried}
-use Rattle.links.specs.Links.{Empty, SetsKnown}
+use Rattle.links.specs.Links.{Empty, SetsKnown, SameMarks}
 use Rattle.dropping.specs.Falling.{Fallen}
 use Rattle.rounds.specs.Rounds.{After}
 use Rattle.rounds.specs.declared.Work.{Work}
@@ -39,12 +39,14 @@ pub record Turning (W : Work) (k fell : ℕ) : Type 0 where
   pub prepared : Prepared W
   pub standing : Standing (first_table W.tables.now) (contract_table W.tables.now) k W.rows.now W.ranks.now W.marks.now.lost.now fell
 
--- the same tables, sets, ranks and rows are at work, though other ranks and pairs may stand in them
+-- the same tables, sets, ranks, rows and marks are at work, though other ranks and pairs may stand in them
 pub record Kept (W W' : Work) : Type 0 where
   pub tables : W'.tables ≡ W.tables
   pub sets : W'.sets ≡ W.sets
   pub ranks : W'.ranks.ghost_name ≡ W.ranks.ghost_name
   pub rows : W'.rows.ghost_name ≡ W.rows.ghost_name
+  pub marks : W'.marks.ghost_name ≡ W.marks.ghost_name
+  pub same_marks : SameMarks W.marks.now W'.marks.now
 
 -- what a round leaves: the next standing, and no other rank changed
 pub record Turned (W W' : Work) (k fell : ℕ) : Type 0 where

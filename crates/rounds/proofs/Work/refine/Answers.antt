@@ -12,7 +12,7 @@ first_round-fell-requires c = (c.requires.prepared.loaded, c.requires.none_lost)
 pub loop-self-init : goal.loop-self-init
 loop-self-init c =
     let p = c.requires.prepared in (
-      record { tables = refl; sets = refl; ranks = refl; rows = refl },
+      record { tables = refl; sets = refl; ranks = refl; rows = refl; marks = refl; same_marks = c.first_round-fell.ensures.1 },
       record {
         prepared = record {
           loaded = p.loaded;

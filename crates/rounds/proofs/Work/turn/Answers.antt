@@ -5,6 +5,7 @@ use native.Mathlib.Omega.{arith}
 use Rattle.form.specs.Tables.{first_table, contract_table}
 use Rattle.form.proofs.Contract.{contract-few, contract-pairs}
 use Rattle.fit.proofs.Trying.{tried-less}
+use Rattle.links.proofs.Doubting.{same_marks_more}
 use Rattle.rounds.proofs.Turning.{held-less, lost_places, bounded, moved, past, sure}
 use Rattle.rounds.proofs.Work.turn.Goals as goal
 
@@ -53,7 +54,14 @@ returns c =
     let e = c.width-q.ensures in (
       refl,
       record {
-        kept = record { tables = refl; sets = refl; ranks = refl; rows = refl };
+        kept = record {
+          tables = refl;
+          sets = refl;
+          ranks = refl;
+          rows = refl;
+          marks = refl;
+          same_marks = same_marks_more c.doubts-doubtful.ensures.1 c.drop_rows-next.ensures.1;
+        };
         turning = record {
           prepared = record {
             loaded = p.loaded;
